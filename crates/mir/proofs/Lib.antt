@@ -1,0 +1,4 @@
+mod Tables
+mod Stores
+pub mod Placing
+mod Puts

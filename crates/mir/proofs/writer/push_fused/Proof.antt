@@ -1,0 +1,16 @@
+-- `mir::writer::push_fused` meets its contract.
+use borrow.Author.Needs.{needs}
+use Rattle.mir.specs.Length.{lengthOf}
+use mathlib.Core.Path.{_∙_}
+use Rattle.mir.proofs.writer.push_fused.Statement.{statement}
+use Rattle.mir.proofs.writer.push_fused.Tie as tie
+
+pub push-fused-spec : {M : Type 1} → statement M
+unfolding lengthOf
+push-fused-spec =
+    tie.close
+    (tie.spec
+    (λ c κs. search needs)
+    (λ c κs. search needs)
+    (λ c. search needs)
+    (λ c. c .before .before .put .ensures ∙ simp (c .before .before .before .before .fused-number .ensures)))

@@ -1,0 +1,17 @@
+-- `mir::writer::push_load_const` meets its contract.
+use borrow.Author.Needs.{needs}
+use Rattle.mir.specs.Length.{lengthOf}
+use mathlib.Core.Path.{_∙_}
+use Rattle.mir.proofs.writer.push_load_const.Statement.{statement}
+use Rattle.mir.proofs.writer.push_load_const.Tie as tie
+
+pub push-load-const-spec : {M : Type 1} → statement M
+unfolding lengthOf
+push-load-const-spec =
+    tie.close
+    (tie.spec
+    (λ c κs. search needs)
+    (λ c κs. search needs)
+    (λ c κs. search needs)
+    (λ c. search needs)
+    (λ c. c .before .before .put .ensures ∙ simp (c .before .before .before .before .before .low .ensures, c .before .before .before .before .high .ensures)))
