@@ -1,0 +1,16 @@
+-- Lemmas that more than one function's proof uses, each building on those above it; the last shows the laws of specs/Laws.antt.
+mod Nan
+mod Closest
+mod RoundBits
+mod Signed
+mod RoundWord
+mod Sticky
+mod Fields
+mod SquareRoot
+mod ToIntegral
+mod RoundWide
+mod Sums
+mod FusedSum
+mod Alignment
+mod FusedWords
+mod Right

@@ -1,0 +1,22 @@
+-- `float::minus` meets its contract. Assumes nothing.
+use mathlib.Core.Path.{ap₂, _∙_}
+use lib.Ieee.{Float, binary64, sub}
+use borrow.Author.Needs.{needs}
+use Rattle.float.specs.Word.{word}
+use Rattle.float.proofs.minus.Statement.{statement}
+use Rattle.float.proofs.minus.Tie as tie
+
+read-requires : tie.Need-read-requires
+read-requires c κs = search needs
+
+read-requires-2 : tie.Need-read-requires-2
+read-requires-2 c κs = search needs
+
+write-requires : tie.Need-write-requires
+write-requires c κs = search needs
+
+returns : tie.Need-returns
+returns c = c .write .ensures ∙ ap₂ (λ (x y : Float). word (sub binary64 x y)) (c .before .before .read .ensures) (c .before .read2 .ensures)
+
+pub minus-spec : {M : Type 1} → statement M
+minus-spec = tie.close (tie.spec read-requires read-requires-2 write-requires returns)

@@ -1,0 +1,79 @@
+// One case: its words, and whether `float` gives its answer.
+ghost use Prim.Native.Nat.{_+_, _<_, _≤_};
+ghost use mathlib.Core.Path.{_≡_};
+ghost use lib.ListN.{length};
+ghost use Rattle.float_replay.specs.Case as Case;
+ghost use Rattle.float_replay.specs.Case.{wordAt, answer};
+
+fn wide(x: u8) -> u64
+    ensures { λ r. ⌜ (r ≡ x) × (r < 256) ⌝ }
+{
+    x as u64
+}
+
+// The word whose lowest byte stands at i.
+fn word(s: &[u8], i: usize) -> u64
+    requires { ⌜ i + 8 ≤ length (now s) ⌝ }
+    ensures { λ r. ⌜ r ≡ wordAt (now (s .entry)) i ⌝ }
+{
+    let low = wide(s[i])
+        + 0x100 * wide(s[i + 1])
+        + 0x1_0000 * wide(s[i + 2])
+        + 0x100_0000 * wide(s[i + 3]);
+    let high = wide(s[i + 4])
+        + 0x100 * wide(s[i + 5])
+        + 0x1_0000 * wide(s[i + 6])
+        + 0x100_0000 * wide(s[i + 7]);
+    low + 0x1_0000_0000 * high
+}
+
+// What the operation gives; 0 where no operation has that number.
+fn result(op: u8, a: u64, b: u64, c: u64, d: u64) -> u64
+    ensures { λ r. ⌜ r ≡ answer op a b c d ⌝ }
+{
+    match op {
+        0 => float::plus(a, b),
+        1 => float::minus(a, b),
+        2 => float::times(a, b),
+        3 => float::divide(a, b),
+        4 => float::half(a),
+        5 => float::recip(a),
+        6 => float::greater_than(a, b),
+        7 => float::little_than(a, b),
+        8 => float::equal(a, b),
+        9 => float::not_equal(a, b),
+        10 => float::neg(a),
+        11 => float::abs(a),
+        12 => float::not(a),
+        13 => float::and(a, b),
+        14 => float::or(a, b),
+        15 => float::xor(a, b),
+        16 => float::sign(a),
+        17 => float::if_else(a, b, c),
+        18 => float::round(a),
+        19 => float::root(a),
+        20 => float::mul_add(a, b, c),
+        21 => float::complex_plus(a, b, c, d).re,
+        22 => float::complex_plus(a, b, c, d).im,
+        23 => float::complex_minus(a, b, c, d).re,
+        24 => float::complex_minus(a, b, c, d).im,
+        25 => float::complex_times(a, b, c, d).re,
+        26 => float::complex_times(a, b, c, d).im,
+        27 => float::complex_divide(a, b, c, d).re,
+        28 => float::complex_divide(a, b, c, d).im,
+        _ => 0,
+    }
+}
+
+// Whether the answer of the case s is not the one that `float` gives.
+pub(crate) fn differs(s: &[u8]) -> bool
+    requires { ⌜ 41 ≤ length (now s) ⌝ }
+    ensures { λ r. ⌜ r ≡ Case.differs (now (s .entry)) ⌝ }
+{
+    let op = s[0];
+    if op >= 29 {
+        return true;
+    }
+    let r = result(op, word(s, 1), word(s, 9), word(s, 17), word(s, 25));
+    r != word(s, 33)
+}

@@ -1,0 +1,70 @@
+//! compare-floats COUNT SEED [NAME..]: of each operation, or of those named, every combination of special words and COUNT
+//! random cases, by the C functions of `float_calls` and by this machine's hardware. Prints the cases and the differences
+//! of each operation, and the first differing case. The exit status is 1 where any case differs.
+
+use oracle_float::calls::CALLS;
+use oracle_float::float_cases::{grid, SPECIAL};
+use oracle_float::hardware;
+use oracle_float::operations::{Operands, Operation, OPERATIONS};
+use oracle_float::random::Rng;
+
+struct Tally {
+    cases: u64,
+    differ: u64,
+    first: Option<Operands>,
+}
+
+impl Tally {
+    fn add(&mut self, row: &Operands, same: bool) {
+        self.cases += 1;
+        if !same {
+            self.differ += 1;
+            self.first.get_or_insert(*row);
+        }
+    }
+}
+
+fn compare(operation: &Operation, call: fn(&Operands) -> u64, count: u64, seed: u64) -> Tally {
+    let mut tally = Tally { cases: 0, differ: 0, first: None };
+    for row in grid(operation, &SPECIAL) {
+        tally.add(&row, call(&row) == (operation.hardware)(&row));
+    }
+    let mut rng = Rng(seed);
+    for _ in 0..count {
+        let row = (operation.draw)(&mut rng);
+        tally.add(&row, call(&row) == (operation.hardware)(&row));
+    }
+    tally
+}
+
+fn number(text: Option<String>) -> u64 {
+    text.and_then(|t| t.parse().ok()).expect("compare-floats COUNT SEED [NAME..]")
+}
+
+fn main() {
+    let mut args = std::env::args().skip(1);
+    let count = number(args.next());
+    let seed = number(args.next());
+    let named: Vec<String> = args.collect();
+    if !hardware::has_instructions() {
+        println!("this machine has no instruction for Round or MulAdd: theirs are the C library's");
+    }
+    let (mut cases, mut differ) = (0, 0);
+    for (operation, call) in OPERATIONS.iter().zip(CALLS) {
+        if !named.is_empty() && !named.iter().any(|name| name == operation.name) {
+            continue;
+        }
+        let tally = compare(operation, call, count, seed);
+        println!("{}: {} cases, {} differ", operation.name, tally.cases, tally.differ);
+        if let Some(row) = tally.first {
+            let (ours, theirs) = (call(&row), (operation.hardware)(&row));
+            println!("  first: {row:016x?}: float {ours:016x}, hardware {theirs:016x}");
+        }
+        cases += tally.cases;
+        differ += tally.differ;
+    }
+    println!("{cases} cases, {differ} differ");
+    if differ > 0 {
+        std::process::exit(1);
+    }
+}

@@ -1,0 +1,473 @@
+//! Cases: special words in every combination, and random ones where rounding is hard.
+
+use crate::operations::{Operands, Operation};
+use crate::random::Rng;
+
+const SIGN: u64 = 1 << 63;
+/// The lowest exponent of a binary64 digit.
+const LOWEST: i64 = -1074;
+/// 2^970: half the distance from the largest number to 2^1024.
+const HALF_TOP: i64 = 970;
+
+/// Zeros, subnormals, ones, the largest numbers, infinities and NaNs.
+pub const CORE: [u64; 12] = [
+    0,
+    SIGN,
+    1,
+    SIGN | 1,
+    0x000f_ffff_ffff_ffff,
+    0x0010_0000_0000_0000,
+    0x3ff0_0000_0000_0000,
+    0xbff0_0000_0000_0000,
+    0x7fef_ffff_ffff_ffff,
+    0x7ff0_0000_0000_0000,
+    0xfff0_0000_0000_0000,
+    0xfff4_0000_0000_1234,
+];
+
+/// Those, and more words at which an operation changes its mind.
+pub const SPECIAL: [u64; 46] = [
+    0,
+    SIGN,
+    1,
+    SIGN | 1,
+    2,
+    3,
+    5,
+    0x0008_0000_0000_0000,
+    0x000f_ffff_ffff_ffff,
+    0x0010_0000_0000_0000,
+    0x8010_0000_0000_0000,
+    0x0010_0000_0000_0001,
+    0x001f_ffff_ffff_ffff,
+    0x0020_0000_0000_0000,
+    0x1ff0_0000_0000_0000,
+    0x2000_0000_0000_0000,
+    0x3c90_0000_0000_0000,
+    0x3ca0_0000_0000_0000,
+    0x3fdf_ffff_ffff_ffff,
+    0x3fe0_0000_0000_0000,
+    0xbfe0_0000_0000_0000,
+    0x3fe0_0000_0000_0001,
+    0x3fef_ffff_ffff_ffff,
+    0x3ff0_0000_0000_0000,
+    0xbff0_0000_0000_0000,
+    0x3ff0_0000_0000_0001,
+    0x3ff8_0000_0000_0000,
+    0x4000_0000_0000_0000,
+    0x4004_0000_0000_0000,
+    0xc00c_0000_0000_0000,
+    0x432f_ffff_ffff_ffff,
+    0x4330_0000_0000_0000,
+    0x4330_0000_0000_0001,
+    0x4340_0000_0000_0000,
+    0x5fef_ffff_ffff_ffff,
+    0x7c90_0000_0000_0000,
+    0x7fd0_0000_0000_0000,
+    0x7fe0_0000_0000_0000,
+    0x7fef_ffff_ffff_ffff,
+    0xffef_ffff_ffff_ffff,
+    0x7ff0_0000_0000_0000,
+    0xfff0_0000_0000_0000,
+    0x7ff0_0000_0000_0001,
+    0x7ff8_0000_0000_0000,
+    0xfff8_0000_0000_5678,
+    u64::MAX,
+];
+
+/// Every tuple of as many special words as the operation has operands; of four words only those of `CORE`.
+pub fn grid(operation: &Operation, words: &[u64]) -> Vec<Operands> {
+    let words = if operation.operands == 4 { &CORE } else { words };
+    let mut rows = vec![[0; 4]];
+    for at in 0..operation.operands {
+        let with = |row: &Operands, word: &u64| {
+            let mut longer = *row;
+            longer[at] = *word;
+            longer
+        };
+        rows = rows.iter().flat_map(|row| words.iter().map(move |word| with(row, word))).collect();
+    }
+    rows
+}
+
+// ---- words
+
+/// The word of sign * significand * 2^exponent, rounded by the hardware where it does not fit.
+fn word(negative: bool, significand: u64, exponent: i64) -> u64 {
+    let mut x = significand as f64;
+    let mut e = exponent;
+    while e > 1000 {
+        x *= power(1000);
+        e -= 1000;
+    }
+    while e < -1000 {
+        x *= power(-1000);
+        e += 1000;
+    }
+    (x * power(e)).to_bits() | u64::from(negative) << 63
+}
+
+/// 2^e, for e from -1022 to 1023.
+fn power(e: i64) -> f64 {
+    f64::from_bits(((e + 1023) as u64) << 52)
+}
+
+/// A significand of 53 digits: any, with few digits, with a long run of ones or zeros, or close to a power of two.
+fn significand(rng: &mut Rng) -> u64 {
+    let top = 1 << 52;
+    let any = rng.bits() >> 12;
+    match rng.below(6) {
+        0 => top | any >> rng.below(52) << rng.below(12) & (top - 1),
+        1 => top | any & !0 << rng.below(52) & (top - 1),
+        2 => top | (!0 << rng.below(52)) & (top - 1),
+        3 => (2 << 52) - 1 - rng.below(8),
+        4 => top + rng.below(8),
+        _ => top | any,
+    }
+}
+
+/// A word of the exponent field `field`, which is held to those of finite words.
+fn with_field(rng: &mut Rng, field: i64) -> u64 {
+    let field = field.clamp(0, 2046) as u64;
+    rng.bits() & SIGN | field << 52 | significand(rng) & ((1 << 52) - 1)
+}
+
+/// A word: special or next to one, any bits, about 1, or subnormal.
+fn any_word(rng: &mut Rng) -> u64 {
+    match rng.below(8) {
+        0 => rng.pick(&SPECIAL),
+        1 => near(rng.pick(&SPECIAL), rng),
+        2 | 3 => rng.bits(),
+        4 => {
+            let field = rng.between(0, 1);
+            with_field(rng, field)
+        }
+        5 => {
+            let field = rng.between(0, 2046);
+            with_field(rng, field)
+        }
+        _ => {
+            let field = rng.between(1023 - 60, 1023 + 60);
+            with_field(rng, field)
+        }
+    }
+}
+
+/// A word a few units away from `a`.
+fn near(a: u64, rng: &mut Rng) -> u64 {
+    a.wrapping_add(rng.below(7)).wrapping_sub(3)
+}
+
+fn field(a: u64) -> i64 {
+    (a >> 52 & 2047) as i64
+}
+
+// ---- cases by operation
+
+pub fn one(rng: &mut Rng) -> Operands {
+    [any_word(rng), 0, 0, 0]
+}
+
+pub fn bits(rng: &mut Rng) -> Operands {
+    [any_word(rng), rng.bits(), any_word(rng), 0]
+}
+
+/// Two words to compare: equal, next to each other, opposite, or apart.
+pub fn close(rng: &mut Rng) -> Operands {
+    let a = any_word(rng);
+    let b = match rng.below(4) {
+        0 => near(a, rng),
+        1 => a ^ SIGN,
+        2 => near(a ^ SIGN, rng),
+        _ => any_word(rng),
+    };
+    [a, b, 0, 0]
+}
+
+/// Two words to add: of nearly equal size, or so far apart that the smaller one decides a tie.
+pub fn sum(rng: &mut Rng) -> Operands {
+    let a = any_word(rng);
+    let b = match rng.below(5) {
+        0 => near(a, rng) ^ rng.bits() & SIGN,
+        1 => {
+            let e = field(a) - rng.between(50, 56);
+            with_field(rng, e)
+        }
+        2 | 3 => {
+            let e = field(a) - rng.between(-3, 60);
+            with_field(rng, e)
+        }
+        _ => any_word(rng),
+    };
+    if rng.below(2) == 0 {
+        [a, b, 0, 0]
+    } else {
+        [b, a, 0, 0]
+    }
+}
+
+/// Two words to multiply: the product about 1, about the largest or about the smallest numbers, or exact.
+pub fn product(rng: &mut Rng) -> Operands {
+    let a = any_word(rng);
+    let place = match rng.below(4) {
+        0 => rng.between(LOWEST - 4, -1018),
+        1 => rng.between(1020, 1025),
+        2 => rng.between(-60, 60),
+        _ => return [a, any_word(rng), 0, 0],
+    };
+    let e = place + 2 * 1023 - field(a);
+    [a, with_field(rng, e), 0, 0]
+}
+
+/// Two words to divide: the quotient as in `product`, or exact, or the divisor's product with a short number moved a unit.
+pub fn quotient(rng: &mut Rng) -> Operands {
+    let b = any_word(rng);
+    let place = match rng.below(5) {
+        0 => rng.between(LOWEST - 4, -1018),
+        1 => rng.between(1020, 1025),
+        2 => rng.between(-60, 60),
+        3 => {
+            let q = word(false, rng.bits() >> rng.between(12, 60), rng.between(-40, 0));
+            let a = (f64::from_bits(b) * f64::from_bits(q)).to_bits();
+            return [near(a, rng), b, 0, 0];
+        }
+        _ => return [any_word(rng), b, 0, 0],
+    };
+    let e = place + field(b);
+    [with_field(rng, e), b, 0, 0]
+}
+
+/// A word to round to a whole number: a half or next to one, about 2^52, or any.
+pub fn halves(rng: &mut Rng) -> Operands {
+    let negative = rng.below(2) == 0;
+    let a = match rng.below(6) {
+        0 => word(negative, rng.below(64), -1),
+        1 => near(word(negative, rng.below(64), -1), rng),
+        2 => near(word(negative, 1 << 53 | rng.bits() >> 11, rng.between(-3, 0)), rng),
+        3 => near(word(negative, rng.bits() >> rng.between(11, 62) | 1, -1), rng),
+        4 => {
+            let field = rng.between(1020, 1077);
+            with_field(rng, field)
+        }
+        _ => any_word(rng),
+    };
+    [a, 0, 0, 0]
+}
+
+/// An odd m of 54 digits with m * m = r modulo 2^55, for r = 1 modulo 8. Found digit by digit; of m and -m one has 54 digits.
+fn two_adic_root(r: u64) -> u64 {
+    let mut m: u64 = 1;
+    for place in 3..55 {
+        if m.wrapping_mul(m).wrapping_sub(r) >> place & 1 == 1 {
+            m = m.wrapping_add(1 << (place - 1));
+        }
+    }
+    let m = m & ((1 << 54) - 1);
+    m.max((1 << 54) - m)
+}
+
+/// A word whose root is at most 2^-40 units from the middle between two neighbours: m * m - r, times an even power of two.
+fn near_middle(rng: &mut Rng) -> u64 {
+    let r = rng.between(-4000, 4000) * 8 + 1;
+    let m = two_adic_root(r as u64);
+    let square = i128::from(m) * i128::from(m) - i128::from(r);
+    word(false, (square >> 55) as u64, 55 + 2 * rng.between(-560, 450))
+}
+
+/// A word to take the root of: near a middle, a square or next to one, subnormal, or any.
+pub fn radicand(rng: &mut Rng) -> Operands {
+    let a = match rng.below(6) {
+        0 | 1 => near_middle(rng),
+        2 => {
+            let q = f64::from_bits(any_word(rng)).abs();
+            near((q * q).to_bits(), rng)
+        }
+        3 => {
+            let q = rng.bits() >> rng.between(38, 60);
+            near(word(false, q * q, 2 * rng.between(-520, 480)), rng)
+        }
+        4 => rng.bits() >> rng.between(12, 63),
+        _ => any_word(rng) & !(rng.bits() & rng.bits() & SIGN),
+    };
+    [a, 0, 0, 0]
+}
+
+/// Four words of two complex numbers.
+pub fn pairs(rng: &mut Rng) -> Operands {
+    let x1 = any_word(rng);
+    if rng.below(3) == 0 {
+        return [x1, any_word(rng), any_word(rng), any_word(rng)];
+    }
+    let e = if field(x1) == 2047 { 1023 } else { field(x1) };
+    let word = |rng: &mut Rng| {
+        let field = e + rng.between(-4, 4);
+        with_field(rng, field)
+    };
+    let y1 = word(rng);
+    let x2 = if rng.below(4) == 0 { near(x1, rng) } else { word(rng) };
+    let y2 = if rng.below(4) == 0 { near(y1, rng) } else { word(rng) };
+    [x1, y1, x2, y2]
+}
+
+// ---- a * b + c
+
+/// Two finite words whose product is about 2^place.
+fn factors(rng: &mut Rng, place: i64) -> (u64, u64) {
+    let split = rng.between(-500, 500);
+    let a = with_field(rng, 1023 + split);
+    let b = with_field(rng, 1023 + place - split);
+    (a, b)
+}
+
+/// c is the rounded product, taken back: what is left is the rounding error, or a few units.
+fn cancelling(rng: &mut Rng) -> Operands {
+    let place = rng.between(-1060, 1000);
+    let (a, b) = factors(rng, place);
+    let product = (f64::from_bits(a) * f64::from_bits(b)).to_bits();
+    let c = if rng.below(2) == 0 { product } else { near(product, rng) };
+    [a, b, c ^ SIGN, 0]
+}
+
+/// The exact product is the middle between two neighbours, and a small c decides.
+fn middle_product(rng: &mut Rng) -> Operands {
+    let a = 1 << 26 | rng.below(1 << 26) | 1;
+    let b = (1 << 53) / a + 1 + rng.below(1 << 25) | 1;
+    let e = rng.between(-1000, 900);
+    let split = rng.between(-60, 60);
+    let c_place = e - rng.between(0, 120);
+    let c = if rng.below(8) == 0 { rng.below(3) | rng.bits() & SIGN } else { with_field(rng, 1023 + c_place) };
+    [word(rng.below(2) == 0, a, split), word(rng.below(2) == 0, b, e - split), c, 0]
+}
+
+/// The product is half a unit of c, exactly or nearly.
+fn half_unit(rng: &mut Rng) -> Operands {
+    let c_field = rng.between(60, 2040);
+    let c = with_field(rng, c_field);
+    let place = c_field - 1023 - 53;
+    let split = rng.between(-20, 20);
+    let a = near(word(rng.below(2) == 0, 1, split), rng);
+    let b = near(word(rng.below(2) == 0, 1, place - split), rng);
+    [a, b, c, 0]
+}
+
+/// The exact sum is subnormal or next to it.
+fn subnormal_sum(rng: &mut Rng) -> Operands {
+    let place = rng.between(LOWEST - 60, -1015);
+    let (a, b) = factors(rng, place);
+    let c = match rng.below(4) {
+        0 => rng.below(3) | rng.bits() & SIGN,
+        1 => {
+            let product = (f64::from_bits(a) * f64::from_bits(b)).to_bits();
+            near(product, rng) ^ SIGN
+        }
+        _ => {
+            let field = rng.between(0, 60);
+            with_field(rng, field)
+        }
+    };
+    [a, b, c, 0]
+}
+
+/// The sum is about the largest number, or the product is above it and c brings it back.
+fn at_the_top(rng: &mut Rng) -> Operands {
+    let negative = rng.below(2) == 0;
+    let sign = u64::from(negative) << 63;
+    match rng.below(3) {
+        0 => {
+            let a = word(negative, (1 << 53) - 1 - rng.below(2), 500);
+            let b = word(false, 1, 471);
+            let c = near(word(negative ^ (rng.below(4) == 0), 1, HALF_TOP), rng);
+            [a, b, c, 0]
+        }
+        1 => {
+            let a = word(negative, 1, 512);
+            let b = near(word(false, 1, 512), rng);
+            let c = f64::MAX.to_bits() - rng.below(3) | sign ^ SIGN;
+            [a, b, c, 0]
+        }
+        _ => {
+            let place = rng.between(1021, 1024);
+            let (a, b) = factors(rng, place);
+            let field = 2046 - rng.between(0, 56);
+            [a, b, with_field(rng, field), 0]
+        }
+    }
+}
+
+/// The product is any distance above or below c.
+fn any_distance(rng: &mut Rng) -> Operands {
+    let place = rng.between(-900, 900);
+    let (a, b) = factors(rng, place);
+    let field = 1023 + place + rng.between(-120, 120);
+    [a, b, with_field(rng, field), 0]
+}
+
+/// Three words to multiply and add.
+pub fn fused(rng: &mut Rng) -> Operands {
+    match rng.below(8) {
+        0 => cancelling(rng),
+        1 => middle_product(rng),
+        2 => half_unit(rng),
+        3 => subnormal_sum(rng),
+        4 => at_the_top(rng),
+        5 | 6 => any_distance(rng),
+        _ => [any_word(rng), any_word(rng), any_word(rng), 0],
+    }
+}
+
+#[cfg(test)]
+mod tests {
+    use super::*;
+
+    fn of(draw: fn(&mut Rng) -> Operands, count: usize) -> Vec<[f64; 4]> {
+        let mut rng = Rng(1);
+        (0..count).map(|_| draw(&mut rng).map(f64::from_bits)).collect()
+    }
+
+    #[test]
+    fn words_are_exact() {
+        assert_eq!(word(false, 1, LOWEST), 1);
+        assert_eq!(word(true, 3, -1), (-1.5f64).to_bits());
+        assert_eq!(word(false, (1 << 53) - 1, 971), f64::MAX.to_bits());
+        assert_eq!(word(false, (1 << 52) - 1, LOWEST), 0x000f_ffff_ffff_ffff);
+    }
+
+    #[test]
+    fn near_middles_are_near() {
+        for j in -4000..4000i64 {
+            let r = 8 * j + 1;
+            let m = two_adic_root(r as u64);
+            assert_eq!(m >> 53, 1);
+            let left = i128::from(m) * i128::from(m) - i128::from(r);
+            assert_eq!(left % (1 << 55), 0);
+            assert!(left >> 55 < 1 << 53);
+        }
+    }
+
+    #[test]
+    fn middle_products_have_54_digits() {
+        for [a, b, ..] in of(middle_product, 10_000) {
+            let digits = |x: f64| x.to_bits() & ((1 << 52) - 1) | 1 << 52;
+            let odd = |d: u64| d >> d.trailing_zeros();
+            if a.is_normal() && b.is_normal() {
+                assert_eq!((odd(digits(a)) * odd(digits(b))).ilog2(), 53);
+            }
+        }
+    }
+
+    /// Each shape of `fused` reaches what it is for, in at least a tenth of its cases.
+    #[test]
+    fn fused_shapes_reach_their_ends() {
+        let count = |draw: fn(&mut Rng) -> Operands, holds: fn([f64; 4]) -> bool| {
+            of(draw, 10_000).into_iter().filter(|row| holds(*row)).count()
+        };
+        let once = |[a, b, c, _]: [f64; 4]| a.mul_add(b, c);
+        let twice = |[a, b, c, _]: [f64; 4]| a * b + c;
+        assert!(count(cancelling, |[a, b, c, _]| (a.mul_add(b, c) / c).abs() < 1e-15) > 1000);
+        assert!(count(middle_product, |[a, b, c, _]| a.mul_add(b, c) != a * b + c) > 1000);
+        assert!(count(subnormal_sum, |[a, b, c, _]| a.mul_add(b, c).is_subnormal()) > 1000);
+        assert!(count(at_the_top, |[a, b, c, _]| a.mul_add(b, c) == f64::MAX.copysign(c)) > 100);
+        assert!(count(at_the_top, |[a, b, c, _]| a.mul_add(b, c).is_infinite()) > 1000);
+        assert!(of(half_unit, 10_000).into_iter().filter(|row| once(*row) != twice(*row)).count() > 100);
+    }
+}
