@@ -1,4 +1,10 @@
-mod Tables
+pub mod Tables
 mod Stores
 pub mod Placing
 mod Puts
+pub mod Parts
+pub mod Passing
+pub mod Heads
+pub mod Decoding
+pub mod Numbering
+pub mod Written

@@ -5,7 +5,7 @@ use mathlib.Core.List.{List}
 use borrow.Author.Tests.{le-leb, lt-leb}
 use lib.ListN.{length}
 use lib.Seq.{sets}
-use Rattle.mir.specs.Encode.{Buf, buf, placed}
+use Rattle.mir.specs.Encode.{buf, placed}
 
 pub placed-fits : (l : List ℕ) (at : ℕ) (w : List ℕ) → at + length w ≤ length l
     → placed (buf l at) w ≡ buf (sets l at w) (at + length w)

@@ -1,13 +1,13 @@
 -- The bytes of a record of a kind, as `put` makes them.
-use Prim.Native.Nat.{ℕ, zero, suc, _+_, _-_, _/_, _%_, _≤_, _<_}
-use mathlib.Core.Path.{_≡_, refl, sym, ap, _∙_, subst}
+use Prim.Native.Nat.{ℕ, suc, _+_, _-_, _/_, _%_, _≤_, _<_}
+use mathlib.Core.Path.{_≡_, refl, sym, ap, _∙_}
 use mathlib.Core.List.{List, [], _∷_, _++_}
 use native.Mathlib.Omega.{arith}
 use lib.ListN.{length, getD, take, length-take}
 use lib.Dec.{leb, leb→le}
 use lib.Seq.{sets}
 use Rattle.mir.specs.Length.{lengths, lengthOf}
-use Rattle.mir.specs.Encode.{twoBytes, recordOf, Buf, buf, placed}
+use Rattle.mir.specs.Encode.{twoBytes, recordOf, buf, placed}
 use Rattle.mir.proofs.Placing.{placed-fits, placed-full}
 use Rattle.mir.proofs.Tables.{holds}
 

@@ -1,0 +1,233 @@
+-- What is read from bytes is a record that a listing can hold.
+use Prim.Native.Nat.{ℕ, zero, suc, _+_, _≤_, _<_}
+use mathlib.Core.Path.{_≡_, sym, ap, _∙_, subst}
+use mathlib.Core.Bool.{Bool, true, false, not, cond}
+use mathlib.Core.List.{List, [], _∷_}
+use native.Mathlib.Nat.{not-suc-le-zero}
+use native.Mathlib.Omega.{arith}
+use lib.ListN.{length, getD}
+use lib.Dec.{ltb, leb, eqb}
+use borrow.Author.Tests.{ltb-false, leb-false, not-false}
+use Rattle.mir.specs.declared.ops.UniOp.{UniOp}
+use Rattle.mir.specs.declared.ops.FoundUni.{FoundUni}
+use Rattle.mir.specs.declared.ops.BinOp.{BinOp}
+use Rattle.mir.specs.declared.ops.FoundBin.{FoundBin}
+use Rattle.mir.specs.declared.ops.FusedOp.{FusedOp}
+use Rattle.mir.specs.declared.ops.FoundFused.{FoundFused}
+use Rattle.mir.specs.declared.records.Loc.{Loc}
+use Rattle.mir.specs.declared.records.Record.{Record}
+use Rattle.mir.specs.Place.{index}
+use Rattle.mir.specs.Operation.{uniAt, binAt, arithAt, fusedAt, uniTaken, binTaken, arithTaken, fusedTaken}
+use Rattle.mir.specs.Read.{Read, got, refused, registers}
+use Rattle.mir.specs.Field.{byteAt, wordAt, takesKind, headFrom, classed, placeAt, savedTo, savePlace, onStack, condPlace}
+use Rattle.mir.proofs.Passing.{passed, then, got-same, clash}
+use Rattle.mir.proofs.Decoding.{Bytes, items, each}
+use Rattle.records.specs.Takes.{takesUni, takesBin, takesArith, takesFused}
+use Rattle.records.specs.Record.{uniFrom, biFrom, movFrom, loadFrom, saveFrom, loadConstFrom, fusedFrom, ifElseFrom, loadComplexFrom, saveComplexFrom, complexBiFrom, labelFrom, branchFrom, callFrom, fieldsFrom, recordFrom}
+use Rattle.records.proofs.Holding.{Saved, Stacked, Holds, AllHold}
+
+-- registers that were not refused
+record Low {A : Type 0} (limit : ℕ) (xs : List ℕ) (r : Read A) (a : A) : Type 0 where
+  low : (i : ℕ) → i < length xs → getD xs i 0 ≤ limit
+  rest : r ≡ got a
+
+low-at : (limit x : ℕ) (xs : List ℕ) → x ≤ limit → ((i : ℕ) → i < length xs → getD xs i 0 ≤ limit)
+    → (i : ℕ) → i < length (x ∷ xs) → getD (x ∷ xs) i 0 ≤ limit
+low-at limit x xs h k zero l = h
+low-at limit x xs h k (suc i) l = k i (omega arith)
+
+lows : {A : Type 0} (limit : ℕ) (xs : List ℕ) (r : Read A) (a : A) → registers limit xs r ≡ got a → Low limit xs r a
+lows limit [] r a e = record { low = λ i h. absurd (not-suc-le-zero h); rest = e }
+lows limit (x ∷ xs) r a e =
+    let p = passed (ltb limit x) 3 (registers limit xs r) a e in
+    let q = lows limit xs r a (p .rest) in
+    record { low = low-at limit x xs (ltb-false limit x (p .test)) (q .low); rest = q .rest }
+
+-- operations that were not refused
+taken : {A : Type 0} (takes : A → Bool) (o op : A) → not (takes o) ≡ false → got o ≡ got op → takes op ≡ true
+taken takes o op t e = ap takes (sym (got-same o op e)) ∙ not-false (takes o) t
+
+uni-taken : (takes : UniOp → Bool) (x : FoundUni) (op : UniOp) → uniTaken takes x ≡ got op → takes op ≡ true
+uni-taken takes (FoundUni.Op o) op e = let p = passed (not (takes o)) 2 (got o) op e in taken takes o op (p .test) (p .rest)
+uni-taken takes FoundUni.Nothing op e = absurd (clash 2 op e)
+
+bin-taken : (takes : BinOp → Bool) (x : FoundBin) (op : BinOp) → binTaken takes x ≡ got op → takes op ≡ true
+bin-taken takes (FoundBin.Op o) op e = let p = passed (not (takes o)) 2 (got o) op e in taken takes o op (p .test) (p .rest)
+bin-taken takes FoundBin.Nothing op e = absurd (clash 2 op e)
+
+fused-taken : (takes : FusedOp → Bool) (x : FoundFused) (op : FusedOp) → fusedTaken takes x ≡ got op → takes op ≡ true
+fused-taken takes (FoundFused.Op o) op e = let p = passed (not (takes o)) 2 (got o) op e in taken takes o op (p .test) (p .rest)
+fused-taken takes FoundFused.Nothing op e = absurd (clash 2 op e)
+
+-- by which branch something was read
+by : {A P : Type 0} (b : Bool) (x y : Read A) (a : A) → cond b x y ≡ got a → (x ≡ got a → P) → (y ≡ got a → P) → P
+by true x y a e f g = f e
+by false x y a e f g = g e
+
+-- places that were not refused
+classed-index : (c w : ℕ) (p : Loc) → classed c w ≡ got p → w ≡ index p
+classed-index c w p e =
+    by (eqb c 0) (got (Loc.Stack w)) _ p e
+    (λ e. ap index (got-same (Loc.Stack w) p e))
+    (λ e.
+    by (eqb c 1) (got (Loc.Mem w)) _ p e
+    (λ e. ap index (got-same (Loc.Mem w) p e))
+    (λ e.
+    by (eqb c 2) (got (Loc.Param w)) (refused 4) p e
+    (λ e. ap index (got-same (Loc.Param w) p e))
+    (λ e. absurd (clash 4 p e))))
+
+place-index : (s : List ℕ) (i : ℕ) (p : Loc) → placeAt s i ≡ got p → index p ≤ 255
+unfolding placeAt
+place-index s i p e =
+    let w = wordAt s (i + 1) in
+    let q = passed (ltb 255 w) 4 (classed (getD s i 0) w) p e in
+    let h = ltb-false 255 w (q .test) in
+    omega (arith, classed-index (getD s i 0) w p (q .rest))
+
+saved-from : (q p : Loc) → index q ≤ 255 → savedTo q ≡ got p → Saved p
+saved-from (Loc.Stack n) p h e = subst Saved (got-same (Loc.Stack n) p e) h
+saved-from (Loc.Mem n) p h e = subst Saved (got-same (Loc.Mem n) p e) h
+saved-from (Loc.Param n) p h e = absurd (clash 4 p e)
+
+save-held : (s : List ℕ) (i : ℕ) (p : Loc) → savePlace s i ≡ got p → Saved p
+unfolding savePlace
+save-held s i p e =
+    let t = then (placeAt s i) savedTo p e in
+    saved-from (t .first) p (place-index s i (t .first) (t .found)) (t .rest)
+
+stacked-from : (q p : Loc) → index q ≤ 255 → onStack q ≡ got p → Stacked p
+stacked-from (Loc.Stack n) p h e = subst Stacked (got-same (Loc.Stack n) p e) h
+stacked-from (Loc.Mem n) p h e = absurd (clash 4 p e)
+stacked-from (Loc.Param n) p h e = absurd (clash 4 p e)
+
+cond-held : (s : List ℕ) (i : ℕ) (p : Loc) → condPlace s i ≡ got p → Stacked p
+unfolding condPlace
+cond-held s i p e =
+    let t = then (placeAt s i) onStack p e in
+    stacked-from (t .first) p (place-index s i (t .first) (t .found)) (t .rest)
+
+module _ (count : ℕ) (s : List ℕ) (r : Record) where
+  held-uni : uniFrom s ≡ got r → Holds count r
+  unfolding uniFrom
+  held-uni e =
+      let t = then (uniTaken takesUni (uniAt (byteAt s 4))) _ r e in
+      let l = lows 65 (byteAt s 5 ∷ byteAt s 6 ∷ []) _ r (t .rest) in
+      subst (Holds count) (got-same _ r (l .rest)) (uni-taken takesUni (uniAt (byteAt s 4)) (t .first) (t .found), l .low 0 (omega arith), l .low 1 (omega arith))
+
+  held-bi : biFrom s ≡ got r → Holds count r
+  unfolding biFrom
+  held-bi e =
+      let t = then (binTaken takesBin (binAt (byteAt s 4))) _ r e in
+      let l = lows 65 (byteAt s 5 ∷ byteAt s 6 ∷ byteAt s 7 ∷ []) _ r (t .rest) in
+      subst (Holds count) (got-same _ r (l .rest)) (bin-taken takesBin (binAt (byteAt s 4)) (t .first) (t .found), l .low 0 (omega arith), l .low 1 (omega arith), l .low 2 (omega arith))
+
+  held-mov : movFrom s ≡ got r → Holds count r
+  unfolding movFrom
+  held-mov e =
+      let l = lows 65 (byteAt s 4 ∷ byteAt s 5 ∷ []) _ r e in
+      subst (Holds count) (got-same _ r (l .rest)) (l .low 0 (omega arith), l .low 1 (omega arith))
+
+  held-load : loadFrom s ≡ got r → Holds count r
+  unfolding loadFrom
+  held-load e =
+      let l = lows 65 (byteAt s 4 ∷ []) _ r e in
+      let t = then (placeAt s 5) _ r (l .rest) in
+      subst (Holds count) (got-same _ r (t .rest)) (l .low 0 (omega arith), place-index s 5 (t .first) (t .found))
+
+  held-save : saveFrom s ≡ got r → Holds count r
+  unfolding saveFrom
+  held-save e =
+      let l = lows 65 (byteAt s 4 ∷ []) _ r e in
+      let t = then (savePlace s 5) _ r (l .rest) in
+      subst (Holds count) (got-same _ r (t .rest)) (l .low 0 (omega arith), save-held s 5 (t .first) (t .found))
+
+  held-load-const : Bytes s → loadConstFrom count s ≡ got r → Holds count r
+  unfolding loadConstFrom wordAt
+  held-load-const b e =
+      let l = lows 65 (byteAt s 4 ∷ []) _ r e in
+      let p = passed (leb count (wordAt s 5)) 5 _ r (l .rest) in
+      subst (Holds count) (got-same _ r (p .rest))
+      (l .low 0 (omega arith), leb-false count (wordAt s 5) (p .test), omega (arith, b 5, b 6))
+
+  held-fused : fusedFrom s ≡ got r → Holds count r
+  unfolding fusedFrom
+  held-fused e =
+      let t = then (fusedTaken takesFused (fusedAt (byteAt s 4))) _ r e in
+      let l = lows 65 (byteAt s 5 ∷ byteAt s 6 ∷ byteAt s 7 ∷ byteAt s 8 ∷ []) _ r (t .rest) in
+      subst (Holds count) (got-same _ r (l .rest)) (fused-taken takesFused (fusedAt (byteAt s 4)) (t .first) (t .found), l .low 0 (omega arith), l .low 1 (omega arith), l .low 2 (omega arith), l .low 3 (omega arith))
+
+  held-if-else : ifElseFrom s ≡ got r → Holds count r
+  unfolding ifElseFrom
+  held-if-else e =
+      let l = lows 65 (byteAt s 4 ∷ byteAt s 5 ∷ byteAt s 6 ∷ []) _ r e in
+      let t = then (condPlace s 7) _ r (l .rest) in
+      subst (Holds count) (got-same _ r (t .rest)) (l .low 0 (omega arith), l .low 1 (omega arith), l .low 2 (omega arith), cond-held s 7 (t .first) (t .found))
+
+  held-load-complex : loadComplexFrom s ≡ got r → Holds count r
+  unfolding loadComplexFrom
+  held-load-complex e =
+      let l = lows 65 (byteAt s 4 ∷ byteAt s 5 ∷ []) _ r e in
+      let t = then (placeAt s 6) _ r (l .rest) in
+      subst (Holds count) (got-same _ r (t .rest)) (l .low 0 (omega arith), l .low 1 (omega arith), place-index s 6 (t .first) (t .found))
+
+  held-save-complex : saveComplexFrom s ≡ got r → Holds count r
+  unfolding saveComplexFrom
+  held-save-complex e =
+      let l = lows 65 (byteAt s 4 ∷ byteAt s 5 ∷ []) _ r e in
+      let t = then (savePlace s 6) _ r (l .rest) in
+      subst (Holds count) (got-same _ r (t .rest)) (l .low 0 (omega arith), l .low 1 (omega arith), save-held s 6 (t .first) (t .found))
+
+  held-complex-bi : complexBiFrom s ≡ got r → Holds count r
+  unfolding complexBiFrom
+  held-complex-bi e =
+      let t = then (arithTaken takesArith (arithAt (byteAt s 4))) _ r e in
+      let l = lows 65 (byteAt s 5 ∷ byteAt s 6 ∷ byteAt s 7 ∷ byteAt s 8 ∷ byteAt s 9 ∷ byteAt s 10 ∷ []) _ r (t .rest) in
+      subst (Holds count) (got-same _ r (l .rest)) (l .low 0 (omega arith), l .low 1 (omega arith), l .low 2 (omega arith), l .low 3 (omega arith), l .low 4 (omega arith), l .low 5 (omega arith))
+
+  held-label : labelFrom s ≡ got r → Holds count r
+  unfolding labelFrom
+  held-label e =
+      let p = passed (ltb 2 (byteAt s 4)) 2 _ r e in
+      subst (Holds count) (got-same _ r (p .rest)) (ltb-false 2 (byteAt s 4) (p .test))
+
+  held-branch : branchFrom s ≡ got r → Holds count r
+  unfolding branchFrom
+  held-branch e =
+      let p = passed (ltb 2 (byteAt s 4)) 2 _ r e in
+      subst (Holds count) (got-same _ r (p .rest)) (ltb-false 2 (byteAt s 4) (p .test))
+
+  held-call : callFrom s ≡ got r → Holds count r
+  unfolding callFrom
+  held-call e =
+      let p = passed (ltb 2 (byteAt s 4)) 2 _ r e in
+      subst (Holds count) (got-same _ r (p .rest)) (ltb-false 2 (byteAt s 4) (p .test))
+
+  held-fields : Bytes s → (kind : ℕ) → fieldsFrom count kind s ≡ got r → Holds count r
+  unfolding fieldsFrom
+  held-fields b kind e =
+      by (eqb kind 1) (uniFrom s) _ r e held-uni (λ e.
+      by (eqb kind 2) (biFrom s) _ r e held-bi (λ e.
+      by (eqb kind 3) (movFrom s) _ r e held-mov (λ e.
+      by (eqb kind 4) (loadFrom s) _ r e held-load (λ e.
+      by (eqb kind 5) (saveFrom s) _ r e held-save (λ e.
+      by (eqb kind 6) (loadConstFrom count s) _ r e (held-load-const b) (λ e.
+      by (eqb kind 7) (fusedFrom s) _ r e held-fused (λ e.
+      by (eqb kind 8) (ifElseFrom s) _ r e held-if-else (λ e.
+      by (eqb kind 11) (loadComplexFrom s) _ r e held-load-complex (λ e.
+      by (eqb kind 12) (saveComplexFrom s) _ r e held-save-complex (λ e.
+      by (eqb kind 13) (complexBiFrom s) _ r e held-complex-bi (λ e.
+      by (eqb kind 14) (labelFrom s) _ r e held-label (λ e.
+      by (eqb kind 15) (branchFrom s) _ r e held-branch (λ e.
+      by (eqb kind 16) (callFrom s) _ r e held-call (λ e.
+      absurd (clash 2 r e)))))))))))))))
+
+  pub held : Bytes s → recordFrom count s ≡ got r → Holds count r
+  unfolding recordFrom
+  held b e =
+      let t = then (headFrom (takesKind true) s) (λ kind. fieldsFrom count kind s) r e in
+      held-fields b (t .first) (t .rest)
+
+-- and so is every record that is decoded
+pub all-held : (count : ℕ) (s : List ℕ) → Bytes s → AllHold count (items (recordFrom count) s)
+all-held count s b = each (Holds count) (recordFrom count) (λ s r b e. held count s r b e) s b

@@ -1,0 +1,6 @@
+mod Taken
+mod Registers
+pub mod Reading
+pub mod Holding
+pub mod Round
+pub mod Held

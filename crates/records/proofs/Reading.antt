@@ -1,0 +1,30 @@
+-- A listing's records one after the other: each has its length, and what `read_record` answers says what stands at a position.
+use Prim.Native.Nat.{ℕ, _<_}
+use mathlib.Core.Path.{_≡_, sym, ap, _∙_}
+use mathlib.Core.Bool.{true}
+use mathlib.Core.List.{List}
+use lib.ListN.{length}
+use Rattle.mir.specs.declared.records.Record.{Record}
+use Rattle.mir.specs.Field.{takesKind, headFrom}
+use Rattle.mir.proofs.Passing.{then}
+use Rattle.mir.proofs.Heads.{headed}
+use Rattle.mir.proofs.Decoding.{Whole, Here, Done, here, torn}
+use Rattle.records.specs.declared.reader.NextRecord.{NextRecord}
+use Rattle.records.specs.Record.{fieldsFrom, recordFrom, recordAt, asNext}
+
+pub whole : (count : ℕ) → Whole (recordFrom count)
+unfolding recordFrom
+whole count = record {
+  sized = λ s x e.
+      let t = then (headFrom (takesKind true) s) (λ kind. fieldsFrom count kind s) x e in
+      headed (takesKind true) s (t .first) (t .found) .sized;
+}
+
+module _ (count : ℕ) (s : List ℕ) (at : ℕ) {r : NextRecord} where
+  pub here-record : {x : Record} {next : ℕ} → asNext r ≡ recordAt count s at → r ≡ NextRecord.Got x next
+      → Here (recordFrom count) s at x next
+  here-record {x} {next} e f = here (recordFrom count) s at (whole count) x next (sym e ∙ ap asNext f)
+
+  pub torn-record : {k : ℕ} → asNext r ≡ recordAt count s at → r ≡ NextRecord.Refused k → at < length s
+      → Done (recordFrom count) s at k
+  torn-record {k} e f h = torn (recordFrom count) s at k (sym e ∙ ap asNext f) h

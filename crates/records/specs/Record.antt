@@ -1,0 +1,138 @@
+-- A listing's record, from the bytes that begin with it (document 01, Sheet, and the numbers 1 to 5 of its table). `count` is the count
+-- of the table lent with the listing. Registers are tested before the place, and the place before the constant.
+use Prim.Native.Nat.{ℕ}
+use mathlib.Core.Bool.{cond, true}
+use mathlib.Core.List.{List, [], _∷_}
+use lib.Dec.{ltb, eqb}
+use Rattle.mir.specs.declared.records.Work.{Work}
+use Rattle.mir.specs.declared.records.Record.{Record}
+use Rattle.mir.specs.Operation.{uniAt, binAt, arithAt, fusedAt, uniTaken, binTaken, arithTaken, fusedTaken}
+use Rattle.mir.specs.Read.{Read, got, refused, refuse, andThen, registers, constant}
+use Rattle.mir.specs.Field.{byteAt, wordAt, takesKind, headFrom, placeAt, savePlace, condPlace}
+use Rattle.mir.specs.Decode.{Item, readAt, Decoded, decoded}
+use Rattle.records.specs.Takes.{takesUni, takesBin, takesArith, takesFused}
+use Rattle.records.specs.declared.reader.ReadRecord.{ReadRecord}
+use Rattle.records.specs.declared.reader.NextRecord.{NextRecord}
+
+-- 1 Uni: op, dst, s1
+unfoldable pub uniFrom : List ℕ → Read Record
+uniFrom s =
+    andThen (uniTaken takesUni (uniAt (byteAt s 4)))
+    (λ op. registers 65 (byteAt s 5 ∷ byteAt s 6 ∷ []) (got (Record.Work (Work.Uni op (byteAt s 5) (byteAt s 6)))))
+
+-- 2 Bi: op, dst, s1, s2
+unfoldable pub biFrom : List ℕ → Read Record
+biFrom s =
+    andThen (binTaken takesBin (binAt (byteAt s 4)))
+    (λ op.
+    registers 65 (byteAt s 5 ∷ byteAt s 6 ∷ byteAt s 7 ∷ [])
+    (got (Record.Work (Work.Bi op (byteAt s 5) (byteAt s 6) (byteAt s 7)))))
+
+-- 3 Mov: dst, s1
+unfoldable pub movFrom : List ℕ → Read Record
+movFrom s = registers 65 (byteAt s 4 ∷ byteAt s 5 ∷ []) (got (Record.Work (Work.Mov (byteAt s 4) (byteAt s 5))))
+
+-- 4 Load: register, place
+unfoldable pub loadFrom : List ℕ → Read Record
+loadFrom s = registers 65 (byteAt s 4 ∷ []) (andThen (placeAt s 5) (λ loc. got (Record.Work (Work.Load (byteAt s 4) loc))))
+
+-- 5 Save: register, place
+unfoldable pub saveFrom : List ℕ → Read Record
+saveFrom s =
+    registers 65 (byteAt s 4 ∷ []) (andThen (savePlace s 5) (λ loc. got (Record.Work (Work.Save (byteAt s 4) loc))))
+
+-- 6 LoadConst: dst, constant
+unfoldable pub loadConstFrom : ℕ → List ℕ → Read Record
+loadConstFrom count s =
+    registers 65 (byteAt s 4 ∷ [])
+    (constant count (wordAt s 5) (got (Record.Work (Work.LoadConst (byteAt s 4) (wordAt s 5)))))
+
+-- 7 Fused: op, dst, a, b, c
+unfoldable pub fusedFrom : List ℕ → Read Record
+fusedFrom s =
+    andThen (fusedTaken takesFused (fusedAt (byteAt s 4)))
+    (λ op.
+    registers 65 (byteAt s 5 ∷ byteAt s 6 ∷ byteAt s 7 ∷ byteAt s 8 ∷ [])
+    (got (Record.Work (Work.Fused op (byteAt s 5) (byteAt s 6) (byteAt s 7) (byteAt s 8)))))
+
+-- 8 IfElse: dst, true, false, place
+unfoldable pub ifElseFrom : List ℕ → Read Record
+ifElseFrom s =
+    registers 65 (byteAt s 4 ∷ byteAt s 5 ∷ byteAt s 6 ∷ [])
+    (andThen (condPlace s 7) (λ loc. got (Record.Work (Work.IfElse (byteAt s 4) (byteAt s 5) (byteAt s 6) loc))))
+
+-- 11 LoadComplex: two registers, place
+unfoldable pub loadComplexFrom : List ℕ → Read Record
+loadComplexFrom s =
+    registers 65 (byteAt s 4 ∷ byteAt s 5 ∷ [])
+    (andThen (placeAt s 6) (λ loc. got (Record.Work (Work.LoadComplex (byteAt s 4) (byteAt s 5) loc))))
+
+-- 12 SaveComplex: two registers, place
+unfoldable pub saveComplexFrom : List ℕ → Read Record
+saveComplexFrom s =
+    registers 65 (byteAt s 4 ∷ byteAt s 5 ∷ [])
+    (andThen (savePlace s 6) (λ loc. got (Record.Work (Work.SaveComplex (byteAt s 4) (byteAt s 5) loc))))
+
+-- 13 ComplexBi: op, xd, yd, x1, y1, x2, y2
+unfoldable pub complexBiFrom : List ℕ → Read Record
+complexBiFrom s =
+    andThen (arithTaken takesArith (arithAt (byteAt s 4)))
+    (λ op.
+    registers 65 (byteAt s 5 ∷ byteAt s 6 ∷ byteAt s 7 ∷ byteAt s 8 ∷ byteAt s 9 ∷ byteAt s 10 ∷ [])
+    (got (Record.Work (Work.ComplexBi op (byteAt s 5) (byteAt s 6) (byteAt s 7) (byteAt s 8) (byteAt s 9) (byteAt s 10)))))
+
+-- "Labels: 0 `.ret`, 1 `@complex_root`, 2 `@jump_over_complex_root`; another is refused by 2."
+abbrev pub label : ℕ → Read Record → Read Record
+label l r = refuse (ltb 2 l) 2 r
+
+-- 14 Label, 15 Branch, 16 Call: label
+unfoldable pub labelFrom : List ℕ → Read Record
+labelFrom s = label (byteAt s 4) (got (Record.Label (byteAt s 4)))
+
+unfoldable pub branchFrom : List ℕ → Read Record
+branchFrom s = label (byteAt s 4) (got (Record.Branch (byteAt s 4)))
+
+unfoldable pub callFrom : List ℕ → Read Record
+callFrom s = label (byteAt s 4) (got (Record.Call (byteAt s 4)))
+
+-- by kind
+unfoldable pub fieldsFrom : ℕ → ℕ → List ℕ → Read Record
+unfolding uniFrom biFrom movFrom loadFrom saveFrom loadConstFrom fusedFrom ifElseFrom loadComplexFrom saveComplexFrom complexBiFrom labelFrom branchFrom callFrom
+fieldsFrom count kind s =
+    cond (eqb kind 1) (uniFrom s)
+    (cond (eqb kind 2) (biFrom s)
+    (cond (eqb kind 3) (movFrom s)
+    (cond (eqb kind 4) (loadFrom s)
+    (cond (eqb kind 5) (saveFrom s)
+    (cond (eqb kind 6) (loadConstFrom count s)
+    (cond (eqb kind 7) (fusedFrom s)
+    (cond (eqb kind 8) (ifElseFrom s)
+    (cond (eqb kind 11) (loadComplexFrom s)
+    (cond (eqb kind 12) (saveComplexFrom s)
+    (cond (eqb kind 13) (complexBiFrom s)
+    (cond (eqb kind 14) (labelFrom s)
+    (cond (eqb kind 15) (branchFrom s)
+    (cond (eqb kind 16) (callFrom s)
+    (refused 2))))))))))))))
+
+-- "readable length (1), kind (2), kind's length (1), operation (2), then 3, 4, 5"
+unfoldable pub recordFrom : ℕ → List ℕ → Read Record
+unfolding headFrom fieldsFrom
+recordFrom count s = andThen (headFrom (takesKind true) s) (λ kind. fieldsFrom count kind s)
+
+-- the record at a position, and the position after it
+abbrev pub recordAt : ℕ → List ℕ → ℕ → Read (Item Record)
+recordAt count s at = readAt (recordFrom count) s at
+
+-- all records of a listing
+abbrev pub records : ℕ → List ℕ → Decoded Record
+records count s = decoded (recordFrom count) s
+
+-- the answers of the code
+abbrev pub asRead : ReadRecord → Read Record
+asRead (ReadRecord.Got r) = got r
+asRead (ReadRecord.Refused n) = refused n
+
+abbrev pub asNext : NextRecord → Read (Item Record)
+asNext (NextRecord.Got r next) = got (record { item = r; next = next })
+asNext (NextRecord.Refused n) = refused n

@@ -1,0 +1,2 @@
+// A listing's records read one by one.
+pub mod reader;

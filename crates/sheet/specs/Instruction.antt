@@ -1,0 +1,115 @@
+-- A sheet's instruction, from the bytes that begin with it (document 01, Sheet, and the numbers 1 to 5 of its table). `count` is the
+-- count of the sheet's own constants. Registers are tested before the place, and the place before the constant.
+use Prim.Native.Nat.{ℕ}
+use mathlib.Core.Bool.{cond, false}
+use mathlib.Core.List.{List, [], _∷_}
+use lib.Dec.{eqb}
+use Rattle.mir.specs.declared.records.Instruction.{Instruction}
+use Rattle.mir.specs.declared.records.Loc.{Loc}
+use Rattle.mir.specs.Operation.{uniAt, binAt, arithAt, fusedAt, uniTaken, binTaken, arithTaken, fusedTaken}
+use Rattle.mir.specs.Read.{Read, got, refused, andThen, registers, constant}
+use Rattle.mir.specs.Field.{byteAt, wordAt, takesKind, headFrom, placeAt, savePlace, condPlace}
+use Rattle.mir.specs.Decode.{Item, readAt, Decoded, decoded}
+use Rattle.sheet.specs.Takes.{takesUni, takesBin, takesArith, takesFused}
+use Rattle.sheet.specs.declared.reader.ReadInstruction.{ReadInstruction}
+use Rattle.sheet.specs.declared.reader.NextInstruction.{NextInstruction}
+
+-- 1 Uni: op, dst, s1
+unfoldable pub uniFrom : List ℕ → Read Instruction
+uniFrom s =
+    andThen (uniTaken takesUni (uniAt (byteAt s 4)))
+    (λ op. registers 31 (byteAt s 5 ∷ byteAt s 6 ∷ []) (got (Instruction.Uni op (byteAt s 5) (byteAt s 6))))
+
+-- 2 Bi: op, dst, s1, s2
+unfoldable pub biFrom : List ℕ → Read Instruction
+biFrom s =
+    andThen (binTaken takesBin (binAt (byteAt s 4)))
+    (λ op.
+    registers 31 (byteAt s 5 ∷ byteAt s 6 ∷ byteAt s 7 ∷ [])
+    (got (Instruction.Bi op (byteAt s 5) (byteAt s 6) (byteAt s 7))))
+
+-- 3 Mov: dst, s1
+unfoldable pub movFrom : List ℕ → Read Instruction
+movFrom s = registers 31 (byteAt s 4 ∷ byteAt s 5 ∷ []) (got (Instruction.Mov (byteAt s 4) (byteAt s 5)))
+
+-- 4 Load: register, place
+unfoldable pub loadFrom : List ℕ → Read Instruction
+loadFrom s = registers 31 (byteAt s 4 ∷ []) (andThen (placeAt s 5) (λ loc. got (Instruction.Load (byteAt s 4) loc)))
+
+-- 5 Save: register, place
+unfoldable pub saveFrom : List ℕ → Read Instruction
+saveFrom s = registers 31 (byteAt s 4 ∷ []) (andThen (savePlace s 5) (λ loc. got (Instruction.Save (byteAt s 4) loc)))
+
+-- 6 LoadConst: dst, constant
+unfoldable pub loadConstFrom : ℕ → List ℕ → Read Instruction
+loadConstFrom count s =
+    registers 31 (byteAt s 4 ∷ []) (constant count (wordAt s 5) (got (Instruction.LoadConst (byteAt s 4) (wordAt s 5))))
+
+-- 7 Fused: op, dst, a, b, c
+unfoldable pub fusedFrom : List ℕ → Read Instruction
+fusedFrom s =
+    andThen (fusedTaken takesFused (fusedAt (byteAt s 4)))
+    (λ op.
+    registers 31 (byteAt s 5 ∷ byteAt s 6 ∷ byteAt s 7 ∷ byteAt s 8 ∷ [])
+    (got (Instruction.Fused op (byteAt s 5) (byteAt s 6) (byteAt s 7) (byteAt s 8))))
+
+-- 8 IfElse: dst, true, false, place
+unfoldable pub ifElseFrom : List ℕ → Read Instruction
+ifElseFrom s =
+    registers 31 (byteAt s 4 ∷ byteAt s 5 ∷ byteAt s 6 ∷ [])
+    (andThen (condPlace s 7) (λ loc. got (Instruction.IfElse (byteAt s 4) (byteAt s 5) (byteAt s 6) loc)))
+
+-- 9 LoadMath: op, dst, s1, place
+unfoldable pub loadMathFrom : List ℕ → Read Instruction
+loadMathFrom s =
+    andThen (arithTaken takesArith (arithAt (byteAt s 4)))
+    (λ op.
+    registers 31 (byteAt s 5 ∷ byteAt s 6 ∷ [])
+    (andThen (placeAt s 7) (λ loc. got (Instruction.LoadMath op (byteAt s 5) (byteAt s 6) loc))))
+
+-- 10 LoadConstMath: op, dst, s1, constant
+unfoldable pub loadConstMathFrom : ℕ → List ℕ → Read Instruction
+loadConstMathFrom count s =
+    andThen (arithTaken takesArith (arithAt (byteAt s 4)))
+    (λ op.
+    registers 31 (byteAt s 5 ∷ byteAt s 6 ∷ [])
+    (constant count (wordAt s 7) (got (Instruction.LoadConstMath op (byteAt s 5) (byteAt s 6) (wordAt s 7)))))
+
+-- by kind
+unfoldable pub fieldsFrom : ℕ → ℕ → List ℕ → Read Instruction
+unfolding uniFrom biFrom movFrom loadFrom saveFrom loadConstFrom fusedFrom ifElseFrom loadMathFrom loadConstMathFrom
+fieldsFrom count kind s =
+    cond (eqb kind 0) (got Instruction.Nop)
+    (cond (eqb kind 1) (uniFrom s)
+    (cond (eqb kind 2) (biFrom s)
+    (cond (eqb kind 3) (movFrom s)
+    (cond (eqb kind 4) (loadFrom s)
+    (cond (eqb kind 5) (saveFrom s)
+    (cond (eqb kind 6) (loadConstFrom count s)
+    (cond (eqb kind 7) (fusedFrom s)
+    (cond (eqb kind 8) (ifElseFrom s)
+    (cond (eqb kind 9) (loadMathFrom s)
+    (cond (eqb kind 10) (loadConstMathFrom count s)
+    (refused 2)))))))))))
+
+-- "readable length (1), kind (2), kind's length (1), operation (2), then 3, 4, 5"
+unfoldable pub instructionFrom : ℕ → List ℕ → Read Instruction
+unfolding headFrom fieldsFrom
+instructionFrom count s = andThen (headFrom (takesKind false) s) (λ kind. fieldsFrom count kind s)
+
+-- the instruction at a position, and the position after it
+abbrev pub instructionAt : ℕ → List ℕ → ℕ → Read (Item Instruction)
+instructionAt count s at = readAt (instructionFrom count) s at
+
+-- all instructions, from the bytes that begin with the first
+abbrev pub instructions : ℕ → List ℕ → Decoded Instruction
+instructions count s = decoded (instructionFrom count) s
+
+-- the answers of the code
+abbrev pub asRead : ReadInstruction → Read Instruction
+asRead (ReadInstruction.Got i) = got i
+asRead (ReadInstruction.Refused n) = refused n
+
+abbrev pub asNext : NextInstruction → Read (Item Instruction)
+asNext (NextInstruction.Got i next) = got (record { item = i; next = next })
+asNext (NextInstruction.Refused n) = refused n

@@ -1,0 +1,87 @@
+-- What stands before a sheet's instructions (document 01, Sheet): the header and the constants, or the refusal 8.
+use Prim.Native.Nat.{ℕ, zero, suc, _+_, _*_}
+use mathlib.Core.Bool.{Bool, not, cond, false, _&&_, _||_}
+use mathlib.Core.List.{List, [], _∷_}
+use lib.ListN.{length, take, drop, getD, replicate}
+use lib.Dec.{ltb, leb, eqb}
+use Rattle.mir.specs.Read.{Read, got, refused, refuse, andThen}
+use Rattle.mir.specs.Field.{byteAt, wordAt}
+use Rattle.sheet.specs.declared.setup.Setup.{Setup}
+use Rattle.sheet.specs.declared.setup.Header.{Header}
+use Rattle.sheet.specs.declared.setup.Counted.{Counted}
+
+-- "First a header: kind 32, mode byte (0 plain, 1 stable), 64 bytes of realness [..]: length 69." "A wrong header, [..] a sheet over
+-- 16,384 bytes [..] is refused by 8." What is read is the mode.
+unfoldable pub headerFrom : List ℕ → Read ℕ
+headerFrom s =
+    refuse (ltb 16384 (length s)) 8
+    (refuse (ltb (length s) 69) 8
+    (refuse (not (eqb (wordAt s 0) 69)) 8
+    (refuse (not (eqb (wordAt s 2) 32)) 8
+    (refuse (ltb 1 (byteAt s 4)) 8
+    (got (byteAt s 4))))))
+
+-- a constant stands first: four bytes can be read, and their kind is 33
+abbrev pub isConstant : List ℕ → Bool
+isConstant s = leb 4 (length s) && eqb (wordAt s 2) 33
+
+-- "a kind 33 before the instructions whose length is not 12 or runs past the end"
+abbrev pub isBroken : List ℕ → Bool
+isBroken s = not (eqb (wordAt s 0) 12) || ltb (length s) 12
+
+abbrev pub oneMore : Read ℕ → Read ℕ
+oneMore (got n) = got (suc n)
+oneMore (refused n) = refused n
+
+-- "Then constants: kind 33, eight bytes each, 0 to 251 of them": how many stand first, where at most n may
+unfoldable pub constantsFrom : ℕ → List ℕ → Read ℕ
+constantsFrom zero s = refuse (isConstant s) 8 (got 0)
+constantsFrom (suc n) s =
+    cond (isConstant s) (refuse (isBroken s) 8 (oneMore (constantsFrom n (drop 12 s)))) (got 0)
+
+-- 8, "with [..] all realness complex"
+abbrev pub wrong : Setup
+wrong = record { number = 8; stable = false; places = replicate 64 0; count = 0; start = 0 }
+
+-- what was read: the mode, the bytes of realness, the count of constants, and where the instructions begin
+abbrev pub setupWith : List ℕ → ℕ → Read ℕ → Setup
+setupWith s mode (got n) =
+    record { number = 0; stable = eqb mode 1; places = take 64 (drop 5 s); count = n; start = 69 + 12 * n }
+setupWith s mode (refused n) = wrong
+
+abbrev pub setupFrom : List ℕ → Read ℕ → Setup
+setupFrom s (got mode) = setupWith s mode (constantsFrom 251 (drop 69 s))
+setupFrom s (refused n) = wrong
+
+unfoldable pub setup : List ℕ → Setup
+unfolding headerFrom constantsFrom
+setup s = setupFrom s (headerFrom s)
+
+-- eight bytes, little-endian
+unfoldable pub wordFrom : List ℕ → ℕ
+wordFrom s =
+    getD s 0 0
+    + 256 * (getD s 1 0 + 256 * (getD s 2 0 + 256 * (getD s 3 0
+    + 256 * (getD s 4 0 + 256 * (getD s 5 0 + 256 * (getD s 6 0 + 256 * getD s 7 0))))))
+
+-- the word of the constant with an index: the eight bytes behind its length and kind
+unfoldable pub constantAt : List ℕ → ℕ → ℕ
+unfolding wordFrom
+constantAt s i = wordFrom (drop (73 + 12 * i) s)
+
+-- n constants from the one with index i on, and the first n
+abbrev pub constantsFromOn : List ℕ → ℕ → ℕ → List ℕ
+constantsFromOn s zero i = []
+constantsFromOn s (suc n) i = constantAt s i ∷ constantsFromOn s n (suc i)
+
+abbrev pub constantsOf : List ℕ → ℕ → List ℕ
+constantsOf s n = constantsFromOn s n 0
+
+-- the answers of the code
+abbrev pub asHeader : Header → Read ℕ
+asHeader (Header.Mode mode) = got mode
+asHeader Header.Wrong = refused 8
+
+abbrev pub asCounted : Counted → Read ℕ
+asCounted (Counted.Constants n) = got n
+asCounted Counted.Wrong = refused 8

@@ -1,0 +1,3 @@
+// A sheet read: its setup, and its instructions one by one.
+pub mod reader;
+pub mod setup;
