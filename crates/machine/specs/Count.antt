@@ -1,0 +1,23 @@
+-- How many records a play may reach (document 01, Player). That no play reaches more is `answer-bound` of proofs/Bound.antt.
+use Prim.Native.Nat.{ℕ, _+_, _*_}
+use mathlib.Core.Bool.{Bool, true, false}
+use mathlib.Core.List.{List}
+use lib.ListN.{length}
+use Rattle.mir.specs.declared.records.Work.{Work}
+use Rattle.mir.specs.declared.records.Record.{Record}
+use Rattle.machine.specs.Machine.{block}
+use Rattle.machine.specs.Jumps.{tally}
+
+abbrev pub isCall : Record → Bool
+isCall (Record.Work w) = false
+isCall (Record.Label l) = false
+isCall (Record.Branch l) = false
+isCall (Record.Call l) = true
+
+-- the records of a block: Label 1, the working records and Branch 0
+abbrev pub blockRecords : List Work → ℕ
+blockRecords b = 2 + length b
+
+-- "Records played are at most all records plus calls times block records."
+abbrev pub most : List Record → ℕ
+most rs = length rs + tally isCall rs * blockRecords (block rs)

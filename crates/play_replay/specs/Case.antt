@@ -1,0 +1,76 @@
+-- A case of the list: what is played, and the answer and the store that are expected; numbers little-endian. Assumes nothing.
+use Prim.Native.Nat.{ℕ, zero, suc, _+_, _*_, _^_, _≤_}
+use mathlib.Core.Bool.{Bool, true, false, not, _&&_}
+use mathlib.Core.List.{List, [], _∷_}
+use lib.ListN.{length, getD, set, take, drop}
+use lib.Dec.{eqb}
+use Rattle.machine.specs.Answer.{Answer, answer}
+
+-- the number of four bytes, and of eight, whose lowest stands at i
+unfoldable pub u32At : List ℕ → ℕ → ℕ
+u32At s i = getD s i 0 + 2 ^ 8 * getD s (i + 1) 0 + 2 ^ 16 * getD s (i + 2) 0 + 2 ^ 24 * getD s (i + 3) 0
+
+unfoldable pub wordAt : List ℕ → ℕ → ℕ
+wordAt s i = u32At s i + 2 ^ 32 * u32At s (i + 4)
+
+-- where the constants, the word that fills the store, the words set before and the words changed begin, and where the case ends
+abbrev pub constantsAt : List ℕ → ℕ
+constantsAt s = 48 + u32At s 0
+
+abbrev pub fillAt : List ℕ → ℕ
+fillAt s = constantsAt s + 8 * u32At s 4
+
+abbrev pub beforeAt : List ℕ → ℕ
+beforeAt s = fillAt s + 8
+
+abbrev pub changedAt : List ℕ → ℕ
+changedAt s = beforeAt s + 12 * u32At s 12
+
+abbrev pub end : List ℕ → ℕ
+end s = changedAt s + 12 * u32At s 16
+
+-- the bytes begin with a whole case, of at most 257 constants and 1,603 words of the store
+pub record Whole (s : List ℕ) : Type 0 where
+  pub head : 48 ≤ length s
+  pub constants : u32At s 4 ≤ 257
+  pub store : u32At s 8 ≤ 1603
+  pub rest : end s ≤ length s
+
+-- f 0, f 1, .. of n numbers
+unfoldable pub table : (ℕ → ℕ) → ℕ → List ℕ
+table f zero = []
+table f (suc n) = f 0 ∷ table (λ i. f (suc i)) n
+
+-- a store with n words set, from the pairs of an index and a word that begin at a position
+unfoldable pub patched : List ℕ → ℕ → List ℕ → ℕ → List ℕ
+patched s at store zero = store
+patched s at store (suc n) = set (patched s at store n) (u32At s (at + 12 * n)) (wordAt s (at + 12 * n + 4))
+
+unfoldable pub listing : List ℕ → List ℕ
+listing s = take (u32At s 0) (drop 48 s)
+
+unfoldable pub constants : List ℕ → List ℕ
+constants s = table (λ i. wordAt s (constantsAt s + 8 * i)) (u32At s 4)
+
+-- the store before the play, and the one expected at its end
+unfoldable pub before : List ℕ → List ℕ
+before s = patched s (beforeAt s) (table (λ i. wordAt s (fillAt s)) (u32At s 8)) (u32At s 12)
+
+unfoldable pub after : List ℕ → List ℕ
+after s = patched s (changedAt s) (before s) (u32At s 16)
+
+-- what the machine answers to the case
+unfoldable pub answered : List ℕ → Answer
+answered s = answer (listing s) (constants s) (wordAt s 20) (before s)
+
+-- whether two stores have the same words
+unfoldable pub same : List ℕ → List ℕ → Bool
+same [] [] = true
+same [] (y ∷ ys) = false
+same (x ∷ xs) [] = false
+same (x ∷ xs) (y ∷ ys) = eqb x y && same xs ys
+
+-- whether an answer is the expected one
+unfoldable pub expected : List ℕ → Answer → Bool
+expected s a =
+    eqb (a .number) (u32At s 28) && (eqb (a .index) (wordAt s 32) && (eqb (a .played) (wordAt s 40) && same (a .store) (after s)))

@@ -1,0 +1,139 @@
+// One case: whether it is whole, and how the player answers it.
+ghost use Prim.Native.Nat.{_+_, _^_, _<_, _≤_};
+ghost use mathlib.Core.Bool.{true, false, not};
+ghost use mathlib.Core.Path.{_≡_};
+ghost use lib.ListN.{length};
+ghost use Rattle.play_replay.specs.Case as Case;
+ghost use Rattle.play_replay.specs.Case.{Whole, u32At, changedAt, answered, expected};
+ghost use Rattle.player.specs.Values.{whole};
+use crate::numbers::count_at;
+use crate::numbers::u32_at;
+use crate::numbers::word_at;
+use crate::stores::fill;
+use crate::stores::load;
+use crate::stores::patch;
+use crate::stores::same;
+use player::Answer;
+
+// Where the words changed begin.
+fn changed_at(s: &[u8]) -> usize
+    requires { ⌜ 48 ≤ length (now s) ⌝ }
+    ensures { λ r. ⌜ (r ≡ changedAt (now (s .entry))) × (r < 2 ^ 38) ⌝ }
+{
+    48 + count_at(s, 0) + 8 * count_at(s, 4) + 8 + 12 * count_at(s, 12)
+}
+
+// Where the case ends.
+pub(crate) fn end(s: &[u8]) -> usize
+    requires { ⌜ 48 ≤ length (now s) ⌝ }
+    ensures { λ r. ⌜ r ≡ Case.end (now (s .entry)) ⌝ }
+{
+    changed_at(s) + 12 * count_at(s, 16)
+}
+
+// Whether the bytes begin with no whole case.
+pub fn is_cut(s: &[u8]) -> bool
+    ensures { λ r. ⌜ (r ≡ false → Whole (now (s .entry))) × (r ≡ true → Whole (now (s .entry)) → ⊥) ⌝ }
+{
+    if s.len() < 48 {
+        return true;
+    }
+    if 257 < count_at(s, 4) {
+        return true;
+    }
+    if 1603 < count_at(s, 8) {
+        return true;
+    }
+    if s.len() < end(s) {
+        return true;
+    }
+    false
+}
+
+// Makes the store before the play.
+fn make_before(s: &[u8], store: &mut [u64])
+    requires { ⌜ Whole (now s) ⌝ }
+    requires { ⌜ length (now store) ≡ u32At (now s) 8 ⌝ }
+    ensures { λ _. ⌜ now (store .exit) ≡ Case.before (now (s .entry)) ⌝ }
+{
+    let fill_at = 48 + count_at(s, 0) + 8 * count_at(s, 4);
+    fill(store, word_at(s, fill_at));
+    patch(s, fill_at + 8, count_at(s, 12), store);
+}
+
+// Makes the store expected at the end.
+fn make_after(s: &[u8], store: &mut [u64])
+    requires { ⌜ Whole (now s) ⌝ }
+    requires { ⌜ length (now store) ≡ u32At (now s) 8 ⌝ }
+    ensures { λ _. ⌜ now (store .exit) ≡ Case.after (now (s .entry)) ⌝ }
+{
+    make_before(s, store);
+    patch(s, changed_at(s), count_at(s, 16), store);
+}
+
+// What a play gave.
+pub struct Outcome {
+    pub number: u8,
+    pub differs: bool,
+}
+
+// Whether an answer and a store are the expected ones.
+fn agrees(s: &[u8], a: Answer, store: &[u64], after: &[u64]) -> bool
+    requires { ⌜ (48 ≤ length (now s)) × (now after ≡ Case.after (now s)) ⌝ }
+    ensures { λ r. ⌜ r ≡ expected (now (s .entry)) (whole a (now (store .entry))) ⌝ }
+{
+    if a.number as u64 != u32_at(s, 28) {
+        return false;
+    }
+    if a.index as u64 != word_at(s, 32) {
+        return false;
+    }
+    if a.played as u64 != word_at(s, 40) {
+        return false;
+    }
+    same(store, after)
+}
+
+// Plays the case, and compares what the player gives with what the case expects.
+fn judge(s: &[u8], constants: &[u64], store: &mut [u64], after: &[u64]) -> Outcome
+    requires { ⌜ Whole (now s) × ((now constants ≡ Case.constants (now s)) × ((now store ≡ Case.before (now s)) × (now after ≡ Case.after (now s)))) ⌝ }
+    ensures { λ r. ⌜ (r .number ≡ answered (now (s .entry)) .number) × (r .differs ≡ not (expected (now (s .entry)) (answered (now (s .entry))))) ⌝ }
+{
+    let listing_end = 48 + count_at(s, 0);
+    let start = word_at(s, 20) as usize;
+    let a = player::play(&s[48..listing_end], constants, store, start);
+    let agreed = agrees(s, a, store, after);
+    Outcome {
+        number: a.number,
+        differs: !agreed,
+    }
+}
+
+// Makes what the case s plays, in room of its lengths, and plays it.
+fn replay_in(s: &[u8], constants: &mut [u64], store: &mut [u64], after: &mut [u64]) -> Outcome
+    requires { ⌜ Whole (now s) × ((length (now constants) ≡ u32At (now s) 4) × ((length (now store) ≡ u32At (now s) 8) × (length (now after) ≡ u32At (now s) 8))) ⌝ }
+    ensures { λ r. ⌜ (r .number ≡ answered (now (s .entry)) .number) × (r .differs ≡ not (expected (now (s .entry)) (answered (now (s .entry))))) ⌝ }
+{
+    load(s, 48 + count_at(s, 0), constants);
+    make_before(s, store);
+    make_after(s, after);
+    judge(s, constants, store, after)
+}
+
+// Replays the case at the start of s.
+pub(crate) fn replay(s: &[u8]) -> Outcome
+    requires { ⌜ Whole (now s) ⌝ }
+    ensures { λ r. ⌜ (r .number ≡ answered (now (s .entry)) .number) × (r .differs ≡ not (expected (now (s .entry)) (answered (now (s .entry))))) ⌝ }
+{
+    let mut constants = [0u64; 257];
+    let mut store = [0u64; 1603];
+    let mut after = [0u64; 1603];
+    let count = count_at(s, 4);
+    let words = count_at(s, 8);
+    replay_in(
+        s,
+        &mut constants[..count],
+        &mut store[..words],
+        &mut after[..words],
+    )
+}

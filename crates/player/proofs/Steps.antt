@@ -1,0 +1,168 @@
+-- The run over positions and the machine's play: each law takes what the code knows of the record at a position.
+use Prim.Native.Nat.{ℕ, zero, suc, _+_, _≤_, _<_}
+use native.Mathlib.Omega.{arith}
+use native.Mathlib.Nat.{zero-add, add-zero, add-assoc}
+use mathlib.Core.Path.{_≡_, refl, sym, ap, _∙_, subst}
+use mathlib.Core.Bool.{Bool, true, false}
+use mathlib.Core.List.{List, [], _∷_}
+use lib.ListN.{length, drop}
+use borrow.Author.Tests.{eq-eqb, ne-eqb}
+use Rattle.mir.specs.declared.records.Work.{Work}
+use Rattle.mir.specs.declared.records.Record.{Record}
+use Rattle.mir.specs.Read.{Read}
+use Rattle.mir.proofs.Decoding.{items, Here, Done}
+use Rattle.records.specs.Record.{recordFrom}
+use Rattle.machine.specs.Machine.{Store, exec, execs, works, isLabel, seek, going, seeking, End, ticks, play}
+use Rattle.machine.proofs.Seeking.{seek-play}
+use Rattle.player.specs.declared.run.Turn.{Turn}
+use Rattle.player.specs.Positions.{left, blockAt, onFrom, Sought, BlockPlayed, Turned, Played}
+
+IsTrue : Bool → Type 0
+IsTrue true = Unit {0}
+IsTrue false = ⊥
+
+no : {X : Type 0} → true ≡ false → X
+unfolding IsTrue
+no e = absurd (subst IsTrue e tt)
+
+-- seeking
+pub seek-on : {read : List ℕ → Read Record} {s : List ℕ} {at next : ℕ} {r : Record} (l : ℕ) → Here read s at r next → isLabel l r ≡ false
+    → seek l (items read (drop next s)) ≡ seek l (items read (drop at s))
+unfolding seek
+seek-on l e f = sym (ap (seek l) (e .same) ∙ simp f)
+
+pub seek-here : {read : List ℕ → Read Record} {s : List ℕ} {at next : ℕ} {r : Record} (l : ℕ) → Here read s at r next → isLabel l r ≡ true
+    → items read (drop at s) ≡ seek l (items read (drop at s))
+unfolding seek
+seek-here l e f = e .same ∙ sym (ap (seek l) (e .same) ∙ simp f)
+
+pub seek-none : {read : List ℕ → Read Record} {s : List ℕ} {at i j k : ℕ} (l : ℕ) → Done read s at j → Done read s i k
+    → items read (drop i s) ≡ seek l (items read (drop at s))
+unfolding seek
+seek-none l e f = f .same ∙ sym (ap (seek l) (e .same))
+
+-- the block
+pub works-on : {read : List ℕ → Read Record} {s : List ℕ} {at next : ℕ} {w : Work} → Here read s at (Record.Work w) next
+    → works (items read (drop at s)) ≡ w ∷ works (items read (drop next s))
+unfolding works
+works-on e = ap works (e .same)
+
+pub works-done : {read : List ℕ → Read Record} {s : List ℕ} {at k : ℕ} → Done read s at k → works (items read (drop at s)) ≡ []
+unfolding works
+works-done e = ap works (e .same)
+
+-- no working record
+pub data Stop : Record → Type 0 where
+  stop-label : (l : ℕ) → Stop (Record.Label l)
+  stop-branch : (l : ℕ) → Stop (Record.Branch l)
+  stop-call : (l : ℕ) → Stop (Record.Call l)
+
+works-stopped : {r : Record} (rs : List Record) → Stop r → works (r ∷ rs) ≡ []
+unfolding works
+works-stopped rs (stop-label l) = refl
+works-stopped rs (stop-branch l) = refl
+works-stopped rs (stop-call l) = refl
+
+pub works-stop : {read : List ℕ → Read Record} {s : List ℕ} {at next : ℕ} {r : Record} → Here read s at r next → Stop r
+    → works (items read (drop at s)) ≡ []
+works-stop e h = ap works (e .same) ∙ works-stopped _ h
+
+pub execs-none : {l : List Work} (constants : List ℕ) (σ : Store) → l ≡ [] → execs constants l σ ≡ σ
+unfolding execs
+execs-none constants σ e = ap (λ l. execs constants l σ) e
+
+pub execs-on : {l t : List Work} {w : Work} (constants : List ℕ) (σ : Store) → l ≡ w ∷ t
+    → execs constants l σ ≡ execs constants t (exec constants w σ)
+unfolding execs
+execs-on constants σ e = ap (λ l. execs constants l σ) e
+
+-- the record that was read, as a match knows it
+pub known-here : {read : List ℕ → Read Record} {s : List ℕ} {at next : ℕ} {r x : Record} → Here read s at r next → r ≡ x → Here read s at x next
+known-here {read} {s} {at} {next} e f = subst (λ x. Here read s at x next) f e
+
+-- one record outside a call
+abbrev from : List ℕ → List ℕ → ℕ → List Record → Store → End
+from constants s body rs σ = play constants (blockAt constants s body) going rs σ
+
+module _ {constants s : List ℕ} {body at : ℕ} where
+  pub turn-torn : {k : ℕ} {σ : Store} → Done (recordFrom (length constants)) s at k
+      → Turned constants s body at σ σ (record { done = true; at = at; played = 0 })
+  unfolding play
+  turn-torn {k} {σ} e = record { same = ap (λ l. from constants s body l σ) (e .same); on = λ h. no h; small = omega arith }
+
+  pub turn-work : {next : ℕ} {σ τ : Store} {w : Work} → Here (recordFrom (length constants)) s at (Record.Work w) next
+      → τ ≡ exec constants w σ → Turned constants s body at σ τ (record { done = false; at = next; played = 1 })
+  unfolding play
+  turn-work {next} {σ} {τ} {w} e h =
+      let g = e .on in
+      record {
+        same = ap (λ l. from constants s body l σ) (e .same) ∙ ap (λ u. ticks 1 (from constants s body (left (length constants) s next) u)) (sym h);
+        on = λ x. g;
+        small = omega arith;
+      }
+
+  pub turn-label : {next l : ℕ} {σ : Store} → Here (recordFrom (length constants)) s at (Record.Label l) next
+      → Turned constants s body at σ σ (record { done = false; at = next; played = 1 })
+  unfolding play
+  turn-label {next} {l} {σ} e = record { same = ap (λ l. from constants s body l σ) (e .same); on = λ x. e .on; small = omega arith }
+
+  pub turn-end : {next l : ℕ} {σ : Store} → Here (recordFrom (length constants)) s at (Record.Branch l) next → l ≡ 0
+      → Turned constants s body at σ σ (record { done = true; at = next; played = 1 })
+  unfolding play
+  turn-end {next} {l} {σ} e z =
+      record { same = ap (λ l. from constants s body l σ) (e .same) ∙ simp (eq-eqb _ _ z); on = λ h. no h; small = omega arith }
+
+  pub turn-branch : {next l to : ℕ} {σ : Store} → Here (recordFrom (length constants)) s at (Record.Branch l) next → (l ≡ 0 → ⊥)
+      → Sought (length constants) s next l to → Turned constants s body at σ σ (record { done = false; at = to; played = 1 })
+  unfolding play
+  turn-branch {next} {l} {to} {σ} e z w =
+      let h = w .on in
+      let g = e .on in
+      record {
+        same = ap (λ l. from constants s body l σ) (e .same)
+            ∙ simp (ne-eqb _ _ z)
+            (ap (ticks 1) (seek-play constants (blockAt constants s body) l (left (length constants) s next) σ ∙ ap (λ l. from constants s body l σ) (sym (w .same))));
+        on = λ x. omega (arith, g, h);
+        small = omega arith;
+      }
+
+  pub turn-call : {next l k : ℕ} {σ τ : Store} → Here (recordFrom (length constants)) s at (Record.Call l) next
+      → BlockPlayed constants s body σ τ k → Turned constants s body at σ τ (record { done = false; at = next; played = 2 + k })
+  unfolding play
+  turn-call {next} {l} {k} {σ} {τ} e w =
+      let c = w .count in
+      let d = w .small in
+      let b = blockAt constants s body in
+      let m : 3 + length b ≡ 2 + k = omega (arith, c) in
+      record {
+        same = ap (λ l. from constants s body l σ) (e .same)
+            ∙ ap (λ j. ticks j (from constants s body (left (length constants) s next) (execs constants b σ))) m
+            ∙ ap (λ u. ticks (2 + k) (from constants s body (left (length constants) s next) u)) (sym (w .same));
+        on = λ x. e .on;
+        small = omega (arith, d);
+      }
+
+-- the whole run: what is left to do from here is the whole answer
+pub run-start : (e : End) → ticks 0 e ≡ e
+unfolding ticks
+run-start e = λ i. record { store = e .store; played = zero-add (e .played) i }
+
+ticks-ticks : (m n : ℕ) (e : End) → ticks m (ticks n e) ≡ ticks (m + n) e
+unfolding ticks
+ticks-ticks m n e = λ i. record { store = e .store; played = sym (add-assoc m n (e .played)) i }
+
+pub run-turn : {constants s : List ℕ} {body at : ℕ} {σ τ : Store} {t : Turn} (c : ℕ) → Turned constants s body at σ τ t
+    → t .done ≡ false → ticks c (onFrom constants s body at σ) ≡ ticks (c + t .played) (onFrom constants s body (t .at) τ)
+run-turn c w m = ap (ticks c) (w .same ∙ simp m) ∙ ticks-ticks _ _ _
+
+pub run-stop : {constants s : List ℕ} {body at : ℕ} {σ τ : Store} {t : Turn} (c : ℕ) → Turned constants s body at σ τ t
+    → t .done ≡ true → ticks c (onFrom constants s body at σ) ≡ record { store = τ; played = c + t .played }
+unfolding ticks
+run-stop c w m = ap (ticks c) (w .same ∙ simp m)
+
+pub run-end : {s : List ℕ} {at k : ℕ} (constants : List ℕ) (body : ℕ) (σ : Store) (c : ℕ) → Done (recordFrom (length constants)) s at k
+    → ticks c (onFrom constants s body at σ) ≡ record { store = σ; played = c }
+unfolding ticks play
+run-end {s} {at} {k} constants body σ c h =
+    ap (λ l. ticks c (play constants (blockAt constants s body) going l σ)) (h .same)
+    ∙ (λ i. record { store = σ; played = add-zero c i })

@@ -1,0 +1,67 @@
+// The player: a listing's records are examined, then played on the store. A record is decoded where it is played.
+ghost use mathlib.Core.Path.{_≡_};
+ghost use Rattle.machine.specs.Answer.{answer};
+ghost use Rattle.player.specs.Values.{whole};
+
+mod jumps;
+mod passes;
+mod run;
+
+use jumps::first_breach;
+use passes::examine;
+use passes::find;
+use passes::skip;
+use run::run;
+
+// What playing gives back: 0 and the count of records with how many were played, or a refusal's number and index.
+pub struct Answer {
+    pub number: u8,
+    pub index: usize,
+    pub played: usize,
+}
+
+fn refuse(number: u8, index: usize) -> Answer
+    ensures { λ r. ⌜ r ≡ record { number = number; index = index; played = 0 } ⌝ }
+{
+    Answer {
+        number: number,
+        index: index,
+        played: 0,
+    }
+}
+
+// Plays a listing with its constants from a record on.
+pub fn play(listing: &[u8], constants: &[u64], store: &mut [u64], start: usize) -> Answer
+    ensures { λ r. ⌜ whole r (now (store .exit)) ≡ answer (now (listing .entry)) (now (constants .entry)) start (now (store .entry)) ⌝ }
+{
+    if 65536 < listing.len() {
+        return refuse(8, 0);
+    }
+    if 256 < constants.len() {
+        return refuse(8, 0);
+    }
+    if store.len() != 1602 {
+        return refuse(8, 0);
+    }
+    let count = constants.len();
+    let seen = examine(listing, count);
+    if seen.number != 0 {
+        return refuse(seen.number, seen.index);
+    }
+    if seen.index < start {
+        return refuse(9, start);
+    }
+    let breach = first_breach(listing, count, 0 < seen.ones, seen.twos, seen.ends);
+    if breach < seen.index {
+        return refuse(9, breach);
+    }
+    let label = find(listing, count, 0, 1);
+    let body = skip(listing, count, label, 1);
+    let from = skip(listing, count, 0, start);
+    let played = run(listing, constants, body, from, store);
+    Answer {
+        number: 0,
+        index: seen.index,
+        played: played,
+    }
+}

@@ -1,0 +1,117 @@
+// The play, by positions. It goes forward only; a Call plays the whole block.
+ghost use mathlib.Core.Path.{_≡_};
+ghost use Prim.Native.Nat.{_≤_, _<_};
+ghost use lib.ListN.{length};
+ghost use Rattle.player.specs.Positions.{BlockPlayed, Turned, Played};
+use super::passes::find;
+use mir::records::Record;
+use records::reader::NextRecord;
+use records::reader::read_record;
+use work::exec;
+
+// Where a play stands after a record: whether it ended, the position of the next record, and how many records were reached.
+pub struct Turn {
+    pub done: bool,
+    pub at: usize,
+    pub played: usize,
+}
+
+// Plays the working records from a position to the first that is none, and counts that one too.
+fn run_block(listing: &[u8], constants: &[u64], body: usize, store: &mut [u64]) -> usize
+    requires { ⌜ length (now listing) ≤ 65536 ⌝ }
+    ensures { λ r. ⌜ BlockPlayed (now (constants .entry)) (now (listing .entry)) body (now (store .entry)) (now (store .exit)) r ⌝ }
+{
+    let mut at = body;
+    let mut n: usize = 1;
+    while at < listing.len() {
+        let q = read_record(listing, at, constants.len());
+        let NextRecord::Got(rec, next) = q else {
+            return n;
+        };
+        let Record::Work(w) = rec else {
+            return n;
+        };
+        exec(store, constants, w);
+        at = next;
+        n += 1;
+    }
+    n
+}
+
+// Plays one record outside a call, with the whole block where it is a Call.
+fn run_record(listing: &[u8], constants: &[u64], body: usize, at: usize, store: &mut [u64]) -> Turn
+    requires { ⌜ length (now listing) ≤ 65536 ⌝ }
+    requires { ⌜ at < length (now listing) ⌝ }
+    ensures { λ r. ⌜ Turned (now (constants .entry)) (now (listing .entry)) body at (now (store .entry)) (now (store .exit)) r ⌝ }
+{
+    let q = read_record(listing, at, constants.len());
+    let NextRecord::Got(rec, next) = q else {
+        return Turn {
+            done: true,
+            at: at,
+            played: 0,
+        };
+    };
+    match rec {
+        Record::Work(w) => {
+            exec(store, constants, w);
+            Turn {
+                done: false,
+                at: next,
+                played: 1,
+            }
+        }
+        Record::Label(l) => Turn {
+            done: false,
+            at: next,
+            played: 1,
+        },
+        Record::Branch(l) => {
+            if l == 0 {
+                return Turn {
+                    done: true,
+                    at: next,
+                    played: 1,
+                };
+            }
+            let to = find(listing, constants.len(), next, l);
+            Turn {
+                done: false,
+                at: to,
+                played: 1,
+            }
+        }
+        Record::Call(l) => {
+            let n = run_block(listing, constants, body, store);
+            Turn {
+                done: false,
+                at: next,
+                played: 2 + n,
+            }
+        }
+    }
+}
+
+// Plays from a position to the end, with the block's working records from body on, and counts the records reached.
+pub(crate) fn run(
+    listing: &[u8],
+    constants: &[u64],
+    body: usize,
+    start: usize,
+    store: &mut [u64],
+) -> usize
+    requires { ⌜ length (now listing) ≤ 65536 ⌝ }
+    ensures { λ r. ⌜ Played (now (constants .entry)) (now (listing .entry)) body start (now (store .entry)) (now (store .exit)) r ⌝ }
+{
+    let mut at = start;
+    let mut played: usize = 0;
+    while at < listing.len() {
+        let t = run_record(listing, constants, body, at, store);
+        played += t.played;
+        at = t.at;
+        if t.done {
+            return played;
+        }
+    }
+    played
+}
