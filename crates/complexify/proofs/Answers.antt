@@ -1,0 +1,112 @@
+-- The entry's answer: a wrong setup, and the whole loop from the sheet's own constants on.
+use Prim.Native.Nat.{ℕ, _+_, _≤_, _<_}
+use mathlib.Core.Path.{_≡_, refl, sym, ap, _∙_, subst}
+use mathlib.Core.Bool.{Bool, true, false, cond}
+use mathlib.Core.List.{List, []}
+use native.Mathlib.Omega.{arith}
+use borrow.Author.Tests.{eq-eqb, ne-eqb, lt-ltb, le-ltb}
+use lib.ListN.{length, take, drop}
+use lib.Seq.{sets, length-sets}
+use Rattle.sheet.specs.declared.setup.Setup.{Setup}
+use Rattle.sheet.specs.Setup.{setup, constantsOf}
+use Rattle.sheet.specs.Instruction.{instructions}
+use Rattle.lowering.specs.Realness.{fresh}
+use Rattle.lowering.specs.Lower.{lowerFrom}
+use Rattle.complexifier.specs.declared.state.Complexifier.{Complexifier}
+use Rattle.complexifier.specs.Does.{state}
+use Rattle.complexify.specs.declared.entry.Answer.{Answer}
+use Rattle.complexify.specs.declared.turn.Stand.{Stand}
+use Rattle.complexify.specs.Entry.{wrongSetup, refusedSetup, lowering, answerOf, answer, listingAfter, constantsAfter}
+use Rattle.complexify.specs.Taken.{Ready, Kept, left, Ran}
+use Rattle.complexify.proofs.Copies.{length-constants, kept-first, taken-first, kept-then, kept-sets}
+use Rattle.complexify.proofs.Grown.{space-start}
+use Rattle.complexify.proofs.Setups.{Right, right}
+
+-- what the entry promises of its answer and of the two slices
+pub record Answered (sheet listing constants : List ℕ) (a : Answer) (listing' constants' : List ℕ) : Type 0 where
+  pub answered : a ≡ answer sheet listing constants
+  pub bytes : listing' ≡ listingAfter sheet listing constants
+  pub words : constants' ≡ constantsAfter sheet listing constants
+
+module _ (sheet listing constants : List ℕ) (x : Setup) (e : x ≡ setup sheet) where
+  refusing : {a : Answer} → wrongSetup sheet listing constants ≡ true → a ≡ refusedSetup → Answered sheet listing constants a listing constants
+  refusing w h = record { answered = h ∙ simp w; bytes = simp w; words = simp w }
+
+  pub wrong-sheet : {a : Answer} → (x .number ≡ 0 → ⊥) → a ≡ refusedSetup → Answered sheet listing constants a listing constants
+  wrong-sheet n h = refusing (simp (← e, ne-eqb _ _ n)) h
+
+  pub wrong-listing : {a : Answer} → x .number ≡ 0 → 65536 < length listing → a ≡ refusedSetup → Answered sheet listing constants a listing constants
+  wrong-listing n l h = refusing (simp (← e, eq-eqb _ _ n, lt-ltb _ _ l)) h
+
+  pub wrong-constants : {a : Answer} → x .number ≡ 0 → length listing ≤ 65536 → (length constants ≡ 256 → ⊥) → a ≡ refusedSetup
+      → Answered sheet listing constants a listing constants
+  wrong-constants n l c h = refusing (simp (← e, eq-eqb _ _ n, le-ltb _ _ l, ne-eqb _ _ c)) h
+
+  module _ (n : x .number ≡ 0) (l : length listing ≤ 65536) (c : length constants ≡ 256) where
+    pub known : Right sheet
+    known = right sheet (ap (λ x. x .number) (sym e) ∙ n)
+
+    pub own-few : x .count ≤ 251
+    own-few = let k = known .count in let f = ap (λ x. x .count) e in omega (arith, k, f)
+
+    rightly : wrongSetup sheet listing constants ≡ false
+    rightly = simp (← e, eq-eqb _ _ n, le-ltb _ _ l, eq-eqb _ _ c)
+
+    abbrev pub beginning : Complexifier → Stand
+    beginning low = record { at = x .start; index = 0; written = 0; count = x .count; low = low }
+
+    own-length : length (constantsOf sheet (x .count)) ≡ x .count
+    own-length = length-constants sheet (x .count) 0
+
+    first : {constants₁ : List ℕ} → constants₁ ≡ sets constants 0 (constantsOf sheet (x .count))
+        → take (x .count) constants₁ ≡ constantsOf sheet (x .count)
+    first k =
+        ap (take (x .count)) k
+        ∙ taken-first constants (constantsOf sheet (x .count)) (x .count) own-length (omega (arith, own-few, c))
+
+    pub begin-ready : {stage constants₁ : List ℕ} {low : Complexifier} → length stage ≡ 704 → constants₁ ≡ sets constants 0 (constantsOf sheet (x .count))
+        → Ready stage listing constants₁ (beginning low)
+    begin-ready {stage} {constants₁} g k =
+        record {
+          stage = g;
+          room = l;
+          written = omega arith;
+          words = ap length k ∙ length-sets constants 0 (constantsOf sheet (x .count)) ∙ c;
+          count = omega (arith, own-few);
+          space = space-start (take (x .count) constants₁) (let z = ap length (first k) ∙ own-length in omega (arith, own-few, z));
+        }
+
+    pub answering : {constants₁ listing' constants' : List ℕ} {low : Complexifier} {a : Answer}
+        → constants₁ ≡ sets constants 0 (constantsOf sheet (x .count))
+        → low ≡ record { real = fresh (x .places); «root_defined» = false }
+        → Ran (left (x .stable) (length listing) (x .count) sheet listing constants₁ (beginning low)) listing constants₁ (beginning low) listing' constants' a
+        → Answered sheet listing constants a listing' constants'
+    unfolding lowering
+    answering {constants₁} {listing'} {constants'} {low} {a} k h r =
+        record {
+          answered = r .answer ∙ ap answerOf whole ∙ sym (simp rightly);
+          bytes = kept-sets listing listing' 0 (a .written) (r .listing) ∙ ap (sets listing 0) (sym (r .bytes) ∙ ap (λ w. w .bytes) whole) ∙ sym (simp rightly);
+          words = kept-sets constants constants' 0 (a .count) kept ∙ ap (sets constants 0) (sym (r .consts) ∙ ap (λ w. w .state .consts) whole) ∙ sym (simp rightly);
+        }
+      where
+        whole : left (x .stable) (length listing) (x .count) sheet listing constants₁ (beginning low) ≡ lowering sheet listing
+        whole =
+            ap (λ low. left (x .stable) (length listing) (x .count) sheet listing constants₁ (beginning low)) h
+            ∙ ap
+            (λ k.
+            let d = instructions (x .count) (drop (x .start) sheet) in
+            lowerFrom (x .stable) (length listing) (d .items) (d .fault) 0 [] (record { real = fresh (x .places); rootDefined = false; consts = k }))
+            (first k)
+            ∙ ap
+            (λ y.
+            let d = instructions (y .count) (drop (y .start) sheet) in
+            lowerFrom (y .stable) (length listing) (d .items) (d .fault) 0 []
+            (record { real = fresh (y .places); rootDefined = false; consts = constantsOf sheet (y .count) }))
+            e
+
+        kept : Kept constants 0 constants' (a .count)
+        kept =
+            kept-then
+            (subst (λ l. Kept constants 0 l (x .count)) (sym k)
+            (kept-first constants (constantsOf sheet (x .count)) (x .count) own-length (omega (arith, own-few, c))))
+            (r .constants)

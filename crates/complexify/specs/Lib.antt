@@ -1,0 +1,4 @@
+pub mod Entry
+pub mod Added
+pub mod Ends
+pub mod Taken

@@ -1,0 +1,84 @@
+-- What the loop over a sheet's instructions keeps, and what one turn of it does.
+use Prim.Native.Nat.{ℕ, suc, _+_, _≤_, _<_}
+use mathlib.Core.Path.{_≡_}
+use mathlib.Core.Bool.{Bool, cond, false}
+use mathlib.Core.List.{List, [], _∷_}
+use lib.ListN.{length, take, drop}
+use lib.Dec.{ltb}
+use Rattle.mir.specs.declared.records.Instruction.{Instruction}
+use Rattle.sheet.specs.Instruction.{instructions}
+use Rattle.lowering.specs.Complexifier.{position, MIN_POSITIVE, INFINITY, QUARTER, EXP_MASK_FINITE, FLOOR_FINITE}
+use Rattle.lowering.specs.Lower.{Ended, ended, lowerFrom}
+use Rattle.complexifier.specs.Does.{state}
+use Rattle.complexify.specs.declared.entry.Answer.{Answer}
+use Rattle.complexify.specs.declared.turn.Stand.{Stand}
+use Rattle.complexify.specs.declared.turn.Next.{Next}
+use Rattle.complexify.specs.Entry.{answerOf}
+
+-- the constants, with one place for each of the five that stable mode names and that are not there yet
+unfoldable pub absent : ℕ → List ℕ → ℕ
+absent v k = cond (ltb (position v k) (length k)) 0 1
+
+abbrev pub space : List ℕ → ℕ
+space k =
+    length k + (absent MIN_POSITIVE k + (absent INFINITY k + (absent QUARTER k + (absent EXP_MASK_FINITE k + absent FLOOR_FINITE k))))
+
+-- the stage, the listing and the constants, where lowering stands
+pub record Ready (g l k : List ℕ) (p : Stand) : Type 0 where
+  pub stage : length g ≡ 704
+  pub room : length l ≤ 65536
+  pub written : p .written ≤ length l
+  pub words : length k ≡ 256
+  pub count : p .count ≤ 256
+  pub space : space (take (p .count) k) ≤ 256
+
+-- the first n elements grew to the first n', and every later one is as it was
+pub record Kept (l : List ℕ) (n : ℕ) (l' : List ℕ) (n' : ℕ) : Type 0 where
+  pub more : n ≤ n'
+  pub fits : n' ≤ length l
+  pub long : length l' ≡ length l
+  pub rest : drop n' l' ≡ drop n' l
+
+-- what the work ends with where it ends here, and what it ends with from here on
+abbrev pub endedAt : ℕ → List ℕ → List ℕ → Stand → Ended
+endedAt number listing constants p =
+    ended number (p .index) (take (p .written) listing) (state (p .low) (take (p .count) constants))
+
+abbrev pub goesOn : Bool → ℕ → List Instruction → ℕ → List ℕ → List ℕ → Stand → Ended
+goesOn stable room is fault listing constants p =
+    lowerFrom stable room is fault (p .index) (take (p .written) listing) (state (p .low) (take (p .count) constants))
+
+abbrev pub left : Bool → ℕ → ℕ → List ℕ → List ℕ → List ℕ → Stand → Ended
+left stable room own sheet listing constants p =
+    let d = instructions own (drop (p .at) sheet) in goesOn stable room (d .items) (d .fault) listing constants p
+
+-- what the slices keep in a turn
+pub record Turned (listing constants : List ℕ) (p : Stand) (listing' constants' : List ℕ) (r : Next) : Type 0 where
+  pub bytes : Kept listing (p .written) listing' (r .stand .written)
+  pub words : Kept constants (p .count) constants' (r .stand .count)
+  pub space : space (take (r .stand .count) constants') ≤ 256
+
+-- the instruction i lowered, whatever stands behind it
+pub record Lowered (stable : Bool) (i : Instruction) (next : ℕ) (listing constants : List ℕ) (p : Stand) (listing' constants' : List ℕ) (r : Next) : Type 0 where
+  pub same : (is : List Instruction) (fault : ℕ)
+      → goesOn stable (length listing) (i ∷ is) fault listing constants p
+      ≡ cond (r .done) (endedAt (r .number) listing' constants' (r .stand)) (goesOn stable (length listing) is fault listing' constants' (r .stand))
+  pub at : r .done ≡ false → r .stand .at ≡ next
+  pub index : r .done ≡ false → r .stand .index ≡ suc (p .index)
+  pub turned : Turned listing constants p listing' constants' r
+
+-- one turn
+pub record Taken (stable : Bool) (own : ℕ) (sheet listing constants : List ℕ) (p : Stand) (listing' constants' : List ℕ) (r : Next) : Type 0 where
+  pub same : left stable (length listing) own sheet listing constants p
+      ≡ cond (r .done) (endedAt (r .number) listing' constants' (r .stand)) (left stable (length listing) own sheet listing' constants' (r .stand))
+  pub on : r .done ≡ false → p .at < r .stand .at
+  pub index : r .done ≡ false → r .stand .index ≡ suc (p .index)
+  pub turned : Turned listing constants p listing' constants' r
+
+-- the whole loop
+pub record Ran (whole : Ended) (l k : List ℕ) (p : Stand) (l' k' : List ℕ) (r : Answer) : Type 0 where
+  pub answer : r ≡ answerOf whole
+  pub bytes : whole .bytes ≡ take (r .written) l'
+  pub consts : whole .state .consts ≡ take (r .count) k'
+  pub listing : Kept l (p .written) l' (r .written)
+  pub constants : Kept k (p .count) k' (r .count)

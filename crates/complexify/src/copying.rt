@@ -1,0 +1,44 @@
+// Finished bytes and constants, copied to the lent slices.
+ghost use mathlib.Core.Path.{_≡_};
+ghost use Prim.Native.Nat.{_+_, _≤_};
+ghost use lib.ListN.{length, take};
+ghost use lib.Seq.{sets};
+ghost use Rattle.sheet.specs.Setup.{constantsOf};
+use super::constants::Added;
+use sheet::setup::constant_at;
+
+// Bytes copied from `at` on.
+pub(crate) fn copy_bytes(from: &[u8], to: &mut [u8], at: usize)
+    requires { ⌜ at + length (now from) ≤ length (now to) ⌝ }
+    ensures { λ r. ⌜ now (to .exit) ≡ sets (now (to .entry)) at (now (from .entry)) ⌝ }
+{
+    let mut i: usize = 0;
+    while i < from.len() {
+        to[at + i] = from[i];
+        i += 1;
+    }
+}
+
+// Words copied from `at` on.
+pub(crate) fn copy_words(from: &[u64], to: &mut [u64], at: usize)
+    requires { ⌜ at + length (now from) ≤ length (now to) ⌝ }
+    ensures { λ r. ⌜ now (to .exit) ≡ sets (now (to .entry)) at (now (from .entry)) ⌝ }
+{
+    let mut i: usize = 0;
+    while i < from.len() {
+        to[at + i] = from[i];
+        i += 1;
+    }
+}
+
+// The sheet's first `count` constants.
+pub(crate) fn copy_constants(sheet: &[u8], count: usize, constants: &mut [u64])
+    requires { ⌜ count ≤ length (now constants) ⌝ }
+    ensures { λ r. ⌜ now (constants .exit) ≡ sets (now (constants .entry)) 0 (constantsOf (now (sheet .entry)) count) ⌝ }
+{
+    let mut i: usize = 0;
+    while i < count {
+        constants[i] = constant_at(sheet, i);
+        i += 1;
+    }
+}

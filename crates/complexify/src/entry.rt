@@ -1,0 +1,115 @@
+// The lowering entry.
+ghost use mathlib.Core.Path.{_≡_};
+ghost use Prim.Native.Nat.{_<_, _≤_};
+ghost use lib.ListN.{length};
+ghost use Rattle.complexify.specs.Entry as Spec;
+ghost use Rattle.complexify.specs.Taken.{Ready, Ran, left};
+use super::copying::copy_constants;
+use super::turn::Stand;
+use super::turn::one;
+use complexifier::state::Complexifier;
+use lowering::realness::Realness;
+use sheet::setup::read_setup;
+
+// The number (0: accepted), an instruction's index, the bytes written, the count of constants, and the final record of realness.
+pub struct Answer {
+    pub number: u8,
+    pub index: usize,
+    pub written: usize,
+    pub count: usize,
+    pub real: Realness,
+}
+
+fn answer_at(number: u8, p: Stand) -> Answer
+    ensures { λ r. ⌜ r ≡ record { number = number; index = p .index; written = p .written; count = p .count; real = p .low .real } ⌝ }
+{
+    let low = p.low;
+    let real = low.real;
+    Answer {
+        number: number,
+        index: p.index,
+        written: p.written,
+        count: p.count,
+        real: real,
+    }
+}
+
+fn wrong_setup() -> Answer
+    ensures { λ r. ⌜ r ≡ Spec.refusedSetup ⌝ }
+{
+    let places = [0u8; 64];
+    Answer {
+        number: 8,
+        index: 0,
+        written: 0,
+        count: 0,
+        real: Realness::fresh(places),
+    }
+}
+
+// The instructions from where lowering stands to the end of the sheet.
+fn run(
+    sheet: &[u8],
+    own: usize,
+    stable: bool,
+    start: Stand,
+    stage: &mut [u8],
+    listing: &mut [u8],
+    constants: &mut [u64],
+) -> Answer
+    requires { ⌜ Ready (now stage) (now listing) (now constants) start ⌝ }
+    requires { ⌜ (start .index ≤ start .at) × (length (now sheet) ≤ 16384) ⌝ }
+    ensures { λ r. ⌜ Ran (left stable (length (now (listing .entry))) own (now (sheet .entry)) (now (listing .entry)) (now (constants .entry)) start) (now (listing .entry)) (now (constants .entry)) start (now (listing .exit)) (now (constants .exit)) r ⌝ }
+{
+    let mut p = start;
+    while p.at < sheet.len() {
+        let t = one(sheet, own, stable, p, stage, listing, constants);
+        let next = t.stand;
+        if t.done {
+            return answer_at(t.number, next);
+        }
+        p = next;
+    }
+    answer_at(0, p)
+}
+
+pub fn lower(sheet: &[u8], listing: &mut [u8], constants: &mut [u64]) -> Answer
+    ensures { λ r. ⌜ (r ≡ Spec.answer (now (sheet .entry)) (now (listing .entry)) (now (constants .entry)))
+        × (now (listing .exit) ≡ Spec.listingAfter (now (sheet .entry)) (now (listing .entry)) (now (constants .entry)))
+        × (now (constants .exit) ≡ Spec.constantsAfter (now (sheet .entry)) (now (listing .entry)) (now (constants .entry))) ⌝ }
+{
+    let setup = read_setup(sheet);
+    if setup.number != 0 {
+        return wrong_setup();
+    }
+    if 65536 < listing.len() {
+        return wrong_setup();
+    }
+    if constants.len() != 256 {
+        return wrong_setup();
+    }
+    let own = setup.count;
+    copy_constants(sheet, own, constants);
+    let places = setup.places;
+    let low = Complexifier {
+        real: Realness::fresh(places),
+        root_defined: false,
+    };
+    let start = Stand {
+        at: setup.start,
+        index: 0,
+        written: 0,
+        count: own,
+        low: low,
+    };
+    let mut stage = [0u8; 704];
+    run(
+        sheet,
+        own,
+        setup.stable,
+        start,
+        &mut stage,
+        listing,
+        constants,
+    )
+}

@@ -1,0 +1,117 @@
+// One instruction of a sheet: read, lowered into the stage, and copied to the lent slices. What is refused has changed neither.
+ghost use mathlib.Core.Path.{_≡_};
+ghost use mathlib.Core.Bool.{true};
+ghost use Prim.Native.Nat.{_<_};
+ghost use lib.ListN.{length};
+ghost use Rattle.complexify.specs.Taken.{Ready, Lowered, Taken};
+use super::barred::barred;
+use super::copying::copy_bytes;
+use super::copying::copy_words;
+use super::rerun::rerun;
+use complexifier::state::Complexifier;
+use mir::records::Instruction;
+use sheet::reader::NextInstruction;
+use sheet::reader::read_instruction;
+
+// Where lowering stands: before the instruction at a position of the sheet, with this index, after so many bytes of the listing and so
+// many constants.
+pub struct Stand {
+    pub at: usize,
+    pub index: usize,
+    pub written: usize,
+    pub count: usize,
+    pub low: Complexifier,
+}
+
+// Where it stands next; done: the number refuses the instruction.
+pub struct Next {
+    pub done: bool,
+    pub number: u8,
+    pub stand: Stand,
+}
+
+fn refused(number: u8, stand: Stand) -> Next
+    ensures { λ r. ⌜ r ≡ record { done = true; number = number; stand = stand } ⌝ }
+{
+    Next {
+        done: true,
+        number: number,
+        stand: stand,
+    }
+}
+
+// The instruction that ends at `next`.
+fn lower_one(
+    instruction: Instruction,
+    next: usize,
+    stable: bool,
+    p: Stand,
+    stage: &mut [u8],
+    listing: &mut [u8],
+    constants: &mut [u64],
+) -> Next
+    requires { ⌜ Ready (now stage) (now listing) (now constants) p ⌝ }
+    requires { ⌜ p .index < 65536 ⌝ }
+    ensures { λ r. ⌜ Lowered stable instruction next (now (listing .entry)) (now (constants .entry)) p (now (listing .exit)) (now (constants .exit)) r ⌝ }
+{
+    let low = p.low;
+    let real = low.real;
+    if barred(stable, instruction, real) {
+        return refused(6, p);
+    }
+    let written = p.written;
+    let count = p.count;
+    let t = rerun(low, &constants[..count], stable, stage, 0, instruction);
+    let n = t.at;
+    if listing.len() - written < n {
+        return refused(7, p);
+    }
+    copy_bytes(&stage[..n], listing, written);
+    let added = t.added;
+    let words = added.words;
+    let more = added.count;
+    copy_words(&words[..more], constants, count);
+    let low = t.low;
+    let stand = Stand {
+        at: next,
+        index: p.index + 1,
+        written: written + n,
+        count: count + more,
+        low: low,
+    };
+    Next {
+        done: false,
+        number: 0,
+        stand: stand,
+    }
+}
+
+// One turn, of a sheet with `own` constants.
+pub(crate) fn one(
+    sheet: &[u8],
+    own: usize,
+    stable: bool,
+    p: Stand,
+    stage: &mut [u8],
+    listing: &mut [u8],
+    constants: &mut [u64],
+) -> Next
+    requires { ⌜ Ready (now stage) (now listing) (now constants) p ⌝ }
+    requires { ⌜ p .index < 65536 ⌝ }
+    requires { ⌜ p .at < length (now sheet) ⌝ }
+    ensures { λ r. ⌜ Taken stable own (now (sheet .entry)) (now (listing .entry)) (now (constants .entry)) p (now (listing .exit)) (now (constants .exit)) r ⌝ }
+{
+    let at = p.at;
+    match read_instruction(sheet, at, own) {
+        NextInstruction::Got(instruction, next) => lower_one(
+            instruction,
+            next,
+            stable,
+            p,
+            stage,
+            listing,
+            constants,
+        ),
+        NextInstruction::Refused(number) => refused(number, p),
+    }
+}

@@ -1,0 +1,14 @@
+-- `lines::emit::load_const` meets its contract.
+use borrow.Author.Needs.{needs}
+use mathlib.Core.Path.{_∙_}
+use Rattle.lines.proofs.emit.load_const.Statement.{statement}
+use Rattle.lines.proofs.emit.load_const.Tie as tie
+
+pub load-const-spec : {M : Type 1} → statement M
+load-const-spec =
+    tie.close
+    (tie.spec
+    (λ c κs. search needs)
+    (λ c κs. search needs)
+    (λ c. search needs)
+    (λ c. record { same = c .before .before .push-load-const .ensures ∙ simp (c .before .before .before .before .number .ensures) }))

@@ -1,0 +1,7 @@
+pub mod Realness
+pub mod Pushes
+pub mod Lines
+pub mod Complexifier
+pub mod Rerun
+pub mod Lower
+pub mod Paper

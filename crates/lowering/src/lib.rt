@@ -1,0 +1,2 @@
+// The realness record, and the definitions of lowering: specs/ follows complexify.rs method by method.
+pub mod realness;
