@@ -1,0 +1,168 @@
+-- The two sheets of specs/Examples.antt, computed.
+use mathlib.Core.Path.{_≡_, refl, sym, ap, _∙_}
+use mathlib.Core.Bool.{true, false, true≢false}
+use mathlib.Core.List.{List}
+use mathlib.Core.Option.{Option, some}
+use Prim.Native.Nat.{ℕ, zero, suc, _≤_}
+use native.Mathlib.Omega.{arith}
+use native.Mathlib.Decide.{ℕ-discrete}
+use lib.ListN.{getD, length-set}
+use lib.Seq.{getD-set-other}
+use lib.Dec.{lit<, lit≤}
+use lib.Ieee.{ofBits, toBits, mul}
+use Rattle.mir.specs.declared.ops.UniOp.{UniOp}
+use Rattle.mir.specs.declared.records.Instruction.{Instruction}
+use Rattle.mir.specs.Register.{re, im}
+use Rattle.mir.specs.Length.{lengthOf}
+use Rattle.mir.specs.Operation.{uniOps, binOps}
+use Rattle.mir.specs.Field.{wordAt, takesKind}
+use Rattle.mir.specs.Decode.{decoded}
+use Rattle.mir.specs.Encode.{recordOf}
+use Rattle.sheet.specs.Setup.{setup}
+use Rattle.sheet.specs.Instruction.{instructionFrom}
+use Rattle.records.specs.Record.{recordFrom}
+use Rattle.machine.specs.Machine.{Store, at, uniWord, binWord, writes, put, exec, ticks, play, reach}
+use Rattle.machine.specs.Jumps.{breach}
+use Rattle.machine.specs.Answer.{answer}
+use Rattle.lowering.specs.declared.realness.Realness.{Realness}
+use Rattle.lowering.specs.Realness.{isRealReg}
+use Rattle.lowering.specs.Lines.{realLines}
+use Rattle.lowering.specs.Complexifier as c
+use Rattle.lowering.specs.Complexifier.{then, unlisted, byOne}
+use Rattle.lowering.specs.Rerun.{rerunUni, rerun, complexify}
+use Rattle.lowering.specs.Lower.{lowerFrom}
+use Rattle.leftovers.specs.Leftovers.{Leftover, half, Alike, sheetOf, Accepted, Lowered, lowered, realAt, playOn, standing}
+use Rattle.leftovers.specs.Kept.{kept-im}
+use Rattle.leftovers.specs.Examples.{zeros, mixing, touched, Needed, clean, Met}
+use Rattle.leftovers.proofs.Words.{not-both}
+
+-- what is opened to lower a sheet, to stand at its points and to play on
+unfoldable lower : List ℕ → Lowered
+unfolding setup wordAt lowerFrom decoded instructionFrom takesKind lengthOf uniOps rerun rerunUni byOne realLines recordOf c.half re im complexify then unlisted
+lower bytes = lowered bytes 65536
+
+unfoldable stood : List ℕ → ℕ → Option Store
+unfolding lower zeros reach recordFrom binOps exec put writes binWord
+stood bytes i = standing (lower bytes) 0 zeros i
+
+unfoldable seventh : List ℕ → Store → ℕ
+unfolding lower answer recordFrom binOps play ticks exec put writes uniWord breach ofBits toBits mul
+seventh bytes σ = at (playOn (lower bytes) 1 σ .store) 7
+
+-- a change of the imaginary half of general 0, where it is recorded as real
+touches : (ρ : Realness) → isRealReg ρ 0 ≡ true → Alike ρ zeros touched
+unfolding touched im
+touches ρ e =
+    record {
+      words = unfold zeros in refl;
+      same = sym (length-set zeros 5 0x4000_0000_0000_0000);
+      outside = λ w n. go w n (ℕ-discrete w 5);
+    }
+  where
+    go : (w : ℕ) → (Leftover ρ w → ⊥) → Dec (w ≡ 5) → at zeros w ≡ at touched w
+    go w n (yes q) = absurd (n (rw q (half 0 (lit< tt) e)))
+    go w n (no q) = sym (getD-set-other zeros 5 w 0x4000_0000_0000_0000 0 q)
+
+-- ---- the first
+
+mixing-accepted : Accepted mixing 65536
+unfolding mixing lower
+mixing-accepted = record { right = refl; slice = lit≤ tt; number = refl }
+
+mixing-stands : stood mixing 1 ≡ some zeros
+unfolding mixing stood
+mixing-stands = refl
+
+mixing-real : isRealReg (realAt (sheetOf mixing) 1) 0 ≡ true
+unfolding mixing lower
+mixing-real = refl
+
+mixing-last : isRealReg (lower mixing .last) 1 ≡ false
+unfolding mixing lower
+mixing-last = refl
+
+without : seventh mixing zeros ≡ 0
+unfolding mixing zeros seventh
+without = refl
+
+with-it : seventh mixing touched ≡ 0x3ff0_0000_0000_0000
+unfolding mixing touched seventh
+with-it = refl
+
+pub needed : Needed
+unfolding lower stood seventh im
+needed =
+    record {
+      given =
+          record {
+            accepted = mixing-accepted;
+            words = unfold zeros in refl;
+            upper = unfold mixing in lit≤ tt;
+            stands = mixing-stands;
+            changed = touches (realAt (sheetOf mixing) 1) mixing-real;
+          };
+      differs = λ e. differ (sym without ∙ e .stores .outside 7 (not-both (lower mixing .last) 7 (kept-im 1 (lit< tt) mixing-last)) ∙ with-it);
+    }
+  where
+    differ : _≡_ {A = ℕ} 0 0x3ff0_0000_0000_0000 → ⊥
+    differ q = omega arith
+
+-- ---- the second
+
+clean-accepted : Accepted clean 65536
+unfolding clean lower
+clean-accepted = record { right = refl; slice = lit≤ tt; number = refl }
+
+clean-stands : stood clean 2 ≡ some zeros
+unfolding clean stood
+clean-stands = refl
+
+clean-real : isRealReg (realAt (sheetOf clean) 2) 0 ≡ true
+unfolding clean lower
+clean-real = refl
+
+clean-half : getD (sheetOf clean .instructions) 2 Instruction.Nop ≡ Instruction.Uni UniOp.Half 1 0
+unfolding clean lower
+clean-half = refl
+
+clean-after : (j : ℕ) → getD (sheetOf clean .instructions) (suc (suc (suc j))) Instruction.Nop ≡ Instruction.Nop
+unfolding clean lower
+clean-after j = refl
+
+clean-into : isRealReg (realAt (sheetOf clean) 2) 1 ≡ true
+unfolding clean lower
+clean-into = refl
+
+same-destination : (d a e b : ℕ) → Instruction.Uni UniOp.Half d a ≡ Instruction.Uni UniOp.Half e b → d ≡ e
+same-destination d a e b q = cc
+
+no-half : (d a : ℕ) → Instruction.Nop ≡ Instruction.Uni UniOp.Half d a → ⊥
+no-half d a q = let z : _≡_ {A = ℕ} 0 1 = cc in omega arith
+
+clean-unmixed : (j d a : ℕ) → 2 ≤ j → getD (sheetOf clean .instructions) j Instruction.Nop ≡ Instruction.Uni UniOp.Half d a
+    → isRealReg (realAt (sheetOf clean) j) d ≡ false → ⊥
+clean-unmixed zero d a h e q = omega arith
+clean-unmixed (suc zero) d a h e q = omega arith
+clean-unmixed (suc (suc zero)) d a h e q =
+    let x = same-destination 1 0 d a (sym clean-half ∙ e) in
+    true≢false (sym clean-into ∙ ap (isRealReg (realAt (sheetOf clean) 2)) x ∙ q)
+clean-unmixed (suc (suc (suc j))) d a h e q = no-half d a (sym (clean-after j) ∙ e)
+
+pub met : Met
+unfolding lower stood
+met =
+    record {
+      given =
+          record {
+            accepted = clean-accepted;
+            words = unfold zeros in refl;
+            upper = unfold clean in lit≤ tt;
+            stands = clean-stands;
+            changed = touches (realAt (sheetOf clean) 2) clean-real;
+          };
+      unmixed = λ m. clean-unmixed (m .j) (m .d) (m .a) (m .later) (m .isHalf) (m .intoComplex);
+      other = λ e. differ (unfold zeros touched in ap (λ (σ : Store). at σ 5) e);
+    }
+  where
+    differ : _≡_ {A = ℕ} 0 0x4000_0000_0000_0000 → ⊥
+    differ q = omega arith

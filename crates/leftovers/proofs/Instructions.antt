@@ -1,0 +1,165 @@
+-- Each instruction keeps the agreement and spares the general registers.
+use mathlib.Core.Path.{_≡_, refl}
+use mathlib.Core.Bool.{Bool, true, false, cond}
+use mathlib.Core.Logic.{inl, inr}
+use mathlib.Core.List.{List, [], _∷_}
+use Prim.Native.Nat.{ℕ, _≤_, _<_}
+use lib.ListN.{length}
+use lib.Dec.{lit<, lit≤, eqb}
+use Rattle.mir.specs.declared.ops.UniOp.{UniOp}
+use Rattle.mir.specs.declared.ops.BinOp.{BinOp}
+use Rattle.mir.specs.declared.ops.FusedOp.{FusedOp}
+use Rattle.mir.specs.declared.records.Work.{Work}
+use Rattle.mir.specs.declared.records.Instruction.{Instruction}
+use Rattle.mir.specs.Register.{re, im}
+use Rattle.mir.specs.Place.{index}
+use Rattle.lowering.specs.declared.realness.Realness.{Realness}
+use Rattle.lowering.specs.Realness.{isRealReg}
+use Rattle.lowering.specs.Lines.{realRootLines, eachLines}
+use Rattle.lowering.specs.Lines.{abs2Lines, timesILines, timesNegILines}
+use Rattle.lowering.specs.Lines.{realLines, imaginaryLines, conjugateLines, complexLines, orderLines, notLines}
+use Rattle.lowering.specs.Complexifier as c
+use Rattle.lowering.specs.Complexifier.{State, then, unlisted, copied, asReal, asComplex, bothAsReal, bothAsComplex}
+use Rattle.lowering.specs.Rerun.{rerunUni, rerunBin, rerunFused, rerun}
+use Rattle.leftovers.proofs.Names.{rename, good}
+use Rattle.leftovers.proofs.Stretch.{join}
+use Rattle.records.proofs.Holding.{Saved, Stacked}
+use Rattle.leftovers.specs.Leftovers.{IsDestination, IsOperand}
+use Rattle.leftovers.proofs.Methods.{Keeps, two, unary, binary, settled, fmov-keeps, abs-keeps, recip-keeps, plus-keeps, minus-keeps}
+use Rattle.leftovers.proofs.Methods.{times-keeps, divide-keeps, arith-keeps, and-keeps, or-keeps, xor-keeps}
+use Rattle.leftovers.proofs.Clearing.{neq-keeps, ifelse-keeps}
+use Rattle.leftovers.proofs.Places.{load-keeps, save-keeps}
+use Rattle.leftovers.proofs.Halving.{half-keeps}
+use Rattle.leftovers.proofs.Root.{Block, unlisted-keeps, root-keeps, root-defines, is-not-zero-keeps, frame-any}
+
+-- registers, places and constants within a sheet's limits
+abbrev pub InRange : ℕ → Instruction → Type 0
+InRange count Instruction.Nop = Unit {0}
+InRange count (Instruction.Uni op d a) = (d < 32) × (a < 32)
+InRange count (Instruction.Bi op d a b) = (d < 32) × (a < 32) × (b < 32)
+InRange count (Instruction.Mov d a) = (d < 32) × (a < 32)
+InRange count (Instruction.Load d p) = (d < 32) × (index p < 256)
+InRange count (Instruction.Save a p) = (a < 32) × (index p < 256) × Saved p
+InRange count (Instruction.LoadConst d i) = (d < 32) × (i < count)
+InRange count (Instruction.Fused op d a b c) = (d < 32) × (a < 32) × (b < 32) × (c < 32)
+InRange count (Instruction.IfElse d a b p) = (d < 32) × (a < 32) × (b < 32) × (index p < 256) × Stacked p
+InRange count (Instruction.LoadMath op d a p) = (d < 32) × (a < 32) × (index p < 256)
+InRange count (Instruction.LoadConstMath op d a i) = (d < 32) × (a < 32) × (i < count)
+
+-- the operands that are recorded as real before the instruction
+abbrev pub Cleared : Realness → Instruction → ℕ → Type 0
+Cleared ρ i r = IsOperand i r × (isRealReg ρ r ≡ true)
+
+-- an instruction is no Half of a register recorded as real into one recorded as complex
+abbrev pub HalfOk : Realness → Instruction → Type 0
+HalfOk ρ i = (d a : ℕ) → i ≡ Instruction.Uni UniOp.Half d a → isRealReg ρ a ≡ true → isRealReg ρ d ≡ true
+
+module _ (k : List ℕ) (B : List Work) (m : Bool) (s : State) where
+  real-root-keeps : (Z : ℕ → Type 0) (H : Type 0) (d a : ℕ) → d < 32 → a < 32 → (isRealReg (s .real) a ≡ true → Z a) → (x : Bool)
+      → isRealReg (s .real) a ≡ x
+      → (c.realRoot m x d a s .after .rootDefined ≡ true → Block k B)
+      → length (c.realRoot m x d a s .after .consts) ≤ length k → Keeps k B (λ r. r ≡ d) Z H s (c.realRoot m x d a s)
+  unfolding c.realRoot realRootLines good rename re im
+  real-root-keeps Z H d a hd ha z true e b hk =
+      settled k B Z H s d a a hd ha ha true true true e e (Work.Uni UniOp.Root 4 6 ∷ []) _ (tt, refl, tt)
+  real-root-keeps Z H d a hd ha z false e b hk = root-keeps k B Z H s d a hd ha z (b (root-defines m d a s)) m hk
+
+  uni-keeps : (Z : ℕ → Type 0) (H : Type 0) (op : UniOp) (d a : ℕ) → d < 32 → a < 32 → (isRealReg (s .real) a ≡ true → Z a)
+      → (H → op ≡ UniOp.Half → isRealReg (s .real) a ≡ true → isRealReg (s .real) d ≡ true)
+      → (rerunUni m op d a s .after .rootDefined ≡ true → Block k B) → length (rerunUni m op d a s .after .consts) ≤ length k
+      → Keeps k B (λ r. r ≡ d) Z H s (rerunUni m op d a s)
+  unfolding rerunUni eachLines notLines realLines imaginaryLines conjugateLines abs2Lines timesILines timesNegILines good rename
+  uni-keeps Z H UniOp.Neg d a hd ha z h b hk = unary k B Z H s (eachLines UniOp.Neg) copied d a hd ha (tt, refl, tt) (tt, refl, tt)
+  uni-keeps Z H UniOp.Not d a hd ha z h b hk = unary k B Z H s notLines asReal d a hd ha (tt, refl, tt) (tt, refl, tt)
+  uni-keeps Z H UniOp.Abs d a hd ha z h b hk = abs-keeps k B Z H s d a hd ha m (isRealReg (s .real) a) refl hk
+  uni-keeps Z H UniOp.Root d a hd ha z h b hk = root-keeps k B Z H s d a hd ha z (b (root-defines m d a s)) m hk
+  uni-keeps Z H UniOp.RealRoot d a hd ha z h b hk = real-root-keeps Z H d a hd ha z (isRealReg (s .real) a) refl b hk
+  uni-keeps Z H UniOp.Recip d a hd ha z h b hk = recip-keeps k B Z H s d a hd ha m (isRealReg (s .real) a) refl hk
+  uni-keeps Z H UniOp.Round d a hd ha z h b hk = unary k B Z H s (eachLines UniOp.Round) copied d a hd ha (tt, refl, tt) (tt, refl, tt)
+  uni-keeps Z H UniOp.Floor d a hd ha z h b hk = unlisted-keeps k B _ Z H s
+  uni-keeps Z H UniOp.Ceiling d a hd ha z h b hk = unlisted-keeps k B _ Z H s
+  uni-keeps Z H UniOp.Trunc d a hd ha z h b hk = unlisted-keeps k B _ Z H s
+  uni-keeps Z H UniOp.Real d a hd ha z h b hk = unary k B Z H s realLines asReal d a hd ha (tt, refl, tt) (tt, refl, tt)
+  uni-keeps Z H UniOp.Imaginary d a hd ha z h b hk = unary k B Z H s imaginaryLines asReal d a hd ha (tt, refl, tt) (tt, refl, tt)
+  uni-keeps Z H UniOp.Conjugate d a hd ha z h b hk = unary k B Z H s conjugateLines copied d a hd ha (tt, refl, tt) (tt, refl, tt)
+  uni-keeps Z H UniOp.Half d a hd ha z h b hk = half-keeps k B Z H s d a hd ha (λ x. h x refl)
+  uni-keeps Z H UniOp.IsZero d a hd ha z h b hk = unlisted-keeps k B _ Z H s
+  uni-keeps Z H UniOp.IsNotZero d a hd ha z h b hk = is-not-zero-keeps k B Z H s d a hd ha z
+  uni-keeps Z H UniOp.Sign d a hd ha z h b hk = unary k B Z H s (eachLines UniOp.Sign) copied d a hd ha (tt, refl, tt) (tt, refl, tt)
+  uni-keeps Z H UniOp.Abs2 d a hd ha z h b hk = unary k B Z H s abs2Lines copied d a hd ha (tt, refl, tt) (tt, refl, tt)
+  uni-keeps Z H UniOp.TimesI d a hd ha z h b hk = unary k B Z H s timesILines asComplex d a hd ha (tt, refl, tt) (tt, refl, tt)
+  uni-keeps Z H UniOp.TimesNegI d a hd ha z h b hk = unary k B Z H s timesNegILines asComplex d a hd ha (tt, refl, tt) (tt, refl, tt)
+
+  bin-keeps : (Z : ℕ → Type 0) (H : Type 0) (op : BinOp) (d a b : ℕ) → d < 32 → a < 32 → b < 32 → (isRealReg (s .real) a ≡ true → Z a)
+      → (isRealReg (s .real) b ≡ true → Z b)
+      → length (rerunBin m op d a b s .after .consts) ≤ length k
+      → Keeps k B (λ r. r ≡ d) Z H s (rerunBin m op d a b s)
+  unfolding rerunBin orderLines complexLines good rename
+  bin-keeps Z H BinOp.Plus d a b hd ha hb za zb hk = plus-keeps k B Z H s d a b hd ha hb
+  bin-keeps Z H BinOp.Minus d a b hd ha hb za zb hk = minus-keeps k B Z H s d a b hd ha hb
+  bin-keeps Z H BinOp.Times d a b hd ha hb za zb hk = times-keeps k B Z H s d a b hd ha hb
+  bin-keeps Z H BinOp.Divide d a b hd ha hb za zb hk = divide-keeps k B Z H s d a b hd ha hb m hk
+  bin-keeps Z H BinOp.GreaterThan d a b hd ha hb za zb hk =
+      binary k B Z H s (orderLines BinOp.GreaterThan) bothAsReal d a b hd ha hb (tt, refl, tt) (tt, refl, tt) (tt, refl, tt) (tt, refl, tt)
+  bin-keeps Z H BinOp.GreaterThanEqual d a b hd ha hb za zb hk = unlisted-keeps k B _ Z H s
+  bin-keeps Z H BinOp.LittleThan d a b hd ha hb za zb hk =
+      binary k B Z H s (orderLines BinOp.LittleThan) bothAsReal d a b hd ha hb (tt, refl, tt) (tt, refl, tt) (tt, refl, tt) (tt, refl, tt)
+  bin-keeps Z H BinOp.LittleThanEqual d a b hd ha hb za zb hk = unlisted-keeps k B _ Z H s
+  bin-keeps Z H BinOp.Equal d a b hd ha hb za zb hk = unlisted-keeps k B _ Z H s
+  bin-keeps Z H BinOp.NotEqual d a b hd ha hb za zb hk = neq-keeps k B Z H s d a b hd ha hb za zb
+  bin-keeps Z H BinOp.And d a b hd ha hb za zb hk = and-keeps k B Z H s d a b hd ha hb
+  bin-keeps Z H BinOp.AndNot d a b hd ha hb za zb hk = unlisted-keeps k B _ Z H s
+  bin-keeps Z H BinOp.Or d a b hd ha hb za zb hk = or-keeps k B Z H s d a b hd ha hb
+  bin-keeps Z H BinOp.Xor d a b hd ha hb za zb hk = xor-keeps k B Z H s d a b hd ha hb
+  bin-keeps Z H BinOp.Complex d a b hd ha hb za zb hk =
+      binary k B Z H s complexLines bothAsComplex d a b hd ha hb (tt, refl, tt) (tt, refl, tt) (tt, refl, tt) (tt, refl, tt)
+
+  fused-keeps : (Z : ℕ → Type 0) (H : Type 0) (op : FusedOp) (d a b e : ℕ) → d < 32 → a < 32 → b < 32 → e < 32
+      → Keeps k B (λ r. r ≡ d) Z H s (rerunFused op d a b e s)
+  unfolding rerunFused c.fusedMulAdd c.fusedMulSub c.fusedNegMulAdd c.fusedNegMulSub then eachLines good rename
+  fused-keeps Z H op d a b e hd ha hb he = go op
+    where
+      s' : State
+      s' = c.times 30 a b s .after
+
+      times : Keeps k B (λ r. r ≡ d) Z H s (c.times 30 a b s)
+      times = frame-any (λ r. r ≡ d) 30 (lit≤ tt) (times-keeps k B Z H s 30 a b (lit< tt) ha hb)
+
+      go : (op : FusedOp) → Keeps k B (λ r. r ≡ d) Z H s (rerunFused op d a b e s)
+      go FusedOp.MulAdd = join times (plus-keeps k B Z H s' d 30 e hd (lit< tt) he)
+      go FusedOp.MulSub = join times (minus-keeps k B Z H s' d 30 e hd (lit< tt) he)
+      go FusedOp.NegMulAdd = join times (minus-keeps k B Z H s' d e 30 hd he (lit< tt))
+      go FusedOp.NegMulSub =
+          join (join times (plus-keeps k B Z H s' d 30 e hd (lit< tt) he))
+          (unary k B Z H (c.plus d 30 e s' .after) (eachLines UniOp.Neg) copied d d hd hd (tt, refl, tt) (tt, refl, tt))
+
+  load-const-keeps : (Z : ℕ → Type 0) (H : Type 0) (d i : ℕ) → d < 32 → i < length k → Keeps k B (λ r. r ≡ d) Z H s (c.loadConst d i s)
+  unfolding c.loadConst good rename re im
+  load-const-keeps Z H d i hd hi = settled k B Z H s d d d hd hd hd _ _ true refl refl (Work.LoadConst 4 i ∷ []) _ (tt, refl, (hi, tt))
+
+-- each instruction keeps the agreement, and spares the general registers
+pub rerun-keeps : (k : List ℕ) (B : List Work) (m : Bool) (i : Instruction) (s : State) → InRange (length k) i
+    → (rerun m i s .after .rootDefined ≡ true → Block k B) → length (rerun m i s .after .consts) ≤ length k
+    → Keeps k B (IsDestination i) (Cleared (s .real) i) (HalfOk (s .real) i) s (rerun m i s)
+unfolding rerun then
+rerun-keeps k B m Instruction.Nop s v b hk = unlisted-keeps k B _ _ _ s
+rerun-keeps k B m (Instruction.Uni op d a) s v b hk =
+    uni-keeps k B m s _ _ op d a (v .0) (v .1) (λ e. (refl, e)) (λ h e. h d a (rw e)) b hk
+rerun-keeps k B m (Instruction.Bi op d a c) s v b hk =
+    bin-keeps k B m s _ _ op d a c (v .0) (v .1) (v .2) (λ e. (inl refl, e)) (λ e. (inr refl, e)) hk
+rerun-keeps k B m (Instruction.Mov d a) s v b hk =
+    let i = Instruction.Mov d a in
+    two (λ q. Keeps k B (λ r. r ≡ d) (Cleared (s .real) i) (HalfOk (s .real) i) s (cond q (unlisted s) (c.fmov d a s)))
+    (unlisted-keeps k B _ _ _ s) (fmov-keeps k B _ _ s d a (v .0) (v .1)) (eqb d a)
+rerun-keeps k B m (Instruction.Load d p) s v b hk = load-keeps k B _ _ s d p (v .0) (v .1)
+rerun-keeps k B m (Instruction.Save a p) s v b hk = save-keeps k B _ _ _ a p (v .0) (v .1) (v .2) s (λ e. (refl, e))
+rerun-keeps k B m (Instruction.LoadConst d i) s v b hk = load-const-keeps k B m s _ _ d i (v .0) (v .1)
+rerun-keeps k B m (Instruction.Fused op d a b' c) s v b hk = fused-keeps k B m s _ _ op d a b' c (v .0) (v .1) (v .2) (v .3)
+rerun-keeps k B m (Instruction.IfElse d a c p) s v b hk =
+    ifelse-keeps k B _ _ s d a c (v .0) (v .1) (v .2) (λ e. (inl refl, e)) (λ e. (inr refl, e)) p (v .3) (v .4)
+rerun-keeps k B m (Instruction.LoadMath op d a p) s v b hk =
+    join (frame-any _ 31 (lit≤ tt) (load-keeps k B _ _ s 31 p (lit< tt) (v .2)))
+    (arith-keeps k B _ _ (c.loadFrom 31 p s .after) d a 31 (v .0) (v .1) (lit< tt) m op hk)
+rerun-keeps k B m (Instruction.LoadConstMath op d a i) s v b hk =
+    join (frame-any _ 31 (lit≤ tt) (load-const-keeps k B m s _ _ 31 i (lit< tt) (v .2)))
+    (arith-keeps k B _ _ (c.loadConst 31 i s .after) d a 31 (v .0) (v .1) (lit< tt) m op hk)

@@ -1,0 +1,377 @@
+-- Which block a Call of a listing finds: the one that the first Root listed.
+use mathlib.Core.Path.{_≡_, refl, sym, ap, _∙_}
+use mathlib.Core.Bool.{Bool, true, false, cond, true≢false}
+use mathlib.Core.List.{List, [], _∷_, _++_, map, append-assoc, map-append}
+use Prim.Native.Nat.{ℕ}
+use lib.Dec.{eqb, ltb}
+use Rattle.mir.specs.declared.ops.UniOp.{UniOp}
+use Rattle.mir.specs.declared.ops.BinOp.{BinOp}
+use Rattle.mir.specs.declared.ops.ArithOp.{ArithOp}
+use Rattle.mir.specs.declared.ops.FusedOp.{FusedOp}
+use Rattle.mir.specs.declared.records.Loc.{Loc}
+use Rattle.mir.specs.declared.records.Work.{Work}
+use Rattle.mir.specs.declared.records.Record.{Record}
+use Rattle.mir.specs.declared.records.Instruction.{Instruction}
+use Rattle.mir.specs.Register.{re}
+use Rattle.machine.specs.Machine.{works, seek, isLabel, block}
+use Rattle.lowering.specs.Realness.{isRealReg, isRealLoc}
+use Rattle.lowering.specs.Lines.{ensureLines, stableDivideLines, stableRecipLines, stableAbsLines}
+use Rattle.lowering.specs.Lines.{realRootLines, fmovLines, loadLines, saveLines, eachLines}
+use Rattle.lowering.specs.Lines.{absLines, abs2Lines, timesILines, timesNegILines, recipLines, halfLines}
+use Rattle.lowering.specs.Lines.{plusLines, minusLines, timesLines, divideLines}
+use Rattle.lowering.specs.Lines.{realLines, imaginaryLines, conjugateLines, complexLines, orderLines, neqLines, bitsLines, notLines, ifelseLines}
+use Rattle.lowering.specs.Complexifier as c
+use Rattle.lowering.specs.Complexifier.{State, Out, then, unlisted, emit, byOne, byTwo, withThree, promoted, copied, asReal, asComplex}
+use Rattle.lowering.specs.Complexifier.{bothAsReal, bothAsComplex}
+use Rattle.lowering.specs.Rerun.{rerunUni, rerunBin, rerunFused, rerunArith, rerun, complexify}
+use Rattle.lowering.specs.Complexifier.{aroundBlock, threeLines, withReal, savedReal}
+use Rattle.leftovers.proofs.Methods.{two}
+use Rattle.leftovers.proofs.Constants.{Stable, min-positive, infinity, quarter, mask, floor, Grown, same, grown-then, grown-three}
+use Rattle.leftovers.proofs.Root.{Block, root-block-fine}
+
+-- ---- what an instruction lists
+
+-- records that work on words, and Calls
+abbrev pub IsPlain : Record → Type 0
+IsPlain (Record.Work w) = Unit {0}
+IsPlain (Record.Label l) = ⊥
+IsPlain (Record.Branch l) = ⊥
+IsPlain (Record.Call l) = l ≡ 1
+
+abbrev pub Plain : List Record → Type 0
+Plain [] = Unit {0}
+Plain (r ∷ rs) = IsPlain r × Plain rs
+
+pub plain-append : (rs rs' : List Record) → Plain rs → Plain rs' → Plain (rs ++ rs')
+plain-append [] rs' p q = q
+plain-append (r ∷ rs) rs' p q = (p .0, plain-append rs rs' (p .1) q)
+
+pub plain-works : (l : List Work) → Plain (map Record.Work l)
+plain-works [] = tt
+plain-works (w ∷ l) = (tt, plain-works l)
+
+-- a method that only lists working records
+pub record Quiet (s : State) (o : Out) : Type 0 where
+  pub rooted : o .after .rootDefined ≡ s .rootDefined
+  pub lines : List Work
+  pub listed : o .records ≡ map Record.Work lines
+  pub grown : Grown (s .consts) (o .after .consts)
+
+quiet-plain : {s : State} {o : Out} → Quiet s o → Plain (o .records)
+quiet-plain q = rw (q .listed) (plain-works (q .lines))
+
+quiet-then : (s : State) (o : Out) (f : State → Out) → Quiet s o → Quiet (o .after) (f (o .after)) → Quiet s (then o f)
+unfolding then
+quiet-then s o f p q = record {
+  rooted = q .rooted ∙ p .rooted;
+  lines = p .lines ++ q .lines;
+  listed = rw (p .listed, q .listed) (sym (map-append Record.Work (p .lines) (q .lines)));
+  grown = grown-then (p .grown) (q .grown);
+}
+
+quiet-none : (s : State) → Quiet s (unlisted s)
+unfolding unlisted
+quiet-none s = record { rooted = refl; lines = []; listed = refl; grown = same }
+
+quiet-ensure : (a : ℕ) (s : State) → Quiet s (c.ensureComplex a s)
+unfolding c.ensureComplex
+quiet-ensure a s = record { rooted = refl; lines = ensureLines (isRealReg (s .real) a) a; listed = refl; grown = same }
+
+quiet-fmov : (d a : ℕ) (s : State) → Quiet s (c.fmov d a s)
+unfolding c.fmov byOne
+quiet-fmov d a s = record { rooted = refl; lines = fmovLines (isRealReg (s .real) a) d a; listed = refl; grown = same }
+
+quiet-by₁ : (L : Bool → ℕ → ℕ → List Work) (g : Bool → Bool) (d a : ℕ) (s : State) → Quiet s (byOne L g d a s)
+unfolding byOne
+quiet-by₁ L g d a s = record { rooted = refl; lines = L (isRealReg (s .real) a) d a; listed = refl; grown = same }
+
+quiet-by₂ : (L : Bool → Bool → ℕ → ℕ → ℕ → List Work) (g : Bool → Bool → Bool) (d a b : ℕ) (s : State) → Quiet s (byTwo L g d a b s)
+unfolding byTwo
+quiet-by₂ L g d a b s =
+    record { rooted = refl; lines = L (isRealReg (s .real) a) (isRealReg (s .real) b) d a b; listed = refl; grown = same }
+
+quiet-three : {u v w : ℕ} → Stable u → Stable v → Stable w → (L : ℕ → ℕ → ℕ → List Work) (d : ℕ) (s : State)
+    → Quiet s (withThree u v w L d s)
+unfolding withThree
+quiet-three {u} {v} {w} a b c L d s =
+    record { rooted = refl; lines = threeLines u v w L (s .consts); listed = refl; grown = grown-three a b c }
+
+quiet-load : (d : ℕ) (p : Loc) (s : State) → Quiet s (c.loadFrom d p s)
+unfolding c.loadFrom
+quiet-load d p s = record { rooted = refl; lines = loadLines (isRealLoc (s .real .places) p) d p; listed = refl; grown = same }
+
+quiet-load-const : (d i : ℕ) (s : State) → Quiet s (c.loadConst d i s)
+unfolding c.loadConst
+quiet-load-const d i s = record { rooted = refl; lines = Work.LoadConst (re d) i ∷ []; listed = refl; grown = same }
+
+quiet-abs : (m x : Bool) (d a : ℕ) (s : State) → Quiet s (c.abs m x d a s)
+unfolding c.abs
+quiet-abs m true d a s = record { rooted = refl; lines = absLines true d a; listed = refl; grown = same }
+quiet-abs true false d a s = quiet-three floor mask infinity (stableAbsLines d a) d s
+quiet-abs false false d a s = record { rooted = refl; lines = absLines false d a; listed = refl; grown = same }
+
+quiet-recip : (m x : Bool) (d a : ℕ) (s : State) → Quiet s (c.recip m x d a s)
+unfolding c.recip
+quiet-recip m true d a s = record { rooted = refl; lines = recipLines true d a; listed = refl; grown = same }
+quiet-recip true false d a s = quiet-three min-positive infinity quarter (stableRecipLines d a) d s
+quiet-recip false false d a s = record { rooted = refl; lines = recipLines false d a; listed = refl; grown = same }
+
+quiet-divide : (m x y : Bool) (d a b : ℕ) (s : State) → Quiet s (c.divideBy m x y d a b s)
+unfolding c.divideBy
+quiet-divide m x true d a b s = record { rooted = refl; lines = divideLines x true d a b; listed = refl; grown = same }
+quiet-divide true x false d a b s = quiet-three min-positive infinity quarter (stableDivideLines (ltb d 30) x d a b) d s
+quiet-divide false x false d a b s = record { rooted = refl; lines = divideLines x false d a b; listed = refl; grown = same }
+
+quiet-arith : (m : Bool) (op : ArithOp) (d a b : ℕ) (s : State) → Quiet s (rerunArith m op d a b s)
+unfolding rerunArith c.plus c.minus c.times c.divide
+quiet-arith m ArithOp.Plus d a b s = quiet-by₂ plusLines promoted d a b s
+quiet-arith m ArithOp.Minus d a b s = quiet-by₂ minusLines promoted d a b s
+quiet-arith m ArithOp.Times d a b s = quiet-by₂ timesLines promoted d a b s
+quiet-arith m ArithOp.Divide d a b s = quiet-divide m (isRealReg (s .real) a) (isRealReg (s .real) b) d a b s
+
+quiet-neq : (d a b : ℕ) (s : State) → Quiet s (c.neq d a b s)
+unfolding c.neq
+quiet-neq d a b s =
+    quiet-then s _ (λ s. emit s (neqLines d a b) d true)
+    (quiet-then s _ (c.ensureComplex b) (quiet-ensure a s) (quiet-ensure b _))
+    (record { rooted = refl; lines = neqLines d a b; listed = refl; grown = same })
+
+quiet-ifelse : (d a b : ℕ) (p : Loc) (s : State) → Quiet s (c.ifelse d a b p s)
+unfolding c.ifelse
+quiet-ifelse d a b p s =
+    quiet-then s _ (λ s. emit s (ifelseLines d a b p) d false)
+    (quiet-then s _ (c.ensureComplex b) (quiet-ensure a s) (quiet-ensure b _))
+    (record { rooted = refl; lines = ifelseLines d a b p; listed = refl; grown = same })
+
+quiet-save : (a : ℕ) (p : Loc) (s : State) → Quiet s (c.saveTo a p s)
+unfolding c.saveTo
+quiet-save a p s =
+    quiet-then s _ (λ s. record {
+      records =
+          map Record.Work (saveLines a p);
+      after = withReal s (savedReal p (s .real));
+    }) (quiet-ensure a s) (record { rooted = refl; lines = saveLines a p; listed = refl; grown = same })
+
+quiet-bin : (m : Bool) (op : BinOp) (d a b : ℕ) (s : State) → Quiet s (rerunBin m op d a b s)
+unfolding rerunBin c.plus c.minus c.times c.divide c.bits
+quiet-bin m BinOp.Plus d a b s = quiet-by₂ plusLines promoted d a b s
+quiet-bin m BinOp.Minus d a b s = quiet-by₂ minusLines promoted d a b s
+quiet-bin m BinOp.Times d a b s = quiet-by₂ timesLines promoted d a b s
+quiet-bin m BinOp.Divide d a b s = quiet-divide m (isRealReg (s .real) a) (isRealReg (s .real) b) d a b s
+quiet-bin m BinOp.GreaterThan d a b s = quiet-by₂ (orderLines BinOp.GreaterThan) bothAsReal d a b s
+quiet-bin m BinOp.GreaterThanEqual d a b s = quiet-none s
+quiet-bin m BinOp.LittleThan d a b s = quiet-by₂ (orderLines BinOp.LittleThan) bothAsReal d a b s
+quiet-bin m BinOp.LittleThanEqual d a b s = quiet-none s
+quiet-bin m BinOp.Equal d a b s = quiet-none s
+quiet-bin m BinOp.NotEqual d a b s = quiet-neq d a b s
+quiet-bin m BinOp.And d a b s = quiet-by₂ (bitsLines BinOp.And) promoted d a b s
+quiet-bin m BinOp.AndNot d a b s = quiet-none s
+quiet-bin m BinOp.Or d a b s = quiet-by₂ (bitsLines BinOp.Or) promoted d a b s
+quiet-bin m BinOp.Xor d a b s = quiet-by₂ (bitsLines BinOp.Xor) promoted d a b s
+quiet-bin m BinOp.Complex d a b s = quiet-by₂ complexLines bothAsComplex d a b s
+
+quiet-fused : (op : FusedOp) (d a b e : ℕ) (s : State) → Quiet s (rerunFused op d a b e s)
+unfolding rerunFused c.fusedMulAdd c.fusedMulSub c.fusedNegMulAdd c.fusedNegMulSub c.times c.plus c.minus
+quiet-fused FusedOp.MulAdd d a b e s =
+    quiet-then s _ (c.plus d 30 e) (quiet-by₂ timesLines promoted 30 a b s) (quiet-by₂ plusLines promoted d 30 e _)
+quiet-fused FusedOp.MulSub d a b e s =
+    quiet-then s _ (c.minus d 30 e) (quiet-by₂ timesLines promoted 30 a b s) (quiet-by₂ minusLines promoted d 30 e _)
+quiet-fused FusedOp.NegMulAdd d a b e s =
+    quiet-then s _ (c.minus d e 30) (quiet-by₂ timesLines promoted 30 a b s) (quiet-by₂ minusLines promoted d e 30 _)
+quiet-fused FusedOp.NegMulSub d a b e s =
+    quiet-then s _ (byOne (eachLines UniOp.Neg) copied d d)
+    (quiet-then s _ (c.plus d 30 e) (quiet-by₂ timesLines promoted 30 a b s) (quiet-by₂ plusLines promoted d 30 e _))
+    (quiet-by₁ (eachLines UniOp.Neg) copied d d _)
+
+-- what an instruction lists: working records; a Call of the block that stands already; or a Call and then the block
+pub data Said (s : State) (o : Out) : Type 0 where
+  quiet : Quiet s o → Said s o
+  calls : s .rootDefined ≡ true → o .after .rootDefined ≡ true → Plain (o .records) → Grown (s .consts) (o .after .consts) → Said s o
+  opens : s .rootDefined ≡ false → o .after .rootDefined ≡ true → (first : List Record) → Plain first
+      → (t : List Work) → ((k : List ℕ) → Block k t) → o .records ≡ first ++ aroundBlock t → Grown (s .consts) (o .after .consts) → Said s o
+
+block-grown : (m : Bool) (k : List ℕ) → Grown k (c.blockConsts m k)
+unfolding c.blockConsts
+block-grown true k = grown-three floor mask infinity
+block-grown false k = same
+
+define-said : (m : Bool) (s : State) (o : Out) → o .after .rootDefined ≡ s .rootDefined → Plain (o .records)
+    → Grown (s .consts) (o .after .consts) → (x : Bool) → o .after .rootDefined ≡ x → Said s (then o (c.defineRoot x m))
+unfolding then c.defineRoot unlisted
+define-said m s o e p g true h = calls (sym e ∙ h) h (plain-append (o .records) [] p tt) g
+define-said m s o e p g false h =
+    opens (sym e ∙ h) refl (o .records) p (c.blockOf m (o .after .consts)) (λ k. root-block-fine k m (o .after .consts)) refl
+    (grown-then g (block-grown m (o .after .consts)))
+
+root-said : (m : Bool) (d a : ℕ) (s : State) → Said s (c.root m d a s)
+unfolding c.root
+root-said m d a s = unfold then in define-said m s o3 equal before more-consts (o3 .after .rootDefined) refl
+  where
+    o1 : Out
+    o1 = then (c.ensureComplex a s) (c.fmov 31 a)
+
+    q1 : Quiet s o1
+    q1 = quiet-then s _ (c.fmov 31 a) (quiet-ensure a s) (quiet-fmov 31 a _)
+
+    o2 : Out
+    o2 = then o1 c.callRoot
+
+    o3 : Out
+    o3 = then o2 (c.fmov d 30)
+
+    q3 : Quiet (o2 .after) (c.fmov d 30 (o2 .after))
+    q3 = quiet-fmov d 30 (o2 .after)
+
+    equal : o3 .after .rootDefined ≡ s .rootDefined
+    equal = unfold then c.callRoot in (q3 .rooted ∙ q1 .rooted)
+
+    more-consts : Grown (s .consts) (o3 .after .consts)
+    more-consts = unfold then c.callRoot in grown-then (q1 .grown) (q3 .grown)
+
+    before : Plain (o3 .records)
+    before = unfold then c.callRoot in
+        plain-append (o1 .records ++ Record.Call 1 ∷ []) (c.fmov d 30 (o2 .after) .records)
+        (plain-append (o1 .records) (Record.Call 1 ∷ []) (quiet-plain q1) (refl, tt)) (quiet-plain q3)
+
+real-root-said : (m x : Bool) (d a : ℕ) (s : State) → Said s (c.realRoot m x d a s)
+unfolding c.realRoot
+real-root-said m true d a s = quiet (record { rooted = refl; lines = realRootLines d a; listed = refl; grown = same })
+real-root-said m false d a s = root-said m d a s
+
+uni-said : (m : Bool) (op : UniOp) (d a : ℕ) (s : State) → Said s (rerunUni m op d a s)
+unfolding rerunUni c.half c.bits
+uni-said m UniOp.Neg d a s = quiet (quiet-by₁ (eachLines UniOp.Neg) copied d a s)
+uni-said m UniOp.Not d a s = quiet (quiet-by₁ notLines asReal d a s)
+uni-said m UniOp.Abs d a s = quiet (quiet-abs m (isRealReg (s .real) a) d a s)
+uni-said m UniOp.Root d a s = root-said m d a s
+uni-said m UniOp.RealRoot d a s = real-root-said m (isRealReg (s .real) a) d a s
+uni-said m UniOp.Recip d a s = quiet (quiet-recip m (isRealReg (s .real) a) d a s)
+uni-said m UniOp.Round d a s = quiet (quiet-by₁ (eachLines UniOp.Round) copied d a s)
+uni-said m UniOp.Floor d a s = quiet (quiet-none s)
+uni-said m UniOp.Ceiling d a s = quiet (quiet-none s)
+uni-said m UniOp.Trunc d a s = quiet (quiet-none s)
+uni-said m UniOp.Real d a s = quiet (quiet-by₁ realLines asReal d a s)
+uni-said m UniOp.Imaginary d a s = quiet (quiet-by₁ imaginaryLines asReal d a s)
+uni-said m UniOp.Conjugate d a s = quiet (quiet-by₁ conjugateLines copied d a s)
+uni-said m UniOp.Half d a s = quiet (record { rooted = refl; lines = halfLines d a; listed = refl; grown = same })
+uni-said m UniOp.IsZero d a s = quiet (quiet-none s)
+uni-said m UniOp.IsNotZero d a s =
+    quiet (quiet-then s _ (c.neq d a 31) (quiet-by₂ (bitsLines BinOp.Xor) promoted 31 31 31 s) (quiet-neq d a 31 _))
+uni-said m UniOp.Sign d a s = quiet (quiet-by₁ (eachLines UniOp.Sign) copied d a s)
+uni-said m UniOp.Abs2 d a s = quiet (quiet-by₁ abs2Lines copied d a s)
+uni-said m UniOp.TimesI d a s = quiet (quiet-by₁ timesILines asComplex d a s)
+uni-said m UniOp.TimesNegI d a s = quiet (quiet-by₁ timesNegILines asComplex d a s)
+
+rerun-said : (m : Bool) (i : Instruction) (s : State) → Said s (rerun m i s)
+unfolding rerun
+rerun-said m Instruction.Nop s = quiet (quiet-none s)
+rerun-said m (Instruction.Uni op d a) s = uni-said m op d a s
+rerun-said m (Instruction.Bi op d a b) s = quiet (quiet-bin m op d a b s)
+rerun-said m (Instruction.Mov d a) s =
+    quiet (two (λ q. Quiet s (cond q (unlisted s) (c.fmov d a s))) (quiet-none s) (quiet-fmov d a s) (eqb d a))
+rerun-said m (Instruction.Load d p) s = quiet (quiet-load d p s)
+rerun-said m (Instruction.Save a p) s = quiet (quiet-save a p s)
+rerun-said m (Instruction.LoadConst d i) s = quiet (quiet-load-const d i s)
+rerun-said m (Instruction.Fused op d a b e) s = quiet (quiet-fused op d a b e s)
+rerun-said m (Instruction.IfElse d a b p) s = quiet (quiet-ifelse d a b p s)
+rerun-said m (Instruction.LoadMath op d a p) s =
+    quiet (quiet-then s _ (rerunArith m op d a 31) (quiet-load 31 p s) (quiet-arith m op d a 31 _))
+rerun-said m (Instruction.LoadConstMath op d a i) s =
+    quiet (quiet-then s _ (rerunArith m op d a 31) (quiet-load-const 31 i s) (quiet-arith m op d a 31 _))
+
+-- ---- what a whole sheet lists
+
+-- a listing without Root, or the plain records up to the first Root's moves, the block, and plain records
+pub data Shape (o : Out) : Type 0 where
+  unrooted : o .after .rootDefined ≡ false → (l : List Work) → o .records ≡ map Record.Work l → Shape o
+  rooted : o .after .rootDefined ≡ true → (first : List Record) → Plain first → (t : List Work) → ((k : List ℕ) → Block k t)
+      → (last : List Record) → Plain last → o .records ≡ first ++ (aroundBlock t ++ last) → Shape o
+
+-- the table only grows
+pub rerun-grows : (m : Bool) (i : Instruction) (s : State) → Grown (s .consts) (rerun m i s .after .consts)
+rerun-grows m i s = go (rerun-said m i s)
+  where
+    go : Said s (rerun m i s) → Grown (s .consts) (rerun m i s .after .consts)
+    go (quiet q) = q .grown
+    go (calls e r q g) = g
+    go (opens n r first q t b e g) = g
+
+pub grows : (m : Bool) (l : List Instruction) (s : State) → Grown (s .consts) (complexify m l s .after .consts)
+unfolding complexify then unlisted
+grows m [] s = same
+grows m (i ∷ l) s = grown-then (rerun-grows m i s) (grows m l (rerun m i s .after))
+
+-- behind the first Root only plain records follow
+pub stays : (m : Bool) (l : List Instruction) (s : State) → s .rootDefined ≡ true
+    → (complexify m l s .after .rootDefined ≡ true) × Plain (complexify m l s .records)
+unfolding complexify then unlisted
+stays m [] s e = (e, tt)
+stays m (i ∷ l) s e = go (rerun-said m i s) (stays m l (rerun m i s .after))
+  where
+    o : Out
+    o = rerun m i s
+
+    p : Out
+    p = complexify m l (o .after)
+
+    go : Said s o → (o .after .rootDefined ≡ true → (p .after .rootDefined ≡ true) × Plain (p .records))
+        → (p .after .rootDefined ≡ true) × Plain (o .records ++ p .records)
+    go (quiet q) ih = let h = ih (q .rooted ∙ e) in (h .0, plain-append (o .records) (p .records) (quiet-plain q) (h .1))
+    go (calls e r q g) ih = let h = ih r in (h .0, plain-append (o .records) (p .records) q (h .1))
+    go (opens n r first q t b g h) ih = absurd (true≢false (sym e ∙ n))
+
+pub shape : (m : Bool) (l : List Instruction) (s : State) → s .rootDefined ≡ false → Shape (complexify m l s)
+unfolding complexify then unlisted
+shape m [] s e = unrooted e [] refl
+shape m (i ∷ l) s e = go (rerun-said m i s) (shape m l (rerun m i s .after)) (stays m l (rerun m i s .after))
+  where
+    o : Out
+    o = rerun m i s
+
+    p : Out
+    p = complexify m l (o .after)
+
+    go : Said s o → (o .after .rootDefined ≡ false → Shape p)
+        → (o .after .rootDefined ≡ true → (p .after .rootDefined ≡ true) × Plain (p .records))
+        → Shape (then o (complexify m l))
+    go (calls h r q g) ih st = absurd (true≢false (sym h ∙ e))
+    go (opens n r first q t b g g') ih st =
+        let h = st r in
+        unfold then in rooted (h .0) first q t b (p .records) (h .1) (rw g (append-assoc first (aroundBlock t) (p .records)))
+    go (quiet q) ih st = onto (ih (q .rooted ∙ e))
+      where
+        onto : Shape p → Shape (then o (complexify m l))
+        onto (unrooted r k g) = unfold then in unrooted r (q .lines ++ k) (rw (q .listed, g) (sym (map-append Record.Work (q .lines) k)))
+        onto (rooted r first pl t b last pl' g) =
+            unfold then in
+            rooted r (o .records ++ first) (plain-append (o .records) first (quiet-plain q) pl) t b last pl'
+            (rw g (sym (append-assoc (o .records) first (aroundBlock t ++ last))))
+
+seek-plain : (rs rest : List Record) → Plain rs → seek 1 (rs ++ rest) ≡ seek 1 rest
+unfolding seek isLabel
+seek-plain [] rest p = refl
+seek-plain (Record.Work w ∷ rs) rest p = seek-plain rs rest (p .1)
+seek-plain (Record.Label l ∷ rs) rest p = absurd (p .0)
+seek-plain (Record.Branch l ∷ rs) rest p = absurd (p .0)
+seek-plain (Record.Call l ∷ rs) rest p = seek-plain rs rest (p .1)
+
+works-before : (l : List Work) (rest : List Record) → works (map Record.Work l ++ Record.Branch 0 ∷ rest) ≡ l
+unfolding works
+works-before [] rest = refl
+works-before (a ∷ l) rest = ap (λ (t : List Work). a ∷ t) (works-before l rest)
+
+-- the block of such a listing
+pub block-of : (first last : List Record) (t : List Work) → Plain first → block (first ++ (aroundBlock t ++ last)) ≡ t
+unfolding block seek isLabel
+block-of first last t p =
+    rw (seek-plain first (aroundBlock t ++ last) p, append-assoc (map Record.Work t) (Record.Branch 0 ∷ Record.Label 2 ∷ []) last)
+    (works-before t (Record.Label 2 ∷ last))
+
+-- what a Call finds keeps the agreement: a listing with a Root holds the block once
+pub finds-block : (k : List ℕ) (m : Bool) (l : List Instruction) (s : State) → s .rootDefined ≡ false
+    → complexify m l s .after .rootDefined ≡ true → Block k (block (complexify m l s .records))
+finds-block k m l s e h = go (shape m l s e)
+  where
+    go : Shape (complexify m l s) → Block k (block (complexify m l s .records))
+    go (unrooted r l' g) = absurd (true≢false (sym h ∙ r))
+    go (rooted r first p t b last p' g) = rw (g, block-of first last t p) (b k)

@@ -1,0 +1,243 @@
+-- The check of Rows at the registers of an instruction: the names 4 to 9 are the halves of d, a and b, and 10 and 11 the words of its place.
+use mathlib.Core.Path.{_≡_, refl, sym, ap, _∙_, subst}
+use mathlib.Core.Bool.{Bool, true, false, cond, _&&_, _||_, true≢false}
+use mathlib.Core.Logic.{_≢_, _⊎_, inl, inr}
+use mathlib.Core.List.{List, [], _∷_, map}
+use Prim.Native.Nat.{ℕ, suc, _+_, _*_, _≤_, _<_}
+use native.Mathlib.Omega.{arith}
+use native.Mathlib.Decide.{ℕ-discrete, decLt}
+use lib.ListN.{length, getD}
+use lib.Seq.{getD-set-same, getD-set-other, set-out}
+use lib.Dec.{T, lit≤, eqb, ltb, ltb→lt, lt→ltb, eqb→eq}
+use Rattle.mir.specs.declared.records.Loc.{Loc}
+use Rattle.mir.specs.declared.records.Work.{Work}
+use Rattle.mir.specs.declared.records.Record.{Record}
+use Rattle.mir.specs.Register.{re, im}
+use Rattle.records.proofs.Holding.{AllHold}
+use Rattle.mir.specs.Place.{index}
+use Rattle.machine.specs.Machine.{Store, at, place, execs}
+use Rattle.lowering.specs.declared.realness.Realness.{Realness}
+use Rattle.lowering.specs.Realness.{isRealReg, isRealLoc, setReg}
+use Rattle.leftovers.specs.Kept.{Kept, kept-re, kept-im, kept-word, kept-next}
+use Rattle.leftovers.proofs.Rows.{Agree, weaken, T→true, has, all-in, check, known, given, needs, gives, isXor, ren, Named}
+use Rattle.leftovers.proofs.Held.{All, registers, all-listed, Asks, held-lines}
+use Rattle.leftovers.proofs.Rows.{or-cases, and-l, and-r, either, steps-agree, steps-keep}
+
+unfoldable pub name : ℕ → ℕ → ℕ → Loc → ℕ → ℕ
+name d a b p n = getD (0 ∷ 1 ∷ 2 ∷ 3 ∷ re d ∷ im d ∷ re a ∷ im a ∷ re b ∷ im b ∷ place p ∷ suc (place p) ∷ []) n n
+
+-- in lines written for registers 0, 1 and 2 the one place is named 10, its imaginary word 11
+abbrev pub ten : Loc → ℕ
+ten q = 10
+
+-- the lines l, written for registers 0, 1 and 2, at registers d, a, b and place p
+unfoldable pub rename : ℕ → ℕ → ℕ → Loc → List Work → List Work
+unfolding ren name re im
+rename d a b p l = map (ren (name d a b p) (λ q. p)) l
+
+pub pick-all : (P : ℕ → Type 0) (xs : List ℕ) (n : ℕ) → All P xs → T (has n xs) → P n
+pick-all P (x ∷ xs) n h m =
+    either (λ e. rw (eqb→eq n x e) (h .0)) (λ t. pick-all P xs n (h .1) t) (or-cases (eqb n x) (has n xs) m)
+
+pub in-all : (n : ℕ) (xs ys : List ℕ) → T (all-in xs ys) → T (has n xs) → T (has n ys)
+unfolding all-in
+in-all n (x ∷ xs) ys h m =
+    either (λ e. rw (eqb→eq n x e) (and-l (has x ys) (all-in xs ys) h))
+    (λ t. in-all n xs ys (and-r (has x ys) (all-in xs ys) h) t)
+    (or-cases (eqb n x) (has n xs) m)
+
+-- ---- the halves
+
+pub no→false : (b : Bool) → (T b → ⊥) → b ≡ false
+no→false true h = absurd (h tt)
+no→false false h = refl
+
+pub re-gen : (r : ℕ) → r < 30 → re r ≡ 4 + 2 * r
+unfolding re
+re-gen r h = rw (T→true (ltb r 30) (lt→ltb r 30 h))
+
+pub im-gen : (r : ℕ) → r < 30 → im r ≡ 5 + 2 * r
+unfolding im
+im-gen r h = rw (T→true (ltb r 30) (lt→ltb r 30 h))
+
+pub data Span (d : ℕ) : Type 0 where
+  general : d < 30 → re d ≡ 4 + 2 * d → im d ≡ 5 + 2 * d → Span d
+  ret : d ≡ 30 → re d ≡ 64 → im d ≡ 65 → Span d
+  temp : 30 < d → re d ≡ 0 → im d ≡ 1 → Span d
+
+pub span : (d : ℕ) → Span d
+unfolding re im
+span d = go (decLt d 30) (ℕ-discrete d 30)
+  where
+    go : Dec (d < 30) → Dec (d ≡ 30) → Span d
+    go (yes h) e = general h (re-gen d h) (im-gen d h)
+    go (no h) (yes e) = ret e (rw e) (rw e)
+    go (no h) (no e) =
+        let e1 = no→false (ltb d 30) (λ t. h (ltb→lt d 30 t)) in
+        let e2 = no→false (eqb d 30) (λ t. e (eqb→eq d 30 t)) in
+        temp (omega arith) (rw (e1, e2)) (rw (e1, e2))
+
+-- halves are registers of a listing, and not scratch
+pub re-in : (r : ℕ) → (re r ≤ 65) × (re r ≢ 2) × (re r ≢ 3)
+re-in r = go (span r)
+  where
+    go : Span r → (re r ≤ 65) × (re r ≢ 2) × (re r ≢ 3)
+    go (general h e1 e2) = omega arith
+    go (ret h e1 e2) = omega arith
+    go (temp h e1 e2) = omega arith
+
+pub im-in : (r : ℕ) → (im r ≤ 65) × (im r ≢ 2) × (im r ≢ 3)
+im-in r = go (span r)
+  where
+    go : Span r → (im r ≤ 65) × (im r ≢ 2) × (im r ≢ 3)
+    go (general h e1 e2) = omega arith
+    go (ret h e1 e2) = omega arith
+    go (temp h e1 e2) = omega arith
+
+-- what the lines may write: scratch, Temp, Ret, the destination and the place
+abbrev pub free : List ℕ
+free = 0 ∷ 1 ∷ 2 ∷ 3 ∷ 4 ∷ 5 ∷ 10 ∷ 11 ∷ 64 ∷ 65 ∷ []
+
+-- a general register other than the destination is none of these
+pub apart : (d a b : ℕ) (p : Loc) (r w : ℕ) → r < 30 → r ≢ d → (w ≡ re r) ⊎ (w ≡ im r) → All (λ n. name d a b p n ≢ w) free
+unfolding name
+apart d a b p r w h n e = go (span d) (either (λ e. inl (e ∙ re-gen r h)) (λ e. inr (e ∙ im-gen r h)) e)
+  where
+    go : Span d → (w ≡ 4 + 2 * r) ⊎ (w ≡ 5 + 2 * r) → All (λ n. name d a b p n ≢ w) free
+    go (general g e1 e2) (inl e) = omega arith
+    go (general g e1 e2) (inr e) = omega arith
+    go (ret g e1 e2) (inl e) = omega arith
+    go (ret g e1 e2) (inr e) = omega arith
+    go (temp g e1 e2) (inl e) = omega arith
+    go (temp g e1 e2) (inr e) = omega arith
+
+-- ---- the words that are kept, after a register's record has changed
+
+pub kept-up : {ρ : Realness} {w : ℕ} (d : ℕ) → Kept (setReg ρ d true) w → Kept ρ w
+kept-up d (kept-re r h) = kept-re r h
+kept-up {ρ} d (kept-im r h e) = kept-im r h (go (ℕ-discrete r d) (decLt d (length (ρ .regs))))
+  where
+    go : Dec (r ≡ d) → Dec (d < length (ρ .regs)) → isRealReg ρ r ≡ false
+    go (no n) _ = sym (getD-set-other (ρ .regs) d r true false n) ∙ e
+    go (yes q) (yes l) = absurd (true≢false (sym (getD-set-same (ρ .regs) d true false l) ∙ (rw q at e)))
+    go (yes q) (no l) = rw (set-out (ρ .regs) d true (omega arith)) at e
+kept-up d (kept-word p h) = kept-word p h
+kept-up d (kept-next p h e) = kept-next p h e
+
+pub kept-new : {ρ : Realness} {w : ℕ} (d : ℕ) → Kept (setReg ρ d false) w → Kept ρ w ⊎ (im d ≡ w)
+kept-new d (kept-re r h) = inl (kept-re r h)
+kept-new {ρ} d (kept-im r h e) = go (ℕ-discrete r d)
+  where
+    go : Dec (r ≡ d) → Kept ρ (im r) ⊎ (im d ≡ im r)
+    go (no n) = inl (kept-im r h (sym (getD-set-other (ρ .regs) d r false false n) ∙ e))
+    go (yes q) = inr (ap im (sym q))
+kept-new d (kept-word p h) = inl (kept-word p h)
+kept-new d (kept-next p h e) = inl (kept-next p h e)
+
+-- ---- the lines of an instruction
+
+-- from names st that are kept, lines that pass the check leave the kept words and all known names agreed
+pub lines-agree : (ρ : Realness) (d a b : ℕ) (p : Loc) (k : List ℕ) (st : List ℕ) (l : List Work) {σ τ : Store}
+    → All (λ n. Kept ρ (name d a b p n)) st → T (check ten st l)
+    → Agree (Kept ρ) σ τ
+    → Agree (Named (name d a b p) ten (λ q. p) (unfold name in λ q. refl) (unfold name in λ q. refl) (Kept ρ) (known ten st l))
+    (execs k (rename d a b p l) σ) (execs k (rename d a b p l) τ)
+unfolding name Named rename
+lines-agree ρ d a b p k st l h c g =
+    steps-agree (name d a b p) ten (λ q. p) (λ q. refl) (λ q. refl) k (Kept ρ) st l c
+    (weaken (λ w. elim [ inl q ↦ q | inr m ↦ subst (Kept ρ) (m .2) (pick-all (λ n. Kept ρ (name d a b p n)) st (m .0) h (m .1)) ]) g)
+
+-- From σ to τ the pair of a general register outside X does not change, save that the imaginary half of one in Z is cleared.
+abbrev pub Frame : (ℕ → Type 0) → (ℕ → Type 0) → Store → Store → Type 0
+Frame X Z σ τ =
+    (r : ℕ) → r < 30 → (X r → ⊥) → (at τ (re r) ≡ at σ (re r)) × ((at τ (im r) ≡ at σ (im r)) ⊎ (Z r × (at τ (im r) ≡ 0)))
+
+-- lines that write only what is free leave every general register but the destination
+pub lines-keep : (d a b : ℕ) (p : Loc) (k : List ℕ) (l : List Work) (σ : Store) (r w : ℕ)
+    → T (all-in (given ten l) free) → r < 30 → r ≢ d → (w ≡ re r) ⊎ (w ≡ im r) → at (execs k (rename d a b p l) σ) w ≡ at σ w
+unfolding name rename
+lines-keep d a b p k l σ r w h hr n e =
+    steps-keep (name d a b p) ten (λ q. p) (λ q. refl) (λ q. refl) k σ w l
+    (λ m t. pick-all (λ n. name d a b p n ≢ w) free m (apart d a b p r w hr n e) (in-all m (given ten l) free h t))
+
+pub lines-frame : (X Z : ℕ → Type 0) (d a b : ℕ) (p : Loc) (k : List ℕ) (l : List Work) → T (all-in (given ten l) free)
+    → ((r : ℕ) → r < 30 → (X r → ⊥) → r ≢ d) → (σ : Store) → Frame X Z σ (execs k (rename d a b p l) σ)
+lines-frame X Z d a b p k l t out σ r h n =
+    let q = out r h n in
+    (lines-keep d a b p k l σ r (re r) t h q (inl refl), inl (lines-keep d a b p k l σ r (im r) t h q (inr refl)))
+
+-- the names that are known at its start: real halves, the place's real word, and what x, y and z (a, b and the place are real) leave
+abbrev pub start : Bool → Bool → Bool → List ℕ
+start x y z = 4 ∷ 6 ∷ 8 ∷ 10 ∷ cond x 4 7 ∷ cond y 4 9 ∷ cond z 4 11 ∷ []
+
+-- the one computed test: lines l draw on what is known, leave d's imaginary half known unless it becomes real (g), write only what is
+-- free, and a listing takes them
+unfoldable pub good : Bool → Bool → Bool → Bool → List Work → Bool
+unfolding check known given all-in needs gives isXor all-listed
+good x y z g l = (check ten (start x y z) l && ((g || has 5 (known ten (start x y z) l)) && all-in (given ten l) free)) && all-listed l
+
+module _ (x y z g : Bool) (l : List Work) (h : T (good x y z g l)) where
+  flows : T (check ten (start x y z) l && ((g || has 5 (known ten (start x y z) l)) && all-in (given ten l) free))
+  unfolding good
+  flows = and-l (check ten (start x y z) l && ((g || has 5 (known ten (start x y z) l)) && all-in (given ten l) free)) (all-listed l) h
+
+  pub good-check : T (check ten (start x y z) l)
+  good-check = and-l (check ten (start x y z) l) ((g || has 5 (known ten (start x y z) l)) && all-in (given ten l) free) flows
+
+  ends : T ((g || has 5 (known ten (start x y z) l)) && all-in (given ten l) free)
+  ends = and-r (check ten (start x y z) l) ((g || has 5 (known ten (start x y z) l)) && all-in (given ten l) free) flows
+
+  pub good-known : T (g || has 5 (known ten (start x y z) l))
+  good-known = and-l (g || has 5 (known ten (start x y z) l)) (all-in (given ten l) free) ends
+
+  pub good-free : T (all-in (given ten l) free)
+  good-free = and-r (g || has 5 (known ten (start x y z) l)) (all-in (given ten l) free) ends
+
+  pub good-listed : T (all-listed l)
+  unfolding good
+  good-listed =
+      and-r (check ten (start x y z) l && ((g || has 5 (known ten (start x y z) l)) && all-in (given ten l) free)) (all-listed l) h
+
+module _ (ρ : Realness) (d a b : ℕ) (p : Loc) (hd : d < 32) (ha : a < 32) (hb : b < 32) (hp : index p < 256)
+    (x y z : Bool) (ex : isRealReg ρ a ≡ x) (ey : isRealReg ρ b ≡ y) (ez : isRealLoc (ρ .places) p ≡ z) where
+  start-kept : All (λ n. Kept ρ (name d a b p n)) (start x y z)
+  unfolding name
+  start-kept = (kept-re d hd, (kept-re a ha, (kept-re b hb, (kept-word p hp, (at-a x ex, (at-b y ey, (at-p z ez, tt)))))))
+    where
+      at-a : (x : Bool) → isRealReg ρ a ≡ x → Kept ρ (name d a b p (cond x 4 7))
+      at-a true e = kept-re d hd
+      at-a false e = kept-im a ha e
+
+      at-b : (x : Bool) → isRealReg ρ b ≡ x → Kept ρ (name d a b p (cond x 4 9))
+      at-b true e = kept-re d hd
+      at-b false e = kept-im b hb e
+
+      at-p : (x : Bool) → isRealLoc (ρ .places) p ≡ x → Kept ρ (name d a b p (cond x 4 11))
+      at-p true e = kept-re d hd
+      at-p false e = kept-next p hp e
+
+  pub leaf-agree : (k : List ℕ) (g : Bool) (l : List Work) {σ τ : Store} → T (good x y z g l) → Agree (Kept ρ) σ τ
+      → Agree (Kept (setReg ρ d g)) (execs k (rename d a b p l) σ) (execs k (rename d a b p l) τ)
+  unfolding name Named
+  leaf-agree k g l {σ} {τ} h ag =
+      weaken (out g (good-known x y z g l h)) (lines-agree ρ d a b p k (start x y z) l start-kept (good-check x y z g l h) ag)
+    where
+      out : (g : Bool) → T (g || has 5 (known ten (start x y z) l)) → (w : ℕ) → Kept (setReg ρ d g) w
+          → Named (name d a b p) ten (λ q. p) (λ q. refl) (λ q. refl) (Kept ρ) (known ten (start x y z) l) w
+      out true t w q = inl (kept-up d q)
+      out false t w q = either (λ q. inl q) (λ e. inr (5, t, e)) (kept-new d q)
+
+-- lines that pass the test can be held
+names-low : (d a b : ℕ) (p : Loc) → All (λ n. name d a b p n ≤ 65) registers
+unfolding name
+names-low d a b p =
+    let halves : All (λ n. name d a b p n ≤ 65) (4 ∷ 5 ∷ 6 ∷ 7 ∷ 8 ∷ 9 ∷ 64 ∷ 65 ∷ []) =
+    (re-in d .0, (im-in d .0, (re-in a .0, (im-in a .0, (re-in b .0, (im-in b .0, (lit≤ tt, (lit≤ tt, tt)))))))) in
+    (lit≤ tt, (lit≤ tt, (lit≤ tt, (lit≤ tt, halves))))
+
+pub rename-held : (d a b : ℕ) (p : Loc) (k : List ℕ) (l : List Work) → length k ≤ 65536 → index p < 256 → T (all-listed l)
+    → Asks (length k) p l
+    → AllHold (length k) (map Record.Work (rename d a b p l))
+unfolding rename
+rename-held d a b p k l few hp t h =
+    held-lines (length k) few (name d a b p) p hp (λ n m. pick-all (λ n. name d a b p n ≤ 65) registers n (names-low d a b p) m) l t h

@@ -1,0 +1,122 @@
+-- An accepted sheet: its instructions are within their limits, its listing is read back as what `complexify` lists, and the player accepts it
+-- from every point.
+use mathlib.Core.Path.{_≡_, refl, sym, ap, subst}
+use mathlib.Core.List.{List, [], _∷_}
+use Prim.Native.Nat.{ℕ, zero, suc, _≤_}
+use native.Mathlib.Omega.{arith}
+use native.Mathlib.Nat.{le-refl, le-trans, le-of-eq}
+use lib.ListN.{length, drop}
+use borrow.Author.Tests.{le-ltb, eq-eqb}
+use Rattle.mir.specs.declared.records.Instruction.{Instruction}
+use Rattle.mir.specs.Encode.{encodeAll}
+use Rattle.sheet.specs.Setup.{setup, constantsFromOn}
+use Rattle.sheet.specs.Instruction.{instructions}
+use Rattle.sheet.proofs.Setting.{right}
+use Rattle.records.specs.Record.{records}
+use Rattle.records.proofs.Holding.{AllHold}
+use Rattle.records.proofs.Round.{round}
+use Rattle.machine.specs.Machine.{Store, block}
+use Rattle.machine.specs.Jumps.{breach}
+use Rattle.machine.specs.Answer.{accept, answer}
+use Rattle.lowering.specs.Lower.{startState}
+use Rattle.mir.specs.Decode.{decoded}
+use Rattle.leftovers.proofs.Accepting.{wrote}
+use Rattle.leftovers.proofs.Ranges.{all-in-range}
+use Rattle.leftovers.specs.Leftovers.{Sheet, sheetOf, Accepted, Lowered, lowered, point}
+use Rattle.leftovers.proofs.Constants.{grown-few, grown-length}
+use Rattle.leftovers.proofs.Instructions.{InRange}
+use Rattle.leftovers.proofs.Listing.{grows, finds-block}
+use Rattle.leftovers.proofs.Jumping.{no-breach}
+use Rattle.leftovers.proofs.Points.{AllIn, all-keep, whole, playFrom, point-below}
+
+-- ---- the sheet
+
+constants-count : (s : List ℕ) (n i : ℕ) → length (constantsFromOn s n i) ≡ n
+constants-count s zero i = refl
+constants-count s (suc n) i = ap suc (constants-count s n (suc i))
+
+-- ---- instructions within the limits of a longer table
+
+in-more : (n m : ℕ) → n ≤ m → (i : Instruction) → InRange n i → InRange m i
+in-more n m h Instruction.Nop v = v
+in-more n m h (Instruction.Uni op d a) v = v
+in-more n m h (Instruction.Bi op d a b) v = v
+in-more n m h (Instruction.Mov d a) v = v
+in-more n m h (Instruction.Load d p) v = v
+in-more n m h (Instruction.Save a p) v = v
+in-more n m h (Instruction.LoadConst d i) v = (v .0, le-trans (v .1) h)
+in-more n m h (Instruction.Fused op d a b c) v = v
+in-more n m h (Instruction.IfElse d a b p) v = v
+in-more n m h (Instruction.LoadMath op d a p) v = v
+in-more n m h (Instruction.LoadConstMath op d a i) v = (v .0, v .1, le-trans (v .2) h)
+
+all-in-more : (n m : ℕ) → n ≤ m → (l : List Instruction) → AllIn n l → AllIn m l
+all-in-more n m h [] v = tt
+all-in-more n m h (i ∷ l) v = (in-more n m h i (v .0), all-in-more n m h l (v .1))
+
+-- ---- the player accepts what is listed
+
+module _ (s : Sheet) (v : AllIn (length (s .constants)) (s .instructions)) (f : length (s .constants) ≤ 251) where
+  longer : length (s .constants) ≤ length (whole s .after .consts)
+  longer = grown-length (grows (s .stable) (s .instructions) (startState (s .places) (s .constants)))
+
+  pub table : length (whole s .after .consts) ≤ 256
+  table = omega (arith, grown-few (grows (s .stable) (s .instructions) (startState (s .places) (s .constants))))
+
+  pub all-in : AllIn (length (whole s .after .consts)) (s .instructions)
+  all-in = all-in-more (length (s .constants)) (length (whole s .after .consts)) longer (s .instructions) v
+
+  held : AllHold (length (whole s .after .consts)) (whole s .records)
+  held =
+      all-keep (whole s .after .consts) (block (whole s .records)) (s .stable) (s .instructions) (startState (s .places) (s .constants)) all-in
+      (finds-block (whole s .after .consts) (s .stable) (s .instructions) (startState (s .places) (s .constants)) refl) (le-refl _)
+      .held (omega (arith, table))
+
+  pub read-back : records (length (whole s .after .consts)) (encodeAll (whole s .records)) ≡ record { items = whole s .records; fault = 0 }
+  read-back = round (length (whole s .after .consts)) (whole s .records) held
+
+  -- from any point, with any store of the machine's length
+  pub answers : length (encodeAll (whole s .records)) ≤ 65536 → (i : ℕ) (σ : Store) → length σ ≡ 1602
+      → answer (encodeAll (whole s .records)) (whole s .after .consts) (point s i) σ ≡ accept (length (whole s .records)) (playFrom s i σ)
+  unfolding answer
+  answers room i σ h =
+      let rs = whole s .records in
+      let k = whole s .after .consts in
+      let b = no-breach (s .stable) (s .instructions) (startState (s .places) (s .constants)) refl in
+      rw (
+        le-ltb 65536 (length (encodeAll rs)) room,
+        le-ltb 256 (length k) table,
+        eq-eqb (length σ) 1602 h,
+        read-back,
+        le-ltb (length rs) (point s i) (point-below s i),
+        le-ltb (breach rs) (length rs) (le-of-eq (sym b)),
+      )
+      refl
+
+-- ---- what an accepted sheet's bytes hold
+
+-- what `complexify` lists, as lowering leaves it
+abbrev pub asLowered : Sheet → Lowered
+asLowered s =
+    record { sheet = s; listing = encodeAll (whole s .records); constants = whole s .after .consts; last = whole s .after .real }
+
+pub record Sound (bytes : List ℕ) (room : ℕ) : Type 0 where
+  pub same : lowered bytes room ≡ asLowered (sheetOf bytes)
+  pub in-range : AllIn (length (sheetOf bytes .constants)) (sheetOf bytes .instructions)
+  pub few : length (sheetOf bytes .constants) ≤ 251
+  pub fits : length (encodeAll (whole (sheetOf bytes) .records)) ≤ 65536
+
+pub sound : (bytes : List ℕ) (room : ℕ) → Accepted bytes room → Sound bytes room
+unfolding decoded
+sound bytes room a =
+    let u = setup bytes in
+    let s = sheetOf bytes in
+    let rest = drop (u .start) bytes in
+    let w = wrote (s .stable) room (s .instructions) (instructions (u .count) rest .fault) 0 [] (startState (s .places) (s .constants)) (omega arith) (a .number) in
+    let n = constants-count bytes (u .count) 0 in
+    record {
+      same = λ j. record { sheet = s; listing = w .listing j; constants = w .last j .consts; last = w .last j .real };
+      in-range = subst (λ (n : ℕ). AllIn n (s .instructions)) (sym n) (all-in-range (u .count) rest 0);
+      few = omega (arith, n, right bytes (a .right) .few);
+      fits = omega (arith, w .fits, ap length (w .listing), a .slice);
+    }

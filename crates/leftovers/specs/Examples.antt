@@ -1,0 +1,41 @@
+-- Two sheets: at one the condition about Half fails and the endings differ, so that it is needed; at the other all that the claim takes is
+-- given, and the condition holds. proofs/Examples.antt computes both.
+use Prim.Native.Nat.{ℕ}
+use mathlib.Core.Path.{_≡_}
+use mathlib.Core.List.{List, [], _∷_, _++_}
+use lib.ListN.{set, replicate}
+use Rattle.machine.specs.Machine.{Store}
+use Rattle.leftovers.specs.Leftovers.{lowered, Mixing, EndAlike, Given}
+
+-- the store of zeros
+unfoldable pub zeros : Store
+zeros = replicate 1602 0
+
+-- a header of plain mode, without real places
+unfoldable pub header : List ℕ
+header = 69 ∷ 0 ∷ 32 ∷ 0 ∷ 0 ∷ replicate 64 0
+
+-- Real of general 0 into general 0, which is then recorded as real; Half of general 0 into general 1, which is recorded as complex
+unfoldable pub mixing : List ℕ
+unfolding header
+mixing = header ++ 7 ∷ 0 ∷ 1 ∷ 0 ∷ 10 ∷ 0 ∷ 0 ∷ 7 ∷ 0 ∷ 1 ∷ 0 ∷ 13 ∷ 1 ∷ 0 ∷ []
+
+-- at point 1, two written to the imaginary half of general 0
+unfoldable pub touched : Store
+unfolding zeros
+touched = set zeros 5 0x4000_0000_0000_0000
+
+pub record Needed : Type 0 where
+  pub given : Given mixing 65536 zeros 1 zeros touched
+  pub differs : EndAlike (lowered mixing 65536) 1 zeros touched → ⊥
+
+-- Real of general 0 into general 0 and of general 1 into general 1; Half of general 0 into general 1, both recorded as real
+unfoldable pub clean : List ℕ
+unfolding header
+clean = header ++ 7 ∷ 0 ∷ 1 ∷ 0 ∷ 10 ∷ 0 ∷ 0 ∷ 7 ∷ 0 ∷ 1 ∷ 0 ∷ 10 ∷ 1 ∷ 1 ∷ 7 ∷ 0 ∷ 1 ∷ 0 ∷ 13 ∷ 1 ∷ 0 ∷ []
+
+-- at point 2, which the Half follows, the same change
+pub record Met : Type 0 where
+  pub given : Given clean 65536 zeros 2 zeros touched
+  pub unmixed : Mixing (lowered clean 65536) 2 zeros → ⊥
+  pub other : zeros ≡ touched → ⊥

@@ -1,0 +1,4 @@
+-- Demand 3. A reader believes Leftovers; Kept says the kept words positively, and Examples computes two sheets.
+pub mod Leftovers
+pub mod Kept
+pub mod Examples
