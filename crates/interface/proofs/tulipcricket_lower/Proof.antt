@@ -1,0 +1,94 @@
+-- `interface::tulipcricket_lower` meets its contract: each refusal by its tests, and the lowering by one law.
+use borrow.Author.Needs.{needs}
+use borrow.Author.Tests.{eq-eqb, ne-eqb}
+use Rattle.interface.specs.Calls.{lowerCall}
+use Rattle.interface.proofs.Lowering.{wrong-constants, lowered}
+use Rattle.interface.proofs.tulipcricket_lower.Statement.{statement}
+use Rattle.interface.proofs.tulipcricket_lower.Tie as tie
+
+returns : tie.Need-returns
+unfolding lowerCall
+returns c = simp (ne-eqb _ _ (c .if1 .taken))
+
+returns-2 : tie.Need-returns-2
+unfolding lowerCall
+returns-2 c = simp (eq-eqb _ _ (c .before .if1 .left), ne-eqb _ _ (c .if2 .taken))
+
+wrong-constants-requires : tie.Need-wrong-constants-requires
+wrong-constants-requires c κs = search needs
+
+put-answer-requires : tie.Need-put-answer-requires
+put-answer-requires c κs = search needs
+
+same-length : tie.Need-same-length
+same-length c = search needs
+
+returns-3 : tie.Need-returns-3
+returns-3 c =
+    let a = c .before .before .before .before .before .before .before .before .before .before .before .before .args in
+    wrong-constants (a .sheet .now) (a .listing .now) (a .constants .now) (a .answer .now) (c .before .before .before .before .before .before .before .if1 .left) (c .before .before .before .before .before .before .if2 .left) (c .before .before .before .before .before .if3 .taken)
+    (c .before .before .before .wrong-constants .ensures) (c .before .before .put-answer .ensures)
+
+slice-aggregate-load : tie.Need-slice-aggregate-load
+slice-aggregate-load c = search needs
+
+load-requires : tie.Need-load-requires
+load-requires c κs = search needs
+
+slice-aggregate-lower : tie.Need-slice-aggregate-lower
+slice-aggregate-lower c = search needs
+
+lower-requires : tie.Need-lower-requires
+lower-requires c κs = search needs
+
+slice-aggregate-save : tie.Need-slice-aggregate-save
+slice-aggregate-save c = search needs
+
+save-requires : tie.Need-save-requires
+save-requires c κs = search needs
+
+put-answer-requires-2 : tie.Need-put-answer-requires-2
+put-answer-requires-2 c κs = search needs
+
+cast-result : tie.Need-cast-result
+cast-result c = search needs
+
+same-length-2 : tie.Need-same-length-2
+same-length-2 c = search needs
+
+same-length-3 : tie.Need-same-length-3
+same-length-3 c = search needs
+
+same-length-4 : tie.Need-same-length-4
+same-length-4 c = search needs
+
+returns-4 : tie.Need-returns-4
+returns-4 c =
+    let a = c .before .before .before .before .before .before .before .before .before .before .before .before .before .before .before .before .before .before .before .before .before .before .before .before .before .before .before .args in
+    let p = c .before .before .before .before .before .before .before .before .before .before .before .before .before .lower in
+    lowered (a .sheet .now) (a .listing .now) (a .constants .now) (a .answer .now) (c .before .before .before .before .before .before .before .before .before .before .before .before .before .before .before .before .before .before .before .before .before .before .if1 .left) (c .before .before .before .before .before .before .before .before .before .before .before .before .before .before .before .before .before .before .before .before .before .if2 .left)
+    _ (p .result) (c .before .before .before .before .before .before .before .before .before .before .before .before .before .before .before .before .before .before .before .before .if3 .left) (search needs) (c .before .before .before .before .before .before .before .before .before .before .before .before .before .before .before .before .before .load .ensures) (p .ensures .0) (p .ensures .1) (p .ensures .2) (search needs) (c .before .before .before .before .before .before .before .save .ensures)
+    (c .before .before .before .put-answer2 .ensures)
+
+pub tulipcricket-lower-spec : {M : Type 1} → statement M
+tulipcricket-lower-spec =
+    tie.close
+    (tie.spec
+    returns
+    returns-2
+    wrong-constants-requires
+    put-answer-requires
+    same-length
+    returns-3
+    slice-aggregate-load
+    load-requires
+    slice-aggregate-lower
+    lower-requires
+    slice-aggregate-save
+    save-requires
+    put-answer-requires-2
+    cast-result
+    same-length-2
+    same-length-3
+    same-length-4
+    returns-4)

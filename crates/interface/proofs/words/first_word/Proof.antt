@@ -1,0 +1,41 @@
+-- `interface::words::first_word` meets its contract.
+use borrow.Author.Needs.{needs}
+use Rattle.interface.proofs.Copying.{eight}
+use Rattle.interface.proofs.words.first_word.Statement.{statement}
+use Rattle.interface.proofs.words.first_word.Tie as tie
+
+pub first-word-spec : {M : Type 1} → statement M
+first-word-spec =
+    tie.close
+    (tie.spec
+    (λ c κs. search needs)
+    (λ c. search needs)
+    (λ c κs. search needs)
+    (λ c. search needs)
+    (λ c κs. search needs)
+    (λ c. search needs)
+    (λ c κs. search needs)
+    (λ c. search needs)
+    (λ c κs. search needs)
+    (λ c. search needs)
+    (λ c κs. search needs)
+    (λ c. search needs)
+    (λ c κs. search needs)
+    (λ c. search needs)
+    (λ c κs. search needs)
+    (λ c. search needs)
+    (λ c. search needs)
+    (λ c. search needs)
+    (λ c. search needs)
+    (λ c. search needs)
+    (λ c. search needs)
+    (λ c. search needs)
+    (λ c. search needs)
+    (λ c. search needs)
+    (λ c. search needs)
+    (λ c. search needs)
+    (λ c. search needs)
+    (λ c. search needs)
+    (λ c. search needs)
+    (λ c. search needs)
+    (λ c. eight (c .before .before .before .before .before .before .before .before .before .args .s .now) (c .before .before .before .before .before .before .before .byte .ensures) (c .before .before .before .before .before .before .byte2 .ensures) (c .before .before .before .before .before .byte3 .ensures) (c .before .before .before .before .byte4 .ensures) (c .before .before .before .byte5 .ensures) (c .before .before .byte6 .ensures) (c .before .byte7 .ensures) (c .byte8 .ensures)))

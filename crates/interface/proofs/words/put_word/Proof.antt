@@ -1,0 +1,67 @@
+-- `interface::words::put_word` meets its contract. The invariant: what is stored with what is left to store is the whole word.
+use borrow.Author.Needs.{needs}
+use Prim.Native.Nat.{_≤_, _+_, _-_}
+use mathlib.Core.Path.{_≡_, sym, _∙_}
+use native.Mathlib.Nat.{add-zero}
+use native.Mathlib.Omega.{arith}
+use lib.ListN.{length, length-set}
+use lib.Seq.{sets}
+use Rattle.interface.specs.Bytes.{bytes}
+use Rattle.interface.proofs.Copying.{put-turn, put-ended}
+use Rattle.interface.proofs.words.put_word.Statement.{statement}
+use Rattle.interface.proofs.words.put_word.Tie as tie
+
+abbrev Inv-loop : tie.InvT-loop
+Inv-loop out₀ at word rest₀ i₀ out rest i =
+    (i ≤ 8) × (length out ≡ length out₀) × (sets out (at + i) (bytes (8 - i) rest) ≡ sets out₀ at (bytes 8 word))
+
+abbrev μ-loop : tie.MeasureT-loop
+μ-loop out₀ at word rest₀ i₀ out rest i = 8 - i
+
+loop-holds : tie.Need-loop-holds Inv-loop μ-loop
+loop-holds c = (search needs, search needs, simp add-zero)
+
+cast-out : tie.Need-cast-out Inv-loop μ-loop
+cast-out c = search needs
+
+add-out : tie.Need-add-out Inv-loop μ-loop
+add-out c = search needs
+
+slice-write-out : tie.Need-slice-write-out Inv-loop μ-loop
+slice-write-out c = search needs
+
+add-i : tie.Need-add-i Inv-loop μ-loop
+add-i c = search needs
+
+loop-less : tie.Need-loop-less Inv-loop μ-loop
+loop-less c = search needs
+
+loop-again : tie.Need-loop-again Inv-loop μ-loop
+loop-again c =
+    let a = c .before .before .args in
+    let l = c .before .loop in
+    (search needs, simp length-set (search needs), sym (put-turn (l .out) (a .at) (l .i) (l .rest) (omega arith)) ∙ l .inv .2)
+
+same-length : tie.Need-same-length Inv-loop μ-loop
+same-length c = search needs
+
+returns : tie.Need-returns Inv-loop μ-loop
+returns c =
+    let l = c .before .loop in
+    sym (put-ended (l .out) (c .before .before .args .at) (l .i) (l .rest) (omega arith)) ∙ l .inv .2
+
+pub put-word-spec : {M : Type 1} → statement M
+put-word-spec =
+    tie.close
+    (tie.spec
+    Inv-loop
+    μ-loop
+    loop-holds
+    cast-out
+    add-out
+    slice-write-out
+    add-i
+    loop-less
+    loop-again
+    same-length
+    returns)

@@ -1,0 +1,66 @@
+-- What the C functions give, over the bytes that a caller lends.
+use Prim.Native.Nat.{ℕ, _%_}
+use mathlib.Core.Bool.{Bool, not, cond}
+use mathlib.Core.List.{List, [], _∷_, _++_, map}
+use lib.ListN.{length}
+use lib.Dec.{eqb}
+use Rattle.machine.specs.Answer.{Answer, answer}
+use Rattle.complexify.specs.declared.entry.Answer as Lowered
+use Rattle.complexify.specs.Entry as Lower
+use Rattle.interface.specs.Bytes.{bytesOf, wordsOf}
+
+-- what a call of `tulipcricket_play` returns, and the bytes that it leaves in the store and in the answer
+pub record PlayCall : Type 0 where
+  pub number : ℕ
+  pub store : List ℕ
+  pub answer : List ℕ
+
+-- the answer of playing: number, index and records played, eight bytes each; the store's words as bytes
+abbrev pub given : Answer → PlayCall
+given a =
+    record { number = a .number; store = bytesOf (a .store); answer = bytesOf (a .number ∷ a .index ∷ a .played ∷ []) }
+
+-- An answer of another length than 24 bytes, and constants that are no whole number of words, are refused by 8 with nothing written. A store
+-- of another length than 1,602 words of eight bytes is refused by 8 as the entry refuses it: index 0, none played, the store unchanged.
+-- Otherwise the call gives what the entry gives for the words.
+unfoldable pub playCall : List ℕ → List ℕ → List ℕ → ℕ → List ℕ → PlayCall
+unfolding bytesOf wordsOf
+playCall listing constants store start lent =
+    cond (not (eqb (length lent) 24)) (record { number = 8; store = store; answer = lent })
+    (cond (not (eqb (length constants % 8) 0)) (record { number = 8; store = store; answer = lent })
+    (cond (not (eqb (length store) 12816)) (record { number = 8; store = store; answer = bytesOf (8 ∷ 0 ∷ 0 ∷ []) })
+    (given (answer listing (wordsOf constants) start (wordsOf store)))))
+
+-- what a call of `tulipcricket_lower` returns, and the bytes that it leaves in the listing, the constants and the answer
+pub record LowerCall : Type 0 where
+  pub number : ℕ
+  pub listing : List ℕ
+  pub constants : List ℕ
+  pub answer : List ℕ
+
+-- 1: recorded as real
+abbrev pub flag : Bool → ℕ
+flag real = cond real 1 0
+
+-- the answer of lowering: number, index, bytes written and count of constants, eight bytes each; the flags of the 32 registers; the 64 bytes
+-- of real places
+abbrev pub lowerAnswer : Lowered.Answer → List ℕ
+lowerAnswer a =
+    bytesOf (a .number ∷ a .index ∷ a .written ∷ a .count ∷ []) ++ (map flag (a .real .regs) ++ a .real .places)
+
+-- An answer of another length than 128 bytes, and constants that are no whole number of words, are refused by 8 with nothing written.
+-- Constants of another length than 256 words are refused by 8 as the entry refuses them. Otherwise the call gives what the entry gives for
+-- the words.
+unfoldable pub lowerCall : List ℕ → List ℕ → List ℕ → List ℕ → LowerCall
+unfolding bytesOf wordsOf
+lowerCall sheet listing constants lent =
+    cond (not (eqb (length lent) 128)) (record { number = 8; listing = listing; constants = constants; answer = lent })
+    (cond (not (eqb (length constants % 8) 0)) (record { number = 8; listing = listing; constants = constants; answer = lent })
+    (cond (not (eqb (length constants) 2048))
+    (record { number = 8; listing = listing; constants = constants; answer = lowerAnswer Lower.refusedSetup })
+    (record {
+      number = Lower.answer sheet listing (wordsOf constants) .number;
+      listing = Lower.listingAfter sheet listing (wordsOf constants);
+      constants = bytesOf (Lower.constantsAfter sheet listing (wordsOf constants));
+      answer = lowerAnswer (Lower.answer sheet listing (wordsOf constants));
+    })))

@@ -1,0 +1,128 @@
+// The two entries as C functions. Words go in and out as eight bytes each, the lowest first.
+ghost use mathlib.Core.Path.{_≡_};
+ghost use lib.ListN.{length};
+ghost use Rattle.machine.specs.Answer.{answer};
+ghost use Rattle.player.specs.Values.{whole};
+ghost use Rattle.complexify.specs.Entry.{refusedSetup};
+ghost use Rattle.interface.specs.Bytes.{wordsOf};
+ghost use Rattle.interface.specs.Calls.{PlayCall, LowerCall, playCall, lowerCall, lowerAnswer};
+
+mod words;
+
+use complexify::entry::Answer as Lowered;
+use lowering::realness::Realness;
+use player::Answer;
+use words::load;
+use words::put_bytes;
+use words::put_flags;
+use words::save;
+
+// Plays on words, with constants as bytes.
+fn play_words(listing: &[u8], constants: &[u8], store: &mut [u64], start: usize) -> Answer
+    ensures { λ r. ⌜ whole r (now (store .exit)) ≡ answer (now (listing .entry)) (wordsOf (now (constants .entry))) start (now (store .entry)) ⌝ }
+{
+    let n = constants.len() / 8;
+    if 256 < n {
+        return Answer {
+            number: 8,
+            index: 0,
+            played: 0,
+        };
+    }
+    let mut table = [0u64; 256];
+    load(&mut table, constants, n);
+    player::play(listing, &table[..n], store, start)
+}
+
+// Plays a listing from a record on. The store is 12,816 bytes; the answer is 24: number, index, records played. Returns the number.
+#[no_mangle]
+pub extern "C" fn tulipcricket_play(
+    listing: &[u8],
+    constants: &[u8],
+    store: &mut [u8],
+    start: u64,
+    answer: &mut [u8],
+) -> u32
+    ensures { λ r. ⌜ record { number = r; store = now (store .exit); answer = now (answer .exit) } ≡ playCall (now (listing .entry)) (now (constants .entry)) (now (store .entry)) start (now (answer .entry)) ⌝ }
+{
+    if answer.len() != 24 {
+        return 8;
+    }
+    if constants.len() % 8 != 0 {
+        return 8;
+    }
+    if store.len() != 12816 {
+        let refused = [8u64, 0, 0];
+        save(answer, &refused);
+        return 8;
+    }
+    let mut words = [0u64; 1602];
+    load(&mut words, store, 1602);
+    let a = play_words(listing, constants, &mut words, start as usize);
+    save(store, &words);
+    let numbers = [a.number as u64, a.index as u64, a.played as u64];
+    save(answer, &numbers);
+    a.number as u32
+}
+
+// The answer of lowering, as 128 bytes.
+fn put_answer(out: &mut [u8], a: Lowered)
+    requires { ⌜ length (now out) ≡ 128 ⌝ }
+    ensures { λ r. ⌜ now (out .exit) ≡ lowerAnswer a ⌝ }
+{
+    let numbers = [
+        a.number as u64,
+        a.index as u64,
+        a.written as u64,
+        a.count as u64,
+    ];
+    save(out, &numbers);
+    let real = a.real;
+    let regs = real.regs;
+    let places = real.places;
+    put_flags(out, 32, regs);
+    put_bytes(out, 64, &places);
+}
+
+// What constants of another length than 256 words give.
+fn wrong_constants() -> Lowered
+    ensures { λ r. ⌜ r ≡ refusedSetup ⌝ }
+{
+    let places = [0u8; 64];
+    Lowered {
+        number: 8,
+        index: 0,
+        written: 0,
+        count: 0,
+        real: Realness::fresh(places),
+    }
+}
+
+// Lowers a sheet. The constants are 2,048 bytes; the answer is 128: number, index, bytes written, count of constants, 32 flags of
+// registers, 64 bytes of places. Returns the number.
+#[no_mangle]
+pub extern "C" fn tulipcricket_lower(
+    sheet: &[u8],
+    listing: &mut [u8],
+    constants: &mut [u8],
+    answer: &mut [u8],
+) -> u32
+    ensures { λ r. ⌜ record { number = r; listing = now (listing .exit); constants = now (constants .exit); answer = now (answer .exit) } ≡ lowerCall (now (sheet .entry)) (now (listing .entry)) (now (constants .entry)) (now (answer .entry)) ⌝ }
+{
+    if answer.len() != 128 {
+        return 8;
+    }
+    if constants.len() % 8 != 0 {
+        return 8;
+    }
+    if constants.len() != 2048 {
+        put_answer(answer, wrong_constants());
+        return 8;
+    }
+    let mut words = [0u64; 256];
+    load(&mut words, constants, 256);
+    let a = complexify::entry::lower(sheet, listing, &mut words);
+    save(constants, &words);
+    put_answer(answer, a);
+    a.number as u32
+}

@@ -1,0 +1,94 @@
+// Words read from bytes and written to bytes.
+ghost use mathlib.Core.Path.{_≡_};
+ghost use mathlib.Core.List.{map};
+ghost use Prim.Native.Nat.{_+_, _*_, _≤_};
+ghost use lib.ListN.{length, take, drop};
+ghost use lib.Seq.{sets};
+ghost use Rattle.interface.specs.Bytes.{bytes, number, bytesOf, words};
+ghost use Rattle.interface.specs.Calls.{flag};
+use mir::fields::byte;
+
+// The first eight bytes as a word.
+fn first_word(s: &[u8]) -> u64
+    ensures { λ r. ⌜ r ≡ number (take 8 (now (s .entry))) ⌝ }
+{
+    let a = byte(s, 0) as u64;
+    let b = byte(s, 1) as u64;
+    let c = byte(s, 2) as u64;
+    let d = byte(s, 3) as u64;
+    let e = byte(s, 4) as u64;
+    let f = byte(s, 5) as u64;
+    let g = byte(s, 6) as u64;
+    let h = byte(s, 7) as u64;
+    a + 256 * (b + 256 * (c + 256 * (d + 256 * (e + 256 * (f + 256 * (g + 256 * h))))))
+}
+
+// A word as the eight bytes from at on.
+fn put_word(out: &mut [u8], at: usize, word: u64)
+    requires { ⌜ at + 8 ≤ length (now out) ⌝ }
+    ensures { λ r. ⌜ now (out .exit) ≡ sets (now (out .entry)) at (bytes 8 word) ⌝ }
+{
+    let mut rest = word;
+    let mut i: usize = 0;
+    while i < 8 {
+        out[at + i] = (rest % 256) as u8;
+        rest = rest / 256;
+        i += 1;
+    }
+}
+
+// The first n words of bytes, stored from the start of a table.
+pub(crate) fn load(table: &mut [u64], s: &[u8], n: usize)
+    requires { ⌜ (n ≤ length (now table)) × (8 * n ≤ length (now s)) ⌝ }
+    ensures { λ r. ⌜ now (table .exit) ≡ sets (now (table .entry)) 0 (words n (now (s .entry))) ⌝ }
+{
+    let mut i: usize = 0;
+    while i < n {
+        let at = 8 * i;
+        table[i] = first_word(&s[at..]);
+        i += 1;
+    }
+}
+
+// All words of a table as bytes, stored from the start of a slice.
+pub(crate) fn save(out: &mut [u8], table: &[u64])
+    requires { ⌜ 8 * length (now table) ≤ length (now out) ⌝ }
+    ensures { λ r. ⌜ now (out .exit) ≡ sets (now (out .entry)) 0 (bytesOf (now (table .entry))) ⌝ }
+{
+    let mut i: usize = 0;
+    while i < table.len() {
+        let at = 8 * i;
+        put_word(out, at, table[i]);
+        i += 1;
+    }
+}
+
+// Bytes stored from at on.
+pub(crate) fn put_bytes(out: &mut [u8], at: usize, s: &[u8])
+    requires { ⌜ at + length (now s) ≤ length (now out) ⌝ }
+    ensures { λ r. ⌜ now (out .exit) ≡ sets (now (out .entry)) at (now (s .entry)) ⌝ }
+{
+    let mut i: usize = 0;
+    while i < s.len() {
+        out[at + i] = s[i];
+        i += 1;
+    }
+}
+
+fn flag_of(real: bool) -> u8
+    ensures { λ r. ⌜ r ≡ flag «real» ⌝ }
+{
+    if real { 1 } else { 0 }
+}
+
+// Flags of registers stored from at on: 1 where a register is recorded as real.
+pub(crate) fn put_flags(out: &mut [u8], at: usize, regs: [bool; 32])
+    requires { ⌜ at + 32 ≤ length (now out) ⌝ }
+    ensures { λ r. ⌜ now (out .exit) ≡ sets (now (out .entry)) at (map flag regs) ⌝ }
+{
+    let mut i: usize = 0;
+    while i < 32 {
+        out[at + i] = flag_of(regs[i]);
+        i += 1;
+    }
+}

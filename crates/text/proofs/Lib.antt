@@ -1,0 +1,4 @@
+mod Adding
+mod Digits
+pub mod Whole
+pub mod Short

@@ -1,0 +1,213 @@
+-- No line is cut: every line of a page has at most 80 bytes, that of a record where its fields fit their widths.
+use Prim.Native.Nat.{ℕ, zero, suc, _*_, _/_, _≤_, _<_}
+use mathlib.Core.Path.{_≡_, refl}
+use mathlib.Core.Bool.{Bool, true, false, cond}
+use mathlib.Core.List.{List}
+use native.Mathlib.Omega.{arith}
+use borrow.Author.Tests.{lt-ltb}
+use lib.Dec.{ltb, eqb, lit≤}
+use lib.ListN.{length, length-append}
+use Rattle.mir.specs.declared.ops.UniOp.{UniOp}
+use Rattle.mir.specs.declared.ops.BinOp.{BinOp}
+use Rattle.mir.specs.declared.ops.ArithOp.{ArithOp}
+use Rattle.mir.specs.declared.ops.FusedOp.{FusedOp}
+use Rattle.mir.specs.declared.records.Loc.{Loc}
+use Rattle.mir.specs.declared.records.Work.{Work}
+use Rattle.mir.specs.declared.records.Record.{Record}
+use Rattle.text.specs.Sized.{SizedPlace, SizedWork, Sized}
+use Rattle.text.specs.Text.{ascii, decimalIn, decimal, hexIn, register, place, uniName, binName, fusedName, complexName, workText, recordText, recordLine, constantsHeading, constantLine, listingHeading, refusedLine}
+
+either : (b : Bool) (x y : List ℕ) (m : ℕ) → length x ≤ m → length y ≤ m → length (cond b x y) ≤ m
+either true x y m p q = p
+either false x y m p q = q
+
+-- a number has at most as many digits as it is given
+decimalIn-short : (d n : ℕ) → length (decimalIn d n) ≤ suc d
+unfolding decimalIn
+decimalIn-short zero n = omega arith
+decimalIn-short (suc d) n =
+    let i = decimalIn-short d (n / 10) in
+    either (ltb n 10) _ _ (suc (suc d)) (omega arith) (simp length-append (omega arith))
+
+-- ten to the k + 1
+abbrev ten : ℕ → ℕ
+ten zero = 10
+ten (suc k) = 10 * ten k
+
+digits : (k d n : ℕ) → n < ten k → length (decimalIn d n) ≤ suc k
+unfolding decimalIn
+digits k zero n h = omega arith
+digits zero (suc d) n h = simp (lt-ltb n 10 h) (omega arith)
+digits (suc k) (suc d) n h =
+    let i = digits k d (n / 10) (omega arith) in
+    either (ltb n 10) _ _ (suc (suc k)) (omega arith) (simp length-append (omega arith))
+
+hexIn-length : (d n : ℕ) → length (hexIn d n) ≡ d
+unfolding hexIn
+hexIn-length zero n = refl
+hexIn-length (suc d) n = let i = hexIn-length d (n / 16) in simp length-append (omega arith)
+
+number-short : (n : ℕ) → length (decimal n) ≤ 20
+number-short n = decimalIn-short 19 n
+
+byte-short : (n : ℕ) → n < 256 → length (decimal n) ≤ 3
+byte-short n h = digits 2 19 n (omega arith)
+
+index-short : (n : ℕ) → n < 65536 → length (decimal n) ≤ 5
+index-short n h = digits 4 19 n (omega arith)
+
+register-short : (r : ℕ) → r < 256 → length (register r) ≤ 4
+unfolding ascii register
+register-short r h =
+    let i = byte-short r h in
+    either (eqb r 64) _ _ 4 (lit≤ tt) (either (eqb r 65) _ _ 4 (lit≤ tt) (omega arith))
+
+place-short : (loc : Loc) → SizedPlace loc → length (place loc) ≤ 11
+unfolding ascii place
+place-short (Loc.Stack i) h = let d = index-short i h in omega arith
+place-short (Loc.Mem i) h = let d = index-short i h in omega arith
+place-short (Loc.Param i) h = let d = index-short i h in omega arith
+
+uni-short : (op : UniOp) → length (uniName op) ≤ 16
+unfolding ascii uniName
+uni-short UniOp.Neg = lit≤ tt
+uni-short UniOp.Not = lit≤ tt
+uni-short UniOp.Abs = lit≤ tt
+uni-short UniOp.Root = lit≤ tt
+uni-short UniOp.RealRoot = lit≤ tt
+uni-short UniOp.Recip = lit≤ tt
+uni-short UniOp.Round = lit≤ tt
+uni-short UniOp.Floor = lit≤ tt
+uni-short UniOp.Ceiling = lit≤ tt
+uni-short UniOp.Trunc = lit≤ tt
+uni-short UniOp.Real = lit≤ tt
+uni-short UniOp.Imaginary = lit≤ tt
+uni-short UniOp.Conjugate = lit≤ tt
+uni-short UniOp.Half = lit≤ tt
+uni-short UniOp.IsZero = lit≤ tt
+uni-short UniOp.IsNotZero = lit≤ tt
+uni-short UniOp.Sign = lit≤ tt
+uni-short UniOp.Abs2 = lit≤ tt
+uni-short UniOp.TimesI = lit≤ tt
+uni-short UniOp.TimesNegI = lit≤ tt
+
+bin-short : (op : BinOp) → length (binName op) ≤ 16
+unfolding ascii binName
+bin-short BinOp.Plus = lit≤ tt
+bin-short BinOp.Minus = lit≤ tt
+bin-short BinOp.Times = lit≤ tt
+bin-short BinOp.Divide = lit≤ tt
+bin-short BinOp.GreaterThan = lit≤ tt
+bin-short BinOp.GreaterThanEqual = lit≤ tt
+bin-short BinOp.LittleThan = lit≤ tt
+bin-short BinOp.LittleThanEqual = lit≤ tt
+bin-short BinOp.Equal = lit≤ tt
+bin-short BinOp.NotEqual = lit≤ tt
+bin-short BinOp.And = lit≤ tt
+bin-short BinOp.AndNot = lit≤ tt
+bin-short BinOp.Or = lit≤ tt
+bin-short BinOp.Xor = lit≤ tt
+bin-short BinOp.Complex = lit≤ tt
+
+fused-short : (op : FusedOp) → length (fusedName op) ≤ 16
+unfolding ascii fusedName
+fused-short FusedOp.MulAdd = lit≤ tt
+fused-short FusedOp.MulSub = lit≤ tt
+fused-short FusedOp.NegMulAdd = lit≤ tt
+fused-short FusedOp.NegMulSub = lit≤ tt
+
+complex-short : (op : ArithOp) → length (complexName op) ≤ 16
+unfolding ascii complexName
+complex-short ArithOp.Plus = lit≤ tt
+complex-short ArithOp.Minus = lit≤ tt
+complex-short ArithOp.Times = lit≤ tt
+complex-short ArithOp.Divide = lit≤ tt
+
+work-short : (w : Work) → SizedWork w → length (workText w) ≤ 79
+unfolding ascii workText
+work-short (Work.Uni op dst s1) h =
+    let n = uni-short op in
+    let r0 = register-short dst (h .0) in
+    let r1 = register-short s1 (h .1) in
+    simp length-append (omega arith)
+work-short (Work.Bi op dst s1 s2) h =
+    let n = bin-short op in
+    let r0 = register-short dst (h .0) in
+    let r1 = register-short s1 (h .1) in
+    let r2 = register-short s2 (h .2) in
+    simp length-append (omega arith)
+work-short (Work.Mov dst s1) h =
+    let r0 = register-short dst (h .0) in
+    let r1 = register-short s1 (h .1) in
+    simp length-append (omega arith)
+work-short (Work.Load dst loc) h =
+    let r0 = register-short dst (h .0) in
+    let p = place-short loc (h .1) in
+    simp length-append (omega arith)
+work-short (Work.Save src loc) h =
+    let r0 = register-short src (h .0) in
+    let p = place-short loc (h .1) in
+    simp length-append (omega arith)
+work-short (Work.LoadConst dst idx) h =
+    let r0 = register-short dst (h .0) in
+    let p = index-short idx (h .1) in
+    simp length-append (omega arith)
+work-short (Work.Fused op dst a b c) h =
+    let n = fused-short op in
+    let r0 = register-short dst (h .0) in
+    let r1 = register-short a (h .1) in
+    let r2 = register-short b (h .2) in
+    let r3 = register-short c (h .3) in
+    simp length-append (omega arith)
+work-short (Work.IfElse dst t f loc) h =
+    let r0 = register-short dst (h .0) in
+    let r1 = register-short t (h .1) in
+    let r2 = register-short f (h .2) in
+    let p = place-short loc (h .3) in
+    simp length-append (omega arith)
+work-short (Work.LoadComplex xd yd loc) h =
+    let r0 = register-short xd (h .0) in
+    let r1 = register-short yd (h .1) in
+    let p = place-short loc (h .2) in
+    simp length-append (omega arith)
+work-short (Work.SaveComplex xs ys loc) h =
+    let r0 = register-short xs (h .0) in
+    let r1 = register-short ys (h .1) in
+    let p = place-short loc (h .2) in
+    simp length-append (omega arith)
+work-short (Work.ComplexBi op xd yd x1 y1 x2 y2) h =
+    let n = complex-short op in
+    let r0 = register-short xd (h .0) in
+    let r1 = register-short yd (h .1) in
+    let r2 = register-short x1 (h .2) in
+    let r3 = register-short y1 (h .3) in
+    let r4 = register-short x2 (h .4) in
+    let r5 = register-short y2 (h .5) in
+    simp length-append (omega arith)
+
+text-short : (r : Record) → Sized r → length (recordText r) ≤ 79
+unfolding ascii recordText
+text-short (Record.Work w) h = work-short w h
+text-short (Record.Label l) h = let d = byte-short l h in omega arith
+text-short (Record.Branch l) h = let d = byte-short l h in omega arith
+text-short (Record.Call l) h = let d = byte-short l h in omega arith
+
+pub record-short : (r : Record) → Sized r → length (recordLine r) ≤ 80
+unfolding recordLine
+record-short r h = let i = text-short r h in simp length-append (omega arith)
+
+pub constants-heading-short : (n : ℕ) → length (constantsHeading n) ≤ 80
+unfolding ascii constantsHeading
+constants-heading-short n = let d = number-short n in simp length-append (omega arith)
+
+pub constant-short : (i w : ℕ) → length (constantLine i w) ≤ 80
+unfolding constantLine
+constant-short i w = let d = number-short i in simp (length-append, hexIn-length) (omega arith)
+
+pub listing-heading-short : (m n : ℕ) → length (listingHeading m n) ≤ 80
+unfolding ascii listingHeading
+listing-heading-short m n = let d = number-short m in let e = number-short n in simp length-append (omega arith)
+
+pub refused-short : (m n : ℕ) → length (refusedLine m n) ≤ 80
+unfolding ascii refusedLine
+refused-short m n = let d = number-short m in let e = number-short n in simp length-append (omega arith)

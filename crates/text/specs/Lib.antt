@@ -1,0 +1,4 @@
+pub mod Text
+pub mod Paper
+pub mod Line
+pub mod Sized

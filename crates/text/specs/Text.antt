@@ -1,0 +1,184 @@
+-- What the program `listing` prints (document 01, "One sheet on paper"), as bytes.
+use Prim.Native.Nat.{ℕ, zero, suc, _+_, _/_, _%_}
+use Prim.Native.String.{String, [] as ε, _∷_ as _∷ᶜ_}
+use Prim.Native.Char.{code}
+use mathlib.Core.Bool.{cond}
+use mathlib.Core.List.{List, [], _∷_, _++_}
+use lib.ListN.{length}
+use lib.Dec.{ltb, eqb}
+use Rattle.mir.specs.declared.ops.UniOp.{UniOp}
+use Rattle.mir.specs.declared.ops.BinOp.{BinOp}
+use Rattle.mir.specs.declared.ops.ArithOp.{ArithOp}
+use Rattle.mir.specs.declared.ops.FusedOp.{FusedOp}
+use Rattle.mir.specs.declared.records.Loc.{Loc}
+use Rattle.mir.specs.declared.records.Work.{Work}
+use Rattle.mir.specs.declared.records.Record.{Record}
+
+-- the bytes of a quoted text
+unfoldable pub ascii : String → List ℕ
+ascii ε = []
+ascii (c ∷ᶜ s) = code c ∷ ascii s
+
+-- a number in decimal, with as many digits as it has, here at most d + 1
+unfoldable pub decimalIn : ℕ → ℕ → List ℕ
+decimalIn zero n = (48 + n % 10) ∷ []
+decimalIn (suc d) n = cond (ltb n 10) ((48 + n) ∷ []) (decimalIn d (n / 10) ++ (48 + n % 10) ∷ [])
+
+abbrev pub decimal : ℕ → List ℕ
+decimal n = decimalIn 19 n
+
+-- "16 hexadecimal digits, which are the bits of an f64"
+abbrev pub hexDigit : ℕ → ℕ
+hexDigit n = cond (ltb n 10) (48 + n) (87 + n)
+
+unfoldable pub hexIn : ℕ → ℕ → List ℕ
+hexIn zero n = []
+hexIn (suc d) n = hexIn d (n / 16) ++ hexDigit (n % 16) ∷ []
+
+abbrev pub hex : ℕ → List ℕ
+hex w = hexIn 16 w
+
+abbrev pub space : List ℕ → List ℕ
+space l = 32 ∷ l
+
+-- "Registers print as Ret, Temp or G and a number"
+unfoldable pub register : ℕ → List ℕ
+unfolding ascii decimalIn
+register r = cond (eqb r 64) (ascii "Ret") (cond (eqb r 65) (ascii "Temp") (ascii "G" ++ decimal r))
+
+-- "a place as class and index"
+unfoldable pub place : Loc → List ℕ
+unfolding ascii decimalIn
+place (Loc.Stack i) = ascii "Stack" ++ space (decimal i)
+place (Loc.Mem i) = ascii "Mem" ++ space (decimal i)
+place (Loc.Param i) = ascii "Param" ++ space (decimal i)
+
+-- "a kind with operations prints the operation alone"
+unfoldable pub uniName : UniOp → List ℕ
+unfolding ascii
+uniName UniOp.Neg = ascii "Neg"
+uniName UniOp.Not = ascii "Not"
+uniName UniOp.Abs = ascii "Abs"
+uniName UniOp.Root = ascii "Root"
+uniName UniOp.RealRoot = ascii "RealRoot"
+uniName UniOp.Recip = ascii "Recip"
+uniName UniOp.Round = ascii "Round"
+uniName UniOp.Floor = ascii "Floor"
+uniName UniOp.Ceiling = ascii "Ceiling"
+uniName UniOp.Trunc = ascii "Trunc"
+uniName UniOp.Real = ascii "Real"
+uniName UniOp.Imaginary = ascii "Imaginary"
+uniName UniOp.Conjugate = ascii "Conjugate"
+uniName UniOp.Half = ascii "Half"
+uniName UniOp.IsZero = ascii "IsZero"
+uniName UniOp.IsNotZero = ascii "IsNotZero"
+uniName UniOp.Sign = ascii "Sign"
+uniName UniOp.Abs2 = ascii "Abs2"
+uniName UniOp.TimesI = ascii "TimesI"
+uniName UniOp.TimesNegI = ascii "TimesNegI"
+
+unfoldable pub binName : BinOp → List ℕ
+unfolding ascii
+binName BinOp.Plus = ascii "Plus"
+binName BinOp.Minus = ascii "Minus"
+binName BinOp.Times = ascii "Times"
+binName BinOp.Divide = ascii "Divide"
+binName BinOp.GreaterThan = ascii "GreaterThan"
+binName BinOp.GreaterThanEqual = ascii "GreaterThanEqual"
+binName BinOp.LittleThan = ascii "LittleThan"
+binName BinOp.LittleThanEqual = ascii "LittleThanEqual"
+binName BinOp.Equal = ascii "Equal"
+binName BinOp.NotEqual = ascii "NotEqual"
+binName BinOp.And = ascii "And"
+binName BinOp.AndNot = ascii "AndNot"
+binName BinOp.Or = ascii "Or"
+binName BinOp.Xor = ascii "Xor"
+binName BinOp.Complex = ascii "Complex"
+
+unfoldable pub fusedName : FusedOp → List ℕ
+unfolding ascii
+fusedName FusedOp.MulAdd = ascii "MulAdd"
+fusedName FusedOp.MulSub = ascii "MulSub"
+fusedName FusedOp.NegMulAdd = ascii "NegMulAdd"
+fusedName FusedOp.NegMulSub = ascii "NegMulSub"
+
+-- "a ComplexBi with Complex added"
+unfoldable pub complexName : ArithOp → List ℕ
+unfolding ascii
+complexName ArithOp.Plus = ascii "PlusComplex"
+complexName ArithOp.Minus = ascii "MinusComplex"
+complexName ArithOp.Times = ascii "TimesComplex"
+complexName ArithOp.Divide = ascii "DivideComplex"
+
+abbrev pub registers : List ℕ → List ℕ
+registers [] = []
+registers (r ∷ rs) = space (register r) ++ registers rs
+
+-- "labels by number, [..] fields in order"
+unfoldable pub workText : Work → List ℕ
+unfolding ascii decimalIn register place uniName binName fusedName complexName
+workText (Work.Uni op dst s1) = uniName op ++ registers (dst ∷ s1 ∷ [])
+workText (Work.Bi op dst s1 s2) = binName op ++ registers (dst ∷ s1 ∷ s2 ∷ [])
+workText (Work.Mov dst s1) = ascii "Mov" ++ registers (dst ∷ s1 ∷ [])
+workText (Work.Load dst loc) = ascii "Load" ++ registers (dst ∷ []) ++ space (place loc)
+workText (Work.Save src loc) = ascii "Save" ++ registers (src ∷ []) ++ space (place loc)
+workText (Work.LoadConst dst idx) = ascii "LoadConst" ++ registers (dst ∷ []) ++ space (decimal idx)
+workText (Work.Fused op dst a b c) = fusedName op ++ registers (dst ∷ a ∷ b ∷ c ∷ [])
+workText (Work.IfElse dst t f loc) = ascii "IfElse" ++ registers (dst ∷ t ∷ f ∷ []) ++ space (place loc)
+workText (Work.LoadComplex xd yd loc) = ascii "LoadComplex" ++ registers (xd ∷ yd ∷ []) ++ space (place loc)
+workText (Work.SaveComplex xs ys loc) = ascii "SaveComplex" ++ registers (xs ∷ ys ∷ []) ++ space (place loc)
+workText (Work.ComplexBi op xd yd x1 y1 x2 y2) = complexName op ++ registers (xd ∷ yd ∷ x1 ∷ y1 ∷ x2 ∷ y2 ∷ [])
+
+unfoldable pub recordText : Record → List ℕ
+unfolding workText ascii decimalIn
+recordText (Record.Work w) = workText w
+recordText (Record.Label l) = ascii "Label" ++ space (decimal l)
+recordText (Record.Branch l) = ascii "Branch" ++ space (decimal l)
+recordText (Record.Call l) = ascii "Call" ++ space (decimal l)
+
+-- a line ends with a line feed
+abbrev pub line : List ℕ → List ℕ
+line l = l ++ 10 ∷ []
+
+-- "constants (count, then index and bits)"
+unfoldable pub constantsHeading : ℕ → List ℕ
+unfolding ascii decimalIn
+constantsHeading count = line (ascii "constants" ++ space (decimal count))
+
+unfoldable pub constantLine : ℕ → ℕ → List ℕ
+unfolding decimalIn hexIn
+constantLine index word = line (decimal index ++ space (hex word))
+
+-- "records and bytes"
+unfoldable pub listingHeading : ℕ → ℕ → List ℕ
+unfolding ascii decimalIn
+listingHeading records bytes = line (ascii "listing" ++ space (decimal records) ++ space (decimal bytes))
+
+unfoldable pub recordLine : Record → List ℕ
+unfolding recordText
+recordLine r = line (recordText r)
+
+-- "A refusal prints only `refused`, its number and index."
+unfoldable pub refusedLine : ℕ → ℕ → List ℕ
+unfolding ascii decimalIn
+refusedLine number index = line (ascii "refused" ++ space (decimal number) ++ space (decimal index))
+
+-- a table of constants from an index on, and records, line by line
+unfoldable pub constantLines : ℕ → List ℕ → List ℕ
+unfolding constantLine
+constantLines index [] = []
+constantLines index (w ∷ ws) = constantLine index w ++ constantLines (suc index) ws
+
+unfoldable pub recordLines : List Record → List ℕ
+unfolding recordLine
+recordLines [] = []
+recordLines (r ∷ rs) = recordLine r ++ recordLines rs
+
+-- the whole page of an accepted sheet: its constants, and its listing's records and bytes
+unfoldable pub page : List ℕ → List Record → ℕ → List ℕ
+unfolding constantsHeading constantLines listingHeading recordLines
+page constants records bytes =
+    constantsHeading (length constants)
+    ++ constantLines 0 constants
+    ++ listingHeading (length records) bytes
+    ++ recordLines records

@@ -1,0 +1,5 @@
+// Listings as text.
+pub mod fields;
+pub mod line;
+pub mod lines;
+pub mod names;
