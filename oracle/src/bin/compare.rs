@@ -1,0 +1,111 @@
+//! Runs sheets and plays through the reference and through the C functions, and prints every difference.
+//! Usage: compare [COUNT] [SEED].
+
+use std::process::ExitCode;
+
+use oracle::boundary;
+use oracle::ffi::{wrong_lengths, Linked};
+use oracle::lists::{lowered, played};
+use oracle::machine::Reference;
+use oracle::random::{self, Rng, ToLower, ToPlay};
+
+/// Cases tried and differences found, by answer number.
+#[derive(Default)]
+struct Tally {
+    numbers: [u64; 10],
+    differences: u64,
+}
+
+impl Tally {
+    fn report(&self, what: &str) {
+        let total: u64 = self.numbers.iter().sum();
+        println!("{what}: {total} cases, answers 0 to 9: {:?}, {} differences", self.numbers, self.differences);
+    }
+
+    /// Counts an answer and prints what differs: the answer, then the first place of each slice.
+    fn note(&mut self, number: u32, same: bool, text: impl FnOnce() -> String) {
+        self.numbers[number as usize] += 1;
+        if !same {
+            self.differences += 1;
+            println!("{}", text());
+        }
+    }
+}
+
+/// The first place where two slices differ.
+fn first_difference<T: PartialEq>(one: &[T], other: &[T]) -> Option<usize> {
+    one.iter().zip(other).position(|(a, b)| a != b)
+}
+
+fn compare_sheet(case: &ToLower, tally: &mut Tally) {
+    let (expected, found) = (lowered(&Reference, case), lowered(&Linked, case));
+    tally.note(expected.0.number, expected == found, || {
+        format!(
+            "sheet {:?}\n  room {}, table {}\n  expected {:?}\n  found {:?}\n  listing differs at {:?}, constants at {:?}",
+            case.sheet,
+            case.room,
+            case.table,
+            expected.0,
+            found.0,
+            first_difference(&expected.1, &found.1),
+            first_difference(&expected.2, &found.2)
+        )
+    });
+}
+
+fn compare_play(case: &ToPlay, tally: &mut Tally) {
+    let (expected, found) = (played(&Reference, case), played(&Linked, case));
+    tally.note(expected.0.number, expected == found, || {
+        let at = first_difference(&expected.1, &found.1);
+        let words = at.map(|i| format!("{:016x} {:016x} {:016x}", case.store[i], expected.1[i], found.1[i]));
+        format!(
+            "listing {:?}\n  constants {}, start {}\n  expected {:?}\n  found {:?}\n  store differs at {:?}: before, expected, found {:?}",
+            case.listing,
+            case.constants.len(),
+            case.start,
+            expected.0,
+            found.0,
+            at,
+            words
+        )
+    });
+}
+
+fn main() -> ExitCode {
+    let mut words = std::env::args().skip(1).map(|w| w.parse::<u64>().expect("a number"));
+    let count = words.next().unwrap_or(10_000);
+    let mut rng = Rng(words.next().unwrap_or(1));
+
+    let mut sheets = Tally::default();
+    boundary::sheets().iter().for_each(|case| compare_sheet(case, &mut sheets));
+    sheets.report("sheets at limits");
+    let mut random_sheets = Tally::default();
+    (0..count).for_each(|_| compare_sheet(&random::to_lower(&mut rng), &mut random_sheets));
+    random_sheets.report("random sheets");
+
+    let mut plays = Tally::default();
+    boundary::plays().iter().for_each(|case| compare_play(case, &mut plays));
+    boundary::jump_rows(4).iter().for_each(|case| compare_play(case, &mut plays));
+    plays.report("plays at limits");
+    let mut random_plays = Tally::default();
+    (0..count).for_each(|_| compare_play(&random::to_play(&mut rng), &mut random_plays));
+    random_plays.report("random plays");
+
+    let mut arithmetic = Tally::default();
+    for _ in 0..count {
+        let [a, b, c] = std::array::from_fn(|_| random::any_word(&mut rng));
+        compare_play(&boundary::all_operations(a, b, c), &mut arithmetic);
+    }
+    arithmetic.report("every operation on random words");
+
+    let wrong = wrong_lengths();
+    wrong.iter().for_each(|text| println!("{text}"));
+    let tallies = [&sheets, &random_sheets, &plays, &random_plays, &arithmetic];
+    let differences = wrong.len() as u64 + tallies.iter().map(|t| t.differences).sum::<u64>();
+    println!("{differences} differences");
+    if differences == 0 {
+        ExitCode::SUCCESS
+    } else {
+        ExitCode::FAILURE
+    }
+}

@@ -1,0 +1,36 @@
+//! Writes the lists `sheets` and `plays` for replay (formats: lists.rs) into a folder.
+//! Usage: make-lists FOLDER [COUNT] [SEED]. Of each list COUNT cases are random; about so many, too, are drawn from the limits.
+
+use std::fs;
+use std::path::Path;
+
+use oracle::random::{self, Rng};
+use oracle::{boundary, lists};
+
+/// Up to `count` of the cases, evenly spread.
+fn spread<T: Clone>(cases: &[T], count: usize) -> Vec<T> {
+    let step = cases.len().div_ceil(count.max(1)).max(1);
+    cases.iter().step_by(step).cloned().collect()
+}
+
+fn write(folder: &Path, name: &str, bytes: &[u8]) {
+    fs::write(folder.join(name), bytes).expect("the folder can be written");
+    println!("{name}: {} bytes", bytes.len());
+}
+
+fn main() {
+    let mut words = std::env::args().skip(1);
+    let folder = words.next().expect("a folder");
+    let count = words.next().map_or(500, |w| w.parse().expect("a count"));
+    let mut rng = Rng(words.next().map_or(1, |w| w.parse().expect("a seed")));
+
+    let mut sheets = spread(&boundary::sheets(), count);
+    sheets.extend((0..count).map(|_| random::to_lower(&mut rng)));
+    write(Path::new(&folder), "sheets", &lists::sheets(&sheets));
+
+    let mut plays = boundary::kept_plays();
+    plays.extend(spread(&boundary::plays(), count / 2));
+    plays.extend(spread(&boundary::jump_rows(4), count / 2));
+    plays.extend((0..count).map(|_| random::to_play(&mut rng)));
+    write(Path::new(&folder), "plays", &lists::plays(&plays));
+}

@@ -1,0 +1,162 @@
+//! The C functions of the crate `interface`, behind the same entries as the reference.
+
+use crate::format::{word, SETUP};
+use crate::lists::LENT;
+use crate::machine::Machine;
+use crate::player::Played;
+use crate::reference::{Answer, Realness};
+
+extern "C" {
+    fn tulipcricket_lower(
+        sheet: *const u8,
+        sheet_len: usize,
+        listing: *mut u8,
+        listing_len: usize,
+        constants: *mut u8,
+        constants_len: usize,
+        answer: *mut u8,
+        answer_len: usize,
+    ) -> u32;
+
+    fn tulipcricket_play(
+        listing: *const u8,
+        listing_len: usize,
+        constants: *const u8,
+        constants_len: usize,
+        store: *mut u8,
+        store_len: usize,
+        start: u64,
+        answer: *mut u8,
+        answer_len: usize,
+    ) -> u32;
+}
+
+const LOWER_ANSWER: usize = 128;
+const PLAY_ANSWER: usize = 24;
+
+/// `tulipcricket_lower` over slices; the number it returns.
+pub fn lower(sheet: &[u8], listing: &mut [u8], constants: &mut [u8], answer: &mut [u8]) -> u32 {
+    // SAFETY: each pointer comes with the length of the slice it was taken from, and the function keeps none.
+    unsafe {
+        tulipcricket_lower(
+            sheet.as_ptr(),
+            sheet.len(),
+            listing.as_mut_ptr(),
+            listing.len(),
+            constants.as_mut_ptr(),
+            constants.len(),
+            answer.as_mut_ptr(),
+            answer.len(),
+        )
+    }
+}
+
+/// `tulipcricket_play` over slices; the number it returns.
+pub fn play(listing: &[u8], constants: &[u8], store: &mut [u8], start: u64, answer: &mut [u8]) -> u32 {
+    // SAFETY: each pointer comes with the length of the slice it was taken from, and the function keeps none.
+    unsafe {
+        tulipcricket_play(
+            listing.as_ptr(),
+            listing.len(),
+            constants.as_ptr(),
+            constants.len(),
+            store.as_mut_ptr(),
+            store.len(),
+            start,
+            answer.as_mut_ptr(),
+            answer.len(),
+        )
+    }
+}
+
+fn to_bytes(words: &[u64]) -> Vec<u8> {
+    words.iter().flat_map(|w| w.to_le_bytes()).collect()
+}
+
+fn from_bytes(bytes: &[u8], words: &mut [u64]) {
+    for (i, w) in words.iter_mut().enumerate() {
+        *w = word(bytes, 8 * i);
+    }
+}
+
+/// The 128 bytes of a lowering's answer.
+fn lowered(number: u32, bytes: &[u8]) -> Answer {
+    assert_eq!(number as u64, word(bytes, 0), "the returned number is the answer's");
+    let mut registers = [false; 32];
+    for (flag, byte) in registers.iter_mut().zip(&bytes[32..64]) {
+        assert!(*byte <= 1, "a register flag is 0 or 1");
+        *flag = *byte == 1;
+    }
+    let realness = Realness { registers, places: bytes[64..128].try_into().unwrap() };
+    Answer { number, index: word(bytes, 8), written: word(bytes, 16), count: word(bytes, 24), realness }
+}
+
+/// The library that is linked.
+pub struct Linked;
+
+impl Machine for Linked {
+    fn lower(&self, sheet: &[u8], listing: &mut [u8], constants: &mut [u64]) -> Answer {
+        let mut table = to_bytes(constants);
+        let mut answer = [LENT; LOWER_ANSWER];
+        let number = lower(sheet, listing, &mut table, &mut answer);
+        from_bytes(&table, constants);
+        lowered(number, &answer)
+    }
+
+    fn play(&self, listing: &[u8], constants: &[u64], store: &mut [u64], start: u64) -> Played {
+        let table = to_bytes(constants);
+        let mut words = to_bytes(store);
+        let mut answer = [LENT; PLAY_ANSWER];
+        let number = play(listing, &table, &mut words, start, &mut answer);
+        from_bytes(&words, store);
+        assert_eq!(number as u64, word(&answer, 0), "the returned number is the answer's");
+        Played { number, index: word(&answer, 8), played: word(&answer, 16) }
+    }
+}
+
+/// Whether every byte is as lent.
+fn kept(slices: &[&[u8]]) -> bool {
+    slices.iter().all(|s| s.iter().all(|b| *b == LENT))
+}
+
+/// `tulipcricket_lower` of the empty sheet is refused by 8; it fills the answer unless that or the words are of a wrong shape.
+fn wrong_lower(constants: usize, length: usize) -> Option<String> {
+    let (mut listing, mut table, mut answer) = (vec![LENT; 64], vec![LENT; constants], vec![LENT; length]);
+    let number = lower(&[], &mut listing, &mut table, &mut answer);
+    let filled = length == LOWER_ANSWER && constants.is_multiple_of(8);
+    let expected = [&(SETUP as u64).to_le_bytes()[..], &[0; LOWER_ANSWER - 8]].concat();
+    let told = if filled { answer == expected } else { kept(&[&answer]) };
+    if number == SETUP && told && kept(&[&listing, &table]) {
+        return None;
+    }
+    Some(format!("lower with {constants} bytes of constants and {length} of answer: {number}, {answer:?}"))
+}
+
+/// The same of `tulipcricket_play` with a store of another length.
+fn wrong_play(constants: usize, words: usize, length: usize) -> Option<String> {
+    let (table, mut store, mut answer) = (vec![LENT; constants], vec![LENT; words], vec![LENT; length]);
+    let number = play(&[], &table, &mut store, 0, &mut answer);
+    let filled = length == PLAY_ANSWER && constants.is_multiple_of(8);
+    let expected = [&(SETUP as u64).to_le_bytes()[..], &[0; PLAY_ANSWER - 8]].concat();
+    let told = if filled { answer == expected } else { kept(&[&answer]) };
+    if number == SETUP && told && kept(&[&store]) {
+        return None;
+    }
+    Some(format!(
+        "play with {constants} bytes of constants, {words} of store, {length} of answer: {number}, {answer:?}"
+    ))
+}
+
+/// Slices of lengths that only the C functions can be lent; what is not as it should be.
+pub fn wrong_lengths() -> Vec<String> {
+    let mut found = Vec::new();
+    for constants in [0, 8, 2040, 2047, 2048, 2049, 2056] {
+        found.extend([0, 127, 128, 129, 256].map(|length| wrong_lower(constants, length)));
+    }
+    for constants in [0, 7, 8, 9, 2047] {
+        for words in [0, 8, 12_808, 12_815, 12_817, 12_824] {
+            found.extend([0, 23, 24, 25].map(|length| wrong_play(constants, words, length)));
+        }
+    }
+    found.into_iter().flatten().collect()
+}

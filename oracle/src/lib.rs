@@ -1,0 +1,20 @@
+//! The independent side of every comparison: the Rust's own lowering behind document 01's wrapper, and a player.
+
+#![allow(uncommon_codepoints)] // a name in complexify.rs
+
+pub mod boundary;
+pub mod claim;
+pub mod encode;
+#[cfg(feature = "linked")]
+pub mod ffi;
+pub mod flow;
+pub mod format;
+pub mod lists;
+pub mod machine;
+pub mod make;
+pub mod names;
+pub mod player;
+pub mod print;
+pub mod random;
+pub mod reference;
+pub mod rust;

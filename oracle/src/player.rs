@@ -1,0 +1,362 @@
+//! Document 01's player, over f64 arithmetic of this machine. Written from its rules alone.
+
+use crate::format::*;
+use crate::names::{bi, uni, LISTING_BI, LISTING_UNI};
+
+/// What playing gives back.
+#[derive(Clone, Copy, Debug, PartialEq)]
+pub struct Played {
+    pub number: u32,
+    pub index: u64,
+    pub played: u64,
+}
+
+/// A NaN that arithmetic, Root, Round or MulAdd gives.
+const NAN: u64 = 0x7ff8_0000_0000_0000;
+const SIGN: u64 = 1 << 63;
+
+#[derive(Clone, Copy, Debug)]
+struct Place {
+    class: u8,
+    index: u16,
+}
+
+#[derive(Clone, Copy, Debug)]
+enum Record {
+    Uni { op: u8, dst: u8, s1: u8 },
+    Bi { op: u8, dst: u8, s1: u8, s2: u8 },
+    Mov { dst: u8, s1: u8 },
+    Load { dst: u8, place: Place },
+    Save { src: u8, place: Place },
+    LoadConst { dst: u8, constant: u16 },
+    MulAdd { dst: u8, a: u8, b: u8, c: u8 },
+    IfElse { dst: u8, true_val: u8, false_val: u8, place: Place },
+    LoadComplex { xd: u8, yd: u8, place: Place },
+    SaveComplex { xs: u8, ys: u8, place: Place },
+    ComplexBi { op: u8, xd: u8, yd: u8, x1: u8, y1: u8, x2: u8, y2: u8 },
+    Label(u8),
+    Branch(u8),
+    Call(u8),
+}
+
+/// One record, or its refusal 1 to 5.
+fn examine(record: Option<&[u8]>, constants: usize) -> Result<Record, u32> {
+    let record = record.ok_or(TORN)?;
+    let kind = two(record, 2);
+    if !matches!(kind, 1..=8 | 11..=16) {
+        return Err(UNKNOWN);
+    }
+    if record.len() != LENGTHS[kind as usize] {
+        return Err(TORN);
+    }
+    let fields = &record[4..];
+    check_operation(kind, fields[0])?;
+    check_registers(registers(kind, fields))?;
+    check_place(kind, fields)?;
+    if kind == 6 && two(fields, 1) as usize >= constants {
+        return Err(MISSING);
+    }
+    Ok(read(kind, fields))
+}
+
+/// The operation, or the label.
+fn check_operation(kind: u16, first: u8) -> Result<(), u32> {
+    let known = match kind {
+        1 => LISTING_UNI.contains(&first),
+        2 => LISTING_BI.contains(&first),
+        7 => first == 0,
+        13 => first <= 3,
+        14..=16 => first <= 2,
+        _ => true,
+    };
+    if known {
+        Ok(())
+    } else {
+        Err(UNKNOWN)
+    }
+}
+
+/// The bytes of a record that are registers.
+fn registers(kind: u16, fields: &[u8]) -> &[u8] {
+    match kind {
+        1 | 2 | 7 | 13 => &fields[1..],
+        3 => fields,
+        4..=6 => &fields[..1],
+        8 => &fields[..3],
+        11 | 12 => &fields[..2],
+        _ => &[],
+    }
+}
+
+fn check_registers(registers: &[u8]) -> Result<(), u32> {
+    if registers.iter().any(|r| *r > LISTING_TEMP) {
+        return Err(REGISTER);
+    }
+    Ok(())
+}
+
+/// The place of a record that has one.
+fn place(kind: u16, fields: &[u8]) -> Option<Place> {
+    let at = match kind {
+        4 | 5 => 1,
+        8 => 3,
+        11 | 12 => 2,
+        _ => return None,
+    };
+    Some(Place { class: fields[at], index: two(fields, at + 1) })
+}
+
+fn check_place(kind: u16, fields: &[u8]) -> Result<(), u32> {
+    let Some(place) = place(kind, fields) else {
+        return Ok(());
+    };
+    let classes = match kind {
+        5 | 12 => STACK..=MEM,
+        8 => STACK..=STACK,
+        _ => STACK..=PARAM,
+    };
+    if classes.contains(&place.class) && place.index <= 255 {
+        Ok(())
+    } else {
+        Err(PLACE)
+    }
+}
+
+/// The record of fields that were examined.
+fn read(kind: u16, f: &[u8]) -> Record {
+    let place = place(kind, f).unwrap_or(Place { class: 0, index: 0 });
+    match kind {
+        1 => Record::Uni { op: f[0], dst: f[1], s1: f[2] },
+        2 => Record::Bi { op: f[0], dst: f[1], s1: f[2], s2: f[3] },
+        3 => Record::Mov { dst: f[0], s1: f[1] },
+        4 => Record::Load { dst: f[0], place },
+        5 => Record::Save { src: f[0], place },
+        6 => Record::LoadConst { dst: f[0], constant: two(f, 1) },
+        7 => Record::MulAdd { dst: f[1], a: f[2], b: f[3], c: f[4] },
+        8 => Record::IfElse { dst: f[0], true_val: f[1], false_val: f[2], place },
+        11 => Record::LoadComplex { xd: f[0], yd: f[1], place },
+        12 => Record::SaveComplex { xs: f[0], ys: f[1], place },
+        13 => Record::ComplexBi { op: f[0], xd: f[1], yd: f[2], x1: f[3], y1: f[4], x2: f[5], y2: f[6] },
+        14 => Record::Label(f[0]),
+        15 => Record::Branch(f[0]),
+        _ => Record::Call(f[0]),
+    }
+}
+
+/// Every record, or the refusal 1 to 5 of the first bad one with its index.
+fn examine_all(listing: &[u8], constants: usize) -> Result<Vec<Record>, (u32, u64)> {
+    let mut rest = listing;
+    let mut found = Vec::new();
+    while !rest.is_empty() {
+        let record = first(rest);
+        found.push(examine(record, constants).map_err(|number| (number, found.len() as u64))?);
+        rest = &rest[record.unwrap().len()..];
+    }
+    Ok(found)
+}
+
+/// Where a label first stands.
+fn find_label(records: &[Record], label: u8) -> Option<usize> {
+    records.iter().position(|r| matches!(r, Record::Label(l) if *l == label))
+}
+
+/// The block: from Label 1 to the first Branch 0 after it. `None` without a Label 1 or its Branch 0.
+fn block(records: &[Record]) -> Option<(usize, usize)> {
+    let from = find_label(records, 1)?;
+    let ends = |r: &Record| matches!(r, Record::Branch(0));
+    let to = from + records[from..].iter().position(ends)?;
+    Some((from, to))
+}
+
+/// Whether the record at `index` breaks a jump rule.
+fn strays(records: &[Record], index: usize) -> bool {
+    let inside = || block(records).is_some_and(|(from, to)| from < index && index < to);
+    match records[index] {
+        Record::Label(label) => {
+            let again = find_label(records, label) != Some(index);
+            let without_end = label == 1 && block(records).is_none();
+            label == 0 || again || without_end || inside()
+        }
+        Record::Branch(0) => false,
+        Record::Branch(2) => inside() || find_label(&records[index..], 2).is_none(),
+        Record::Branch(_) => true,
+        Record::Call(label) => label != 1 || inside() || find_label(records, 1).is_none(),
+        _ => false,
+    }
+}
+
+/// A result of arithmetic.
+fn folded(value: f64) -> u64 {
+    if value.is_nan() {
+        NAN
+    } else {
+        value.to_bits()
+    }
+}
+
+fn plus(a: u64, b: u64) -> u64 {
+    folded(f64::from_bits(a) + f64::from_bits(b))
+}
+
+fn minus(a: u64, b: u64) -> u64 {
+    folded(f64::from_bits(a) - f64::from_bits(b))
+}
+
+fn times(a: u64, b: u64) -> u64 {
+    folded(f64::from_bits(a) * f64::from_bits(b))
+}
+
+fn divide(a: u64, b: u64) -> u64 {
+    folded(f64::from_bits(a) / f64::from_bits(b))
+}
+
+fn mul_add(a: u64, b: u64, c: u64) -> u64 {
+    folded(f64::from_bits(a).mul_add(f64::from_bits(b), f64::from_bits(c)))
+}
+
+fn mask(holds: bool) -> u64 {
+    if holds {
+        u64::MAX
+    } else {
+        0
+    }
+}
+
+fn unary(op: u8, a: u64) -> u64 {
+    match op {
+        uni::NEG => a ^ SIGN,
+        uni::NOT => !a,
+        uni::ABS => a & !SIGN,
+        uni::ROOT => folded(f64::from_bits(a).sqrt()),
+        uni::RECIP => divide(1.0f64.to_bits(), a),
+        uni::ROUND => folded(f64::from_bits(a).round_ties_even()),
+        uni::HALF => times(a, 0.5f64.to_bits()),
+        uni::SIGN => a & SIGN,
+        _ => unreachable!("examined"),
+    }
+}
+
+fn binary(op: u8, a: u64, b: u64) -> u64 {
+    let (x, y) = (f64::from_bits(a), f64::from_bits(b));
+    match op {
+        bi::PLUS => plus(a, b),
+        bi::MINUS => minus(a, b),
+        bi::TIMES => times(a, b),
+        bi::DIVIDE => divide(a, b),
+        bi::GREATER_THAN => mask(x > y),
+        bi::LITTLE_THAN => mask(x < y),
+        bi::EQUAL => mask(x == y),
+        bi::NOT_EQUAL => mask(x != y),
+        bi::AND => a & b,
+        bi::OR => a | b,
+        bi::XOR => a ^ b,
+        _ => unreachable!("examined"),
+    }
+}
+
+/// Both halves of a ComplexBi.
+fn complex(op: u8, x1: u64, y1: u64, x2: u64, y2: u64) -> (u64, u64) {
+    match op {
+        0 => (plus(x1, x2), plus(y1, y2)),
+        1 => (minus(x1, x2), minus(y1, y2)),
+        2 => (minus(times(x1, x2), times(y1, y2)), plus(times(y1, x2), times(x1, y2))),
+        _ => {
+            let x = plus(times(x1, x2), times(y1, y2));
+            let y = minus(times(y1, x2), times(x1, y2));
+            let square = plus(times(x2, x2), times(y2, y2));
+            (divide(x, square), divide(y, square))
+        }
+    }
+}
+
+/// Where a place's real word stands in the store; the imaginary one follows.
+pub fn place_word(class: u8, index: u16) -> usize {
+    66 + 512 * class as usize + 2 * index as usize
+}
+
+fn word_of(place: Place) -> usize {
+    place_word(place.class, place.index)
+}
+
+/// The words a record writes, in order.
+fn work(record: Record, constants: &[u64], store: &mut [u64]) {
+    match record {
+        Record::Uni { op, dst, s1 } => store[dst as usize] = unary(op, store[s1 as usize]),
+        Record::Bi { op, dst, s1, s2 } => store[dst as usize] = binary(op, store[s1 as usize], store[s2 as usize]),
+        Record::Mov { dst, s1 } => store[dst as usize] = store[s1 as usize],
+        Record::Load { dst, place } => store[dst as usize] = store[word_of(place)],
+        Record::Save { src, place } => store[word_of(place)] = store[src as usize],
+        Record::LoadConst { dst, constant } => store[dst as usize] = constants[constant as usize],
+        Record::MulAdd { dst, a, b, c } => {
+            store[dst as usize] = mul_add(store[a as usize], store[b as usize], store[c as usize])
+        }
+        Record::IfElse { dst, true_val, false_val, place } => {
+            let bits = store[word_of(place)];
+            store[dst as usize] = bits & store[true_val as usize] | !bits & store[false_val as usize];
+        }
+        Record::LoadComplex { xd, yd, place } => {
+            store[xd as usize] = store[word_of(place)];
+            store[yd as usize] = store[word_of(place) + 1];
+        }
+        Record::SaveComplex { xs, ys, place } => {
+            store[word_of(place)] = store[xs as usize];
+            store[word_of(place) + 1] = store[ys as usize];
+        }
+        Record::ComplexBi { op, xd, yd, x1, y1, x2, y2 } => {
+            let (x, y) = complex(op, store[x1 as usize], store[y1 as usize], store[x2 as usize], store[y2 as usize]);
+            store[xd as usize] = x;
+            store[yd as usize] = y;
+        }
+        Record::Label(_) | Record::Branch(_) | Record::Call(_) => {}
+    }
+}
+
+/// Plays from `start` and counts the records reached.
+fn run(records: &[Record], constants: &[u64], store: &mut [u64], start: usize) -> u64 {
+    let mut at = start;
+    let mut back = None;
+    let mut played = 0;
+    while at < records.len() {
+        played += 1;
+        work(records[at], constants, store);
+        at = match records[at] {
+            Record::Branch(0) => match back.take() {
+                Some(index) => index,
+                None => break,
+            },
+            Record::Branch(label) => find_label(records, label).unwrap(),
+            Record::Call(label) => {
+                back = Some(at + 1);
+                find_label(records, label).unwrap()
+            }
+            _ => at + 1,
+        };
+    }
+    played
+}
+
+/// The listing's records where a play from `start` is accepted, else its refusal.
+fn accept(listing: &[u8], constants: usize, store: usize, start: u64) -> Result<Vec<Record>, (u32, u64)> {
+    if store != STORE || constants > TABLE || listing.len() > LISTING_LIMIT {
+        return Err((SETUP, 0));
+    }
+    let records = examine_all(listing, constants)?;
+    if start > records.len() as u64 {
+        return Err((STRAY, start));
+    }
+    match (0..records.len()).find(|index| strays(&records, *index)) {
+        Some(index) => Err((STRAY, index as u64)),
+        None => Ok(records),
+    }
+}
+
+/// Document 01's play of a listing with its constants on a lent store, from a start record.
+pub fn play(listing: &[u8], constants: &[u64], store: &mut [u64], start: u64) -> Played {
+    match accept(listing, constants.len(), store.len(), start) {
+        Err((number, index)) => Played { number, index, played: 0 },
+        Ok(records) => {
+            let played = run(&records, constants, store, start as usize);
+            Played { number: 0, index: records.len() as u64, played }
+        }
+    }
+}

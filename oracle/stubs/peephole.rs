@@ -1,0 +1,1 @@
+//! Stands in for the peephole optimiser of mir.rs, which `complexify` does not call.

@@ -1,0 +1,229 @@
+//! The player on short listings: jumps, counts, refusals, words.
+
+use oracle::format::*;
+use oracle::names::{bi, uni};
+use oracle::player::{place_word, play, Played};
+use oracle::{make, random};
+
+fn accepted(index: u64, played: u64) -> Played {
+    Played { number: 0, index, played }
+}
+
+fn refused(number: u32, index: u64) -> Played {
+    Played { number, index, played: 0 }
+}
+
+/// A play of records from a start on a store of zeros but for some words.
+fn run(row: &[Vec<u8>], start: u64, set: &[(usize, u64)]) -> (Played, Vec<u64>) {
+    let mut store = vec![0; STORE];
+    for (index, word) in set {
+        store[*index] = *word;
+    }
+    let played = play(&row.concat(), &[11, 22], &mut store, start);
+    (played, store)
+}
+
+fn answer(row: &[Vec<u8>], start: u64) -> Played {
+    run(row, start, &[]).0
+}
+
+#[test]
+fn records_in_turn() {
+    let row = [make::load_const(3, 1), make::mov(4, 3), make::save(4, MEM, 255), make::save_complex(3, 9, STACK, 0)];
+    let (played, store) = run(&row, 0, &[(9, 7)]);
+    assert_eq!(played, accepted(4, 4));
+    assert_eq!((store[3], store[4], store[place_word(MEM, 255)]), (22, 22, 22));
+    assert_eq!((store[66], store[67]), (22, 7));
+    assert_eq!(place_word(MEM, 255), 66 + 512 + 510);
+}
+
+#[test]
+fn an_empty_listing() {
+    assert_eq!(answer(&[], 0), accepted(0, 0));
+    assert_eq!(answer(&[], 1), refused(STRAY, 1));
+}
+
+#[test]
+fn starts() {
+    let row = [make::load_const(3, 0), make::load_const(4, 1)];
+    let (played, store) = run(&row, 1, &[]);
+    assert_eq!((played, store[3], store[4]), (accepted(2, 1), 0, 22));
+    assert_eq!(answer(&row, 2), accepted(2, 0));
+    assert_eq!(answer(&row, 3), refused(STRAY, 3));
+    assert_eq!(answer(&row, u64::MAX), refused(STRAY, u64::MAX));
+}
+
+/// Two calls of a block that doubles register 3, jumped over.
+fn with_block() -> Vec<Vec<u8>> {
+    vec![
+        make::call(1),
+        make::branch(2),
+        make::label(1),
+        make::bi(bi::PLUS, 3, 3, 3),
+        make::branch(0),
+        make::label(2),
+        make::call(1),
+    ]
+}
+
+#[test]
+fn calls_count_the_block_each_time() {
+    let (played, store) = run(&with_block(), 0, &[(3, 1.0f64.to_bits())]);
+    assert_eq!(played, accepted(7, 10)); // call, block of 3, branch, label, call, block of 3
+    assert_eq!(f64::from_bits(store[3]), 4.0);
+}
+
+#[test]
+fn the_block_outside_a_call_ends_the_play() {
+    let (played, store) = run(&with_block(), 2, &[(3, 1.0f64.to_bits())]);
+    assert_eq!((played, f64::from_bits(store[3])), (accepted(7, 3), 2.0));
+    assert_eq!(answer(&with_block(), 4), accepted(7, 1));
+    assert_eq!(answer(&[make::branch(0), make::mov(1, 2)], 0), accepted(2, 1));
+}
+
+#[test]
+fn jump_rules() {
+    let stray = |row: &[Vec<u8>], index| assert_eq!(answer(row, 0), refused(STRAY, index));
+    stray(&[make::label(0)], 0);
+    stray(&[make::mov(1, 2), make::branch(1)], 1);
+    stray(&[make::branch(2)], 0);
+    stray(&[make::label(2), make::branch(2)], 1);
+    stray(&[make::label(2), make::branch(2), make::label(2)], 2);
+    stray(&[make::call(0)], 0);
+    stray(&[make::label(2), make::call(2)], 1);
+    stray(&[make::call(1)], 0);
+    stray(&[make::mov(1, 2), make::label(1), make::label(2)], 1);
+    stray(&[make::label(1), make::label(2), make::branch(0)], 1);
+    stray(&[make::label(1), make::call(1), make::branch(0)], 1);
+    stray(&[make::label(1), make::branch(2), make::branch(0), make::label(2)], 1);
+    stray(&[make::label(1), make::branch(0), make::label(1), make::branch(0)], 2);
+    assert_eq!(answer(&[make::branch(0), make::label(1), make::branch(0), make::call(1)], 0), accepted(4, 1));
+}
+
+#[test]
+fn records_come_before_the_start_and_that_before_jumps() {
+    let row = [make::label(0), make::mov(1, 66)];
+    assert_eq!(answer(&row, 9), refused(REGISTER, 1));
+    assert_eq!(answer(&[make::label(0)], 9), refused(STRAY, 9));
+}
+
+#[test]
+fn refused_records() {
+    let one = |record: Vec<u8>, number| assert_eq!(answer(&[make::mov(1, 2), record], 0), refused(number, 1));
+    one(vec![0; 3], TORN);
+    one(make::nop(), UNKNOWN);
+    one(make::raw(9, &[0; 6]), UNKNOWN);
+    one(make::raw(256, &[]), UNKNOWN);
+    one(make::raw(3, &[1]), TORN);
+    one(make::uni(uni::REAL_ROOT, 1, 2), UNKNOWN);
+    one(make::bi(bi::COMPLEX, 1, 2, 3), UNKNOWN);
+    one(make::fused(1, 1, 2, 3, 4), UNKNOWN);
+    one(make::complex_bi(4, [1; 6]), UNKNOWN);
+    one(make::call(3), UNKNOWN);
+    one(make::mov(65, 66), REGISTER);
+    one(make::load(1, 3, 0), PLACE);
+    one(make::load_complex(1, 2, PARAM, 256), PLACE);
+    one(make::save_complex(1, 2, PARAM, 0), PLACE);
+    one(make::if_else(1, 2, 3, MEM, 0), PLACE);
+    one(make::load_const(1, 2), MISSING);
+}
+
+#[test]
+fn wrong_setups() {
+    for (store, constants, listing, number) in [
+        (1601, 0, 0, SETUP),
+        (1603, 0, 0, SETUP),
+        (1602, 256, 0, 0),
+        (1602, 257, 0, SETUP),
+        (1602, 0, 65_536, TORN),
+        (1602, 0, 65_537, SETUP),
+    ] {
+        let mut words = vec![5; store];
+        let played = play(&vec![0; listing], &vec![0; constants], &mut words, 0);
+        assert_eq!((played.number, played.index, played.played), (number, 0, 0));
+        assert_eq!(words, vec![5; store]);
+    }
+}
+
+/// A record's result from registers 0 and 1.
+fn word(record: Vec<u8>, a: u64, b: u64) -> u64 {
+    run(&[record], 0, &[(0, a), (1, b)]).1[5]
+}
+
+const NAN: u64 = 0x7ff8_0000_0000_0000;
+
+#[test]
+fn nans_are_folded_by_arithmetic_alone() {
+    let odd = 0xfff4_0000_0000_1234;
+    for op in [bi::PLUS, bi::MINUS, bi::TIMES, bi::DIVIDE] {
+        assert_eq!(word(make::bi(op, 5, 0, 1), odd, 0), NAN);
+        assert_eq!(word(make::bi(op, 5, 1, 0), odd, 0), NAN);
+    }
+    for op in [uni::ROOT, uni::ROUND, uni::HALF, uni::RECIP] {
+        assert_eq!(word(make::uni(op, 5, 0), odd, 0), NAN);
+    }
+    assert_eq!(word(make::fused(0, 5, 0, 1, 1), odd, 0), NAN);
+    assert_eq!(word(make::uni(uni::ROOT, 5, 0), (-1.0f64).to_bits(), 0), NAN);
+    assert_eq!(word(make::uni(uni::NEG, 5, 0), odd, 0), 0x7ff4_0000_0000_1234);
+    assert_eq!(word(make::uni(uni::ABS, 5, 0), odd, 0), 0x7ff4_0000_0000_1234);
+    assert_eq!(word(make::uni(uni::SIGN, 5, 0), odd, 0), 1 << 63);
+    assert_eq!(word(make::uni(uni::NOT, 5, 0), odd, 0), !odd);
+    assert_eq!(word(make::mov(5, 0), odd, 0), odd);
+}
+
+#[test]
+fn comparisons_with_a_nan() {
+    for (op, holds) in [(bi::GREATER_THAN, 0), (bi::LITTLE_THAN, 0), (bi::EQUAL, 0), (bi::NOT_EQUAL, u64::MAX)] {
+        assert_eq!(word(make::bi(op, 5, 0, 1), NAN, 0), holds);
+        assert_eq!(word(make::bi(op, 5, 0, 0), NAN, 0), holds);
+    }
+    assert_eq!(word(make::bi(bi::EQUAL, 5, 0, 1), 1 << 63, 0), u64::MAX);
+    assert_eq!(word(make::bi(bi::LITTLE_THAN, 5, 0, 1), 1 << 63, 0), 0);
+}
+
+#[test]
+fn rounding_to_even() {
+    for (value, expected) in
+        [(0.5, 0.0), (1.5, 2.0), (2.5, 2.0), (-0.5, -0.0), (-1.5, -2.0), (4503599627370495.5, 4503599627370496.0)]
+    {
+        assert_eq!(word(make::uni(uni::ROUND, 5, 0), f64::to_bits(value), 0), f64::to_bits(expected));
+    }
+}
+
+#[test]
+fn if_else_takes_bits() {
+    let (_, store) = run(&[make::if_else(5, 0, 1, STACK, 3)], 0, &[(0, 0xaaaa), (1, 0x5555), (72, 0xff00)]);
+    assert_eq!(store[5], 0xaa55);
+}
+
+#[test]
+fn one_register_for_both_halves() {
+    let (_, store) =
+        run(&[make::complex_bi(0, [5, 5, 0, 1, 0, 1])], 0, &[(0, 1.0f64.to_bits()), (1, 2.0f64.to_bits())]);
+    assert_eq!(f64::from_bits(store[5]), 4.0);
+    let (_, store) = run(&[make::load_complex(5, 5, PARAM, 0)], 0, &[(66 + 1024, 1), (66 + 1025, 2)]);
+    assert_eq!(store[5], 2);
+}
+
+/// The count is at most all records plus calls times block records.
+#[test]
+fn the_bound_on_records_played() {
+    let mut rng = random::Rng(3);
+    let mut tried = 0;
+    while tried < 300 {
+        let case = random::to_play(&mut rng);
+        let mut store = case.store.clone();
+        let played = play(&case.listing, &case.constants, &mut store, case.start);
+        let found = records(&case.listing);
+        if played.number != 0 || found.len() > 400 {
+            continue;
+        }
+        tried += 1;
+        let calls = found.iter().filter(|r| two(r, 2) == 16).count();
+        let block = match found.iter().position(|r| **r == make::label(1)) {
+            Some(from) => found[from..].iter().position(|r| **r == make::branch(0)).unwrap() + 1,
+            None => 0,
+        };
+        assert!(played.played <= (found.len() + calls * block) as u64);
+    }
+}
