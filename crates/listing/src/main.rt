@@ -23,7 +23,7 @@ fn least(a: usize, b: usize) -> usize
     if a < b { a } else { b }
 }
 
-// The text for what lowering gave back.
+// The text for what lowering gave back: of the first `count` words and the first `written` bytes.
 fn put_text(out: &mut [u8], a: Answer, constants: &[u64], listing: &[u8]) -> usize
     requires { ⌜ 80 * length (now constants) + 5 * length (now listing) + 160 ≤ length (now out) ⌝ }
     ensures { λ r. ⌜ Puts (now (out .entry)) 0 (textOf a (now (constants .entry)) (now (listing .entry))) (now (out .exit)) r ⌝ }
@@ -47,8 +47,8 @@ fn put_sheet(sheet: &[u8], out: &mut [u8]) -> usize
     put_text(out, a, &constants, &listing)
 }
 
-// One byte more than the longest sheet is read, so that a longer one is refused and not cut. The text of a listing of 65,536 bytes has at
-// most five bytes for each, and 80 for each of the 258 lines before.
+// One byte more than the longest sheet is read, so that a longer one is refused and not cut. The text has at most five bytes for each of a
+// listing's 65,536, and 80 for each of the other 258 lines.
 fn main() {
     let mut sheet = [0u8; 16385];
     let n = io::read_full(STDIN_FILENO, &mut sheet);

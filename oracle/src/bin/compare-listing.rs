@@ -1,13 +1,14 @@
 //! Runs the program `listing` on sheets, and prints every difference between what it writes and the reference's page or refusal.
-//! Usage: compare-listing PROGRAM [COUNT] [SEED].
+//! The sheets are every third of those at limits, and random ones. Usage: compare-listing PROGRAM [COUNT] [SEED].
 
 use std::io::Write;
 use std::process::{Command, ExitCode, Stdio};
 
 use oracle::format::{LISTING_LIMIT, TABLE};
 use oracle::machine::{Machine, Reference};
+use oracle::names::bi;
 use oracle::random::{self, Rng};
-use oracle::{boundary, print};
+use oracle::{boundary, make, print};
 
 /// The reference's number for a sheet, and what the program is to write.
 fn expected(sheet: &[u8]) -> (u32, String) {
@@ -18,6 +19,11 @@ fn expected(sheet: &[u8]) -> (u32, String) {
         number => format!("refused {number} {}\n", answer.index),
     };
     (answer.number, text)
+}
+
+/// Stable divisions: 496 of them list 65,472 bytes, and one more has no room.
+fn nearly_full(count: usize) -> Vec<u8> {
+    make::sheet(true, &[0; 64], &[], &vec![make::bi(bi::DIVIDE, 27, 28, 29); count])
 }
 
 /// What the program writes. It does not read a sheet over the limit to its end, so that giving it the rest may fail.
@@ -34,7 +40,8 @@ fn main() -> ExitCode {
     let count = words.next().map_or(500, |w| w.parse().expect("a count"));
     let mut rng = Rng(words.next().map_or(1, |w| w.parse().expect("a seed")));
 
-    let mut sheets: Vec<Vec<u8>> = boundary::sheets().into_iter().map(|case| case.sheet).collect();
+    let mut sheets: Vec<Vec<u8>> = boundary::sheets().into_iter().step_by(3).map(|case| case.sheet).collect();
+    sheets.extend([496, 497].map(nearly_full));
     sheets.extend((0..count).map(|_| random::to_lower(&mut rng).sheet));
     let (mut numbers, mut differences) = ([0u64; 9], 0u64);
     for sheet in &sheets {
