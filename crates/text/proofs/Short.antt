@@ -1,5 +1,6 @@
--- No line is cut: every line of a page has at most 80 bytes, that of a record where its fields fit their widths.
-use Prim.Native.Nat.{ℕ, zero, suc, _*_, _/_, _≤_, _<_}
+-- No line is cut: every line of a page has at most 80 bytes. That of a record has at most five for each byte of the record, where its
+-- fields fit their widths.
+use Prim.Native.Nat.{ℕ, zero, suc, _+_, _*_, _/_, _≤_, _<_}
 use mathlib.Core.Path.{_≡_, refl}
 use mathlib.Core.Bool.{Bool, true, false, cond}
 use mathlib.Core.List.{List}
@@ -14,6 +15,7 @@ use Rattle.mir.specs.declared.ops.FusedOp.{FusedOp}
 use Rattle.mir.specs.declared.records.Loc.{Loc}
 use Rattle.mir.specs.declared.records.Work.{Work}
 use Rattle.mir.specs.declared.records.Record.{Record}
+use Rattle.mir.specs.Encode.{recordOf, encodeWork, encode}
 use Rattle.text.specs.Sized.{SizedPlace, SizedWork, Sized}
 use Rattle.text.specs.Text.{ascii, decimalIn, decimal, hexIn, register, place, uniName, binName, fusedName, complexName, workText, recordText, recordLine, constantsHeading, constantLine, listingHeading, refusedLine}
 
@@ -123,8 +125,8 @@ complex-short ArithOp.Minus = lit≤ tt
 complex-short ArithOp.Times = lit≤ tt
 complex-short ArithOp.Divide = lit≤ tt
 
-work-short : (w : Work) → SizedWork w → length (workText w) ≤ 79
-unfolding ascii workText
+work-short : (w : Work) → SizedWork w → length (workText w) + 1 ≤ 5 * length (encodeWork w)
+unfolding ascii workText recordOf
 work-short (Work.Uni op dst s1) h =
     let n = uni-short op in
     let r0 = register-short dst (h .0) in
@@ -185,16 +187,40 @@ work-short (Work.ComplexBi op xd yd x1 y1 x2 y2) h =
     let r5 = register-short y2 (h .5) in
     simp length-append (omega arith)
 
-text-short : (r : Record) → Sized r → length (recordText r) ≤ 79
-unfolding ascii recordText
+text-short : (r : Record) → Sized r → length (recordText r) + 1 ≤ 5 * length (encode r)
+unfolding ascii recordText recordOf
 text-short (Record.Work w) h = work-short w h
 text-short (Record.Label l) h = let d = byte-short l h in omega arith
 text-short (Record.Branch l) h = let d = byte-short l h in omega arith
 text-short (Record.Call l) h = let d = byte-short l h in omega arith
 
-pub record-short : (r : Record) → Sized r → length (recordLine r) ≤ 80
+pub record-line-short : (r : Record) → Sized r → length (recordLine r) ≤ 5 * length (encode r)
 unfolding recordLine
-record-short r h = let i = text-short r h in simp length-append (omega arith)
+record-line-short r h = let i = text-short r h in simp length-append (omega arith)
+
+work-length : (w : Work) → length (encodeWork w) ≤ 11
+unfolding recordOf
+work-length (Work.Uni op dst s1) = lit≤ tt
+work-length (Work.Bi op dst s1 s2) = lit≤ tt
+work-length (Work.Mov dst s1) = lit≤ tt
+work-length (Work.Load dst loc) = lit≤ tt
+work-length (Work.Save src loc) = lit≤ tt
+work-length (Work.LoadConst dst idx) = lit≤ tt
+work-length (Work.Fused op dst a b c) = lit≤ tt
+work-length (Work.IfElse dst t f loc) = lit≤ tt
+work-length (Work.LoadComplex xd yd loc) = lit≤ tt
+work-length (Work.SaveComplex xs ys loc) = lit≤ tt
+work-length (Work.ComplexBi op xd yd x1 y1 x2 y2) = lit≤ tt
+
+record-length : (r : Record) → length (encode r) ≤ 11
+unfolding recordOf
+record-length (Record.Work w) = work-length w
+record-length (Record.Label l) = lit≤ tt
+record-length (Record.Branch l) = lit≤ tt
+record-length (Record.Call l) = lit≤ tt
+
+pub record-short : (r : Record) → Sized r → length (recordLine r) ≤ 80
+record-short r h = let i = record-line-short r h in let k = record-length r in omega (arith, i, k)
 
 pub constants-heading-short : (n : ℕ) → length (constantsHeading n) ≤ 80
 unfolding ascii constantsHeading

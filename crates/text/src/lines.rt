@@ -1,4 +1,7 @@
 // The lines of a page, each from its first byte to its line feed.
+ghost use Prim.Native.Nat.{_*_, _≤_};
+ghost use lib.ListN.{length};
+ghost use Rattle.mir.specs.Encode.{encode};
 ghost use Rattle.text.specs.Line.{Adds, Prints};
 ghost use Rattle.text.specs.Sized.{SizedWork, Sized};
 ghost use Rattle.text.specs.Text.{workText, recordText, constantsHeading, constantLine, listingHeading, recordLine, refusedLine};
@@ -81,8 +84,9 @@ pub fn listing_heading(records: u64, bytes: u64) -> Line
         .byte(b'\n')
 }
 
+// At most five bytes for each byte of the record.
 pub fn record_line(record: Record) -> Line
-    ensures { λ r. ⌜ Prints (recordLine «record») r ⌝ }
+    ensures { λ r. ⌜ (Prints (recordLine «record») r) × (r .len ≤ 5 * length (encode «record»)) ⌝ }
 {
     empty_line().record(record).byte(b'\n')
 }

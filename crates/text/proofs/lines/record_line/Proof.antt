@@ -1,8 +1,9 @@
 -- `text::lines::record_line` meets its contract.
 use borrow.Author.Needs.{needs}
+use native.Mathlib.Omega.{arith}
 use Rattle.text.specs.Line.{_▹_}
 use Rattle.text.specs.Text.{recordLine}
-use Rattle.text.proofs.Short.{record-short}
+use Rattle.text.proofs.Short.{record-short, record-line-short}
 use Rattle.text.proofs.Whole.{prints}
 use Rattle.text.proofs.lines.record_line.Statement.{statement}
 use Rattle.text.proofs.lines.record_line.Tie as tie
@@ -15,4 +16,10 @@ record-line-spec =
     (λ c κs. search needs)
     (λ c κs. search needs)
     (λ c κs. search needs)
-    (λ c. prints (c .before .before .empty-line .ensures) (c .before .«record» .ensures .0 ▹ c .byte .ensures) (record-short (c .before .before .before .args .«record») (c .before .«record» .ensures .1))))
+    (λ c.
+    let r = c .before .before .before .args .«record» in
+    let h = c .before .«record» .ensures .1 in
+    let p = prints (c .before .before .empty-line .ensures) (c .before .«record» .ensures .0 ▹ c .byte .ensures) (record-short r h) in
+    let k = p .whole .count in
+    let l = record-line-short r h in
+    (p, omega (arith, k, l))))

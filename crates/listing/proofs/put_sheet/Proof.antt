@@ -1,0 +1,28 @@
+-- `put_sheet` meets its contract. Assumes nothing.
+use borrow.Author.Needs.{needs}
+use native.Mathlib.Omega.{arith}
+use Prim.Native.Nat.{ℕ}
+use mathlib.Core.Path.{_∙_}
+use lib.ListN.{length-replicate}
+use Rattle.listing.proofs.Answering.{all-printed}
+use Rattle.listing.proofs.put_sheet.Statement.{statement}
+use Rattle.listing.proofs.put_sheet.Tie as tie
+
+pub put-sheet-spec : {M : Type 1} → statement M
+put-sheet-spec =
+    tie.close
+    (tie.spec
+    (λ c. search needs)
+    (λ c. search needs)
+    (λ c κs. search needs)
+    (λ c. search needs)
+    (λ c. search needs)
+    (λ c κs.
+    let h = c .before .before .before .before .before .lower .kept .1 .0 ∙ length-replicate {A = ℕ} 65536 0 in
+    let k = c .before .before .before .before .before .lower .kept .1 .1 .0 ∙ length-replicate {A = ℕ} 256 0 in
+    omega (arith, h, k))
+    (λ c. search needs)
+    (λ c.
+    let e = c .before .before .before .before .before .before .before .before .lower .ensures in
+    let p = c .before .before .put-text .ensures in
+    (p .same ∙ all-printed (c .before .before .before .before .before .before .before .before .before .before .before .before .before .args .sheet .now) (e .0) (e .1) (e .2), p .fits)))

@@ -1,0 +1,58 @@
+// Reads a sheet from standard input, lowers it, and prints its constants and its listing, or the refusal.
+ghost use Prim.Native.Nat.{_+_, _*_, _≤_};
+ghost use mathlib.Core.Path.{_≡_};
+ghost use mathlib.Core.Bool.{cond};
+ghost use lib.Dec.{ltb};
+ghost use lib.ListN.{length, take};
+ghost use Rattle.listing.specs.Puts.{Puts};
+ghost use Rattle.listing.specs.Printed.{textOf, printed};
+
+mod page;
+
+use complexify::entry::Answer;
+use complexify::entry::lower;
+use libc::STDIN_FILENO;
+use libc::STDOUT_FILENO;
+use page::put_line;
+use page::put_page;
+use text::lines::refused_line;
+
+fn least(a: usize, b: usize) -> usize
+    ensures { λ r. ⌜ r ≡ cond (ltb a b) a b ⌝ }
+{
+    if a < b { a } else { b }
+}
+
+// The text for what lowering gave back: of the first `count` words and the first `written` bytes.
+fn put_text(out: &mut [u8], a: Answer, constants: &[u64], listing: &[u8]) -> usize
+    requires { ⌜ 80 * length (now constants) + 5 * length (now listing) + 160 ≤ length (now out) ⌝ }
+    ensures { λ r. ⌜ Puts (now (out .entry)) 0 (textOf a (now (constants .entry)) (now (listing .entry))) (now (out .exit)) r ⌝ }
+{
+    if a.number != 0 {
+        return put_line(out, 0, refused_line(a.number as u64, a.index as u64));
+    }
+    let count = least(a.count, constants.len());
+    let written = least(a.written, listing.len());
+    put_page(out, &constants[0..count], &listing[0..written])
+}
+
+// The text for a sheet, and its length.
+fn put_sheet(sheet: &[u8], out: &mut [u8]) -> usize
+    requires { ⌜ 348320 ≤ length (now out) ⌝ }
+    ensures { λ r. ⌜ (take r (now (out .exit)) ≡ printed (now (sheet .entry))) × (r ≤ length (now (out .exit))) ⌝ }
+{
+    let mut listing = [0u8; 65536];
+    let mut constants = [0u64; 256];
+    let a = lower(sheet, &mut listing, &mut constants);
+    put_text(out, a, &constants, &listing)
+}
+
+// One byte more than the longest sheet is read, so that a longer one is refused and not cut. The text has at most five bytes for each of a
+// listing's 65,536, and 80 for each of the other 258 lines.
+fn main() {
+    let mut sheet = [0u8; 16385];
+    let n = io::read_full(STDIN_FILENO, &mut sheet);
+    let mut out = [0u8; 348320];
+    let m = put_sheet(&sheet[..n], &mut out);
+    io::write_all(STDOUT_FILENO, &out[0..m]);
+}
