@@ -5,19 +5,19 @@ ghost use mathlib.Core.Path.{_≡_};
 ghost use lib.ListN.{length};
 
 mod case;
-mod numbers;
 mod stores;
 mod tally;
 
 use libc::STDIN_FILENO;
 use libc::STDOUT_FILENO;
+use replay::numbers::count_at;
 
 // Counts the cases of a list; answers whether the list is well formed.
 fn replay_list(t: &mut [u64; 258], list: &[u8]) -> bool {
     if list.len() < 4 {
         return false;
     }
-    tally::count_all(t, list, 4, numbers::count_at(list, 0))
+    tally::count_all(t, list, 4, count_at(list, 0))
 }
 
 // Room for a list. The length is all that its reader needs to know.

@@ -1,16 +1,13 @@
--- Numbers in a part of bytes, and past the end. Assumes nothing.
+-- Numbers in a part of bytes and past the end, and the length of a part. Assumes nothing.
 use Prim.Native.Nat.{ℕ, _+_, _*_, _-_, _^_, _<_, _≤_}
 use mathlib.Core.List.{List}
 use mathlib.Core.Path.{_≡_, ap, _∙_}
 use native.Mathlib.Nat.{add-zero}
 use native.Mathlib.Omega.{arith}
-use lib.ListN.{length, getD, take, drop, length-drop, List·getD-eq-default}
-use lib.Seq.{take-all, getD-drop}
+use lib.ListN.{length, getD, take, drop, length-take, List·getD-eq-default}
+use lib.Seq.{getD-drop}
+use Rattle.mir.proofs.Parts.{part}
 use Rattle.replay.specs.Numbers.{u32At, wordAt}
-
--- the part of bytes from a position to their end, as the code knows it
-pub part : (s : List ℕ) (at : ℕ) → take (length s - at) (drop at s) ≡ drop at s
-part s at = let h = length-drop at s in take-all (length s - at) (drop at s) (omega arith)
 
 u32-drop : (s : List ℕ) (at i : ℕ) → u32At (drop at s) i ≡ u32At s (at + i)
 unfolding u32At
@@ -28,7 +25,7 @@ pub u32-first : (s : List ℕ) (at : ℕ) → u32At (take (length s - at) (drop 
 u32-first s at = u32-part s at 0 ∙ ap (u32At s) (add-zero at)
 
 -- past the end all bytes and numbers are 0
-pub byte-past : (s : List ℕ) (i : ℕ) → length s ≤ i → getD s i 0 ≡ 0
+byte-past : (s : List ℕ) (i : ℕ) → length s ≤ i → getD s i 0 ≡ 0
 byte-past s i h = List·getD-eq-default s 0 h
 
 pub u32-past : (s : List ℕ) (i : ℕ) → length s < i → u32At s i ≡ 0
@@ -54,3 +51,7 @@ pub word-part : (s : List ℕ) (at : ℕ) {low high : ℕ}
     → low + 2 ^ 32 * high ≡ wordAt s at
 unfolding wordAt
 word-part s at l h = rw (l, h, u32-first s at, u32-part s at 4)
+
+-- the first n words of a list that has as many
+pub taken : (n : ℕ) (l : List ℕ) → n ≤ length l → length (take n l) ≡ n
+taken n l h = rw length-take (omega arith)

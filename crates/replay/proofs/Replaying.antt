@@ -1,6 +1,6 @@
 -- A list replayed case after case: what is left of it decides. Assumes nothing.
 use Prim.Native.Nat.{ℕ, zero, suc, _+_, _-_, _≤_, _<_}
-use mathlib.Core.Bool.{Bool, true, false}
+use mathlib.Core.Bool.{Bool, true, false, _||_}
 use mathlib.Core.List.{List}
 use mathlib.Core.Path.{_≡_, refl, sym, ap, _∙_}
 use native.Mathlib.Omega.{arith}
@@ -8,7 +8,7 @@ use borrow.Author.Tests.{eqb-true, eqb-false, eq-eqb, ne-eqb}
 use lib.ListN.{length, take, drop, length-drop}
 use lib.Seq.{drop-drop}
 use lib.Dec.{eqb}
-use Rattle.replay.proofs.Parts.{part}
+use Rattle.mir.proofs.Parts.{part}
 use Rattle.replay.specs.Tally.{Cases, Replayed, tallied, replayed}
 
 -- nothing is left at the end of the list, and only there
@@ -70,3 +70,13 @@ module _ (k : Cases) (n : ℕ) (list : List ℕ) where
 -- a case that ends in what is left ends in the list
 pub inside : (list : List ℕ) (at : ℕ) {size : ℕ} → size ≤ length (take (length list - at) (drop at list)) → at ≤ length list → at + size ≤ length list
 inside list at h p = let e = ap length (part list at) in let d = length-drop at list in omega arith
+
+-- no test of a row holds where the whole row does not
+pub or-first : (a b : Bool) → (a || b) ≡ false → a ≡ false
+or-first false b e = refl
+or-first true b e = e
+
+pub or-rest : (a b : Bool) → (a || b) ≡ false → b ≡ false
+or-rest false b e = e
+or-rest true false e = refl
+or-rest true true e = e

@@ -1,8 +1,8 @@
 // Numbers in bytes, little-endian; a byte past the end is 0.
 ghost use Prim.Native.Nat.{_^_, _<_};
 ghost use mathlib.Core.Path.{_≡_};
-ghost use lib.ListN.{getD};
 ghost use Rattle.replay.specs.Numbers.{u32At, wordAt};
+use mir::fields::byte;
 
 fn wide(x: u8) -> u64
     ensures { λ r. ⌜ (r ≡ x) × (r < 256) ⌝ }
@@ -10,20 +10,14 @@ fn wide(x: u8) -> u64
     x as u64
 }
 
-pub fn byte_at(s: &[u8], i: usize) -> u8
-    ensures { λ r. ⌜ r ≡ getD (now (s .entry)) i 0 ⌝ }
-{
-    if i < s.len() { s[i] } else { 0 }
-}
-
 // The number of the first four bytes.
 fn first(s: &[u8]) -> u64
     ensures { λ r. ⌜ (r ≡ u32At (now (s .entry)) 0) × (r < 2 ^ 32) ⌝ }
 {
-    let a = wide(byte_at(s, 0));
-    let b = wide(byte_at(s, 1));
-    let c = wide(byte_at(s, 2));
-    let d = wide(byte_at(s, 3));
+    let a = wide(byte(s, 0));
+    let b = wide(byte(s, 1));
+    let c = wide(byte(s, 2));
+    let d = wide(byte(s, 3));
     a + 0x100 * b + 0x1_0000 * c + 0x100_0000 * d
 }
 

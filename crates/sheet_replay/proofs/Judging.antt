@@ -1,18 +1,19 @@
 -- The parts of a case, from what the functions that make them give. Assumes nothing.
 use Prim.Native.Nat.{ℕ, zero, suc, _+_, _*_, _-_, _≤_}
-use mathlib.Core.Bool.{Bool, true, false, not, _||_}
+use mathlib.Core.Bool.{Bool, true, false, not}
 use mathlib.Core.List.{List, _∷_, map}
 use mathlib.Core.Path.{_≡_, refl, sym, ap, _∙_}
 use native.Mathlib.Nat.{not-suc-le-zero, le-of-suc-le-suc}
 use native.Mathlib.Omega.{arith}
 use borrow.Author.Tests.{ltb-false, eq-eqb, not-true, not-false}
-use lib.ListN.{length, take, drop, replicate, length-take}
+use lib.ListN.{length, take, drop, replicate}
 use lib.Dec.{ltb, eqb}
 use Rattle.mir.proofs.Parts.{part}
 use Rattle.lowering.specs.declared.realness.Realness.{Realness}
 use Rattle.complexify.specs.declared.entry.Answer.{Answer}
 use Rattle.complexify.specs.Entry as Entry
 use Rattle.replay.specs.Numbers.{u32At}
+use Rattle.replay.proofs.Replaying.{or-first, or-rest}
 use Rattle.sheet_replay.specs.Compare.{lentByte, lentWord, lentBytes, lentWords, heldByte, heldWord, agree}
 use Rattle.sheet_replay.specs.Case.{Whole, cut, room, tableLength, written, count, listingAt, constantsAt, sheet, answered, listingAfter, constantsAfter, numbersAgree, flag, realAgrees, slicesAgree, expected, differs}
 
@@ -31,29 +32,17 @@ module _ (n m : ℕ) {l : List ℕ} {k : ℕ} (e : n ≡ k) (h : n ≤ m) where
   unfolding lentWords
   lent-words f = ap (take n) f ∙ (take-replicate n m lentWord h ∙ ap (λ (j : ℕ). replicate j lentWord) e)
 
-pub taken : (n : ℕ) (l : List ℕ) → n ≤ length l → length (take n l) ≡ n
-taken n l h = rw length-take (omega arith)
-
-left-false : (a b : Bool) → (a || b) ≡ false → a ≡ false
-left-false false b e = refl
-left-false true b e = e
-
-right-false : (a b : Bool) → (a || b) ≡ false → b ≡ false
-right-false false b e = e
-right-false true false e = refl
-right-false true true e = e
-
 -- a case that is not cut is whole
 pub is-whole : (s : List ℕ) → cut s ≡ false → Whole s
 unfolding cut
 is-whole s e =
-    let one = right-false (ltb (length s) 124) _ e in
-    let two = right-false (ltb 65537 (room s)) _ one in
+    let one = or-rest (ltb (length s) 124) _ e in
+    let two = or-rest (ltb 65537 (room s)) _ one in
     record {
-      head = ltb-false _ _ (left-false (ltb (length s) 124) _ e);
-      listing = ltb-false _ _ (left-false (ltb 65537 (room s)) _ one);
-      constants = ltb-false _ _ (left-false (ltb 257 (tableLength s)) _ two);
-      rest = ltb-false _ _ (right-false (ltb 257 (tableLength s)) _ two);
+      head = ltb-false _ _ (or-first (ltb (length s) 124) _ e);
+      listing = ltb-false _ _ (or-first (ltb 65537 (room s)) _ one);
+      constants = ltb-false _ _ (or-first (ltb 257 (tableLength s)) _ two);
+      rest = ltb-false _ _ (or-rest (ltb 257 (tableLength s)) _ two);
     }
 
 -- what a part of the case holds is what stands there in the case

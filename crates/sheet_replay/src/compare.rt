@@ -5,7 +5,7 @@ ghost use mathlib.Core.Path.{_≡_};
 ghost use lib.ListN.{length};
 ghost use Rattle.sheet_replay.specs.Case.{flag};
 ghost use Rattle.sheet_replay.specs.Compare.{heldByte, heldWord, agree};
-use replay::numbers::byte_at;
+use mir::fields::byte;
 use replay::numbers::word_at;
 
 // Every byte of a slice that is lent to be written, and every word.
@@ -16,7 +16,7 @@ pub const LENT_WORD: u64 = 0xa5a5_a5a5_a5a5_a5a5;
 fn held_byte(row: &[u8], n: usize, i: usize) -> u8
     ensures { λ r. ⌜ r ≡ heldByte (now (row .entry)) n i ⌝ }
 {
-    if i < n { byte_at(row, i) } else { LENT }
+    if i < n { byte(row, i) } else { LENT }
 }
 
 // Whether a slice holds the first n bytes of a row, and lent bytes past them.

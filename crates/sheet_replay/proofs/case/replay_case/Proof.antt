@@ -1,7 +1,8 @@
 use borrow.Author.Needs.{needs}
 use native.Mathlib.Omega.{arith}
 use mathlib.Core.Path.{sym}
-use Rattle.sheet_replay.proofs.Judging.{taken, lent-bytes, lent-words}
+use Rattle.replay.proofs.Parts.{taken}
+use Rattle.sheet_replay.proofs.Judging.{lent-bytes, lent-words}
 use Rattle.sheet_replay.proofs.case.replay_case.Statement.{statement}
 use Rattle.sheet_replay.proofs.case.replay_case.Tie as tie
 

@@ -8,5 +8,5 @@ held-byte-spec =
     tie.close
     (tie.spec
     (λ c κs. search needs)
-    (λ c. simp (lt-ltb _ _ (c .before .if1 .taken), c .byte-at .ensures))
+    (λ c. simp (lt-ltb _ _ (c .before .if1 .taken), c .byte .ensures))
     (λ c. simp (le-ltb _ _ (c .if1 .left))))
