@@ -1,3 +1,4 @@
+-- `tally::count_all` meets its contract: after i cases what is left of the list decides. Assumes nothing.
 use borrow.Author.Needs.{needs}
 use native.Mathlib.Omega.{arith}
 use Prim.Native.Nat.{_-_, _≤_}

@@ -1,3 +1,4 @@
+-- `numbers::first` meets its contract: four bytes, each by its weight. Assumes nothing.
 use borrow.Author.Needs.{needs}
 use Rattle.replay.specs.Numbers.{u32At}
 use Rattle.replay.proofs.numbers.first.Statement.{statement}

@@ -1,3 +1,4 @@
+-- `numbers::u32_at` meets its contract: the first number of a part, and 0 past the end. Assumes nothing.
 use borrow.Author.Needs.{needs}
 use native.Mathlib.Omega.{arith}
 use mathlib.Core.Path.{sym, _∙_}

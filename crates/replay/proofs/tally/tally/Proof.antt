@@ -1,3 +1,4 @@
+-- `tally::tally` meets its contract, where the case differs and where it does not. Assumes nothing.
 use borrow.Author.Needs.{needs}
 use Rattle.replay.specs.Tally.{tallied}
 use Rattle.replay.proofs.tally.tally.Statement.{statement}

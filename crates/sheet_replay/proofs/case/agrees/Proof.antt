@@ -1,3 +1,4 @@
+-- `case::agrees` meets its contract: numbers, realness, then both slices. Assumes nothing.
 use borrow.Author.Needs.{needs}
 use Rattle.sheet_replay.proofs.Judging.{numbers-differ, real-differs, slices-decide}
 use Rattle.sheet_replay.proofs.case.agrees.Statement.{statement}

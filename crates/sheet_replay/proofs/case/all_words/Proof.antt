@@ -1,3 +1,4 @@
+-- `case::all_words` meets its contract. Assumes nothing.
 use borrow.Author.Needs.{needs}
 use mathlib.Core.Path.{refl}
 use Rattle.sheet_replay.specs.Compare.{lentWords}

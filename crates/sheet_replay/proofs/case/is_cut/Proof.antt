@@ -1,3 +1,4 @@
+-- `case::is_cut` meets its contract: each test by its law. Assumes nothing.
 use borrow.Author.Needs.{needs}
 use borrow.Author.Tests.{lt-ltb, le-ltb}
 use Rattle.sheet_replay.specs.Case.{cut}

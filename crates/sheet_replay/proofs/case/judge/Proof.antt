@@ -1,3 +1,4 @@
+-- `case::judge` meets its contract: what lowering gives is the definition's answer to the case. Assumes nothing.
 use borrow.Author.Needs.{needs}
 use Rattle.sheet_replay.proofs.Judging.{judged}
 use Rattle.sheet_replay.proofs.case.judge.Statement.{statement}

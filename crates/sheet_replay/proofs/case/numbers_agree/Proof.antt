@@ -1,3 +1,4 @@
+-- `case::numbers_agree` meets its contract: number, index, bytes written, then the count of constants. Assumes nothing.
 use borrow.Author.Needs.{needs}
 use borrow.Author.Tests.{eq-eqb, ne-eqb}
 use Rattle.sheet_replay.specs.Case.{numbersAgree}

@@ -1,3 +1,4 @@
+-- `case::real_agrees` meets its contract: the flags of registers, then the places. Assumes nothing.
 use borrow.Author.Needs.{needs}
 use Rattle.sheet_replay.proofs.Judging.{flags-differ, places-decide}
 use Rattle.sheet_replay.proofs.case.real_agrees.Statement.{statement}

@@ -1,3 +1,4 @@
+-- `case::replay_case` meets its contract: the slices lent have the case's lengths. Assumes nothing.
 use borrow.Author.Needs.{needs}
 use native.Mathlib.Omega.{arith}
 use mathlib.Core.Path.{sym}

@@ -1,3 +1,4 @@
+-- `case::slices_agree` meets its contract: the listing, then the constants. Assumes nothing.
 use borrow.Author.Needs.{needs}
 use Rattle.sheet_replay.proofs.Judging.{bytes-differ, words-decide}
 use Rattle.sheet_replay.proofs.case.slices_agree.Statement.{statement}

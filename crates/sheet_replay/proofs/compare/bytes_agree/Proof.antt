@@ -1,3 +1,4 @@
+-- `compare::bytes_agree` meets its contract: after i bytes that agree the rest decides. Assumes nothing.
 use borrow.Author.Needs.{needs}
 use native.Mathlib.Omega.{arith}
 use Prim.Native.Nat.{_-_, _≤_}

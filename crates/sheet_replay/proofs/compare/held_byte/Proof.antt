@@ -1,3 +1,4 @@
+-- `compare::held_byte` meets its contract, among the first n and past them. Assumes nothing.
 use borrow.Author.Needs.{needs}
 use borrow.Author.Tests.{lt-ltb, le-ltb}
 use Rattle.sheet_replay.proofs.compare.held_byte.Statement.{statement}

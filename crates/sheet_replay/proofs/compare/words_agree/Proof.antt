@@ -1,3 +1,4 @@
+-- `compare::words_agree` meets its contract: after i words that agree the rest decides. Assumes nothing.
 use borrow.Author.Needs.{needs}
 use native.Mathlib.Omega.{arith}
 use Prim.Native.Nat.{_-_, _≤_}
