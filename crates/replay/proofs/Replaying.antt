@@ -4,12 +4,13 @@ use mathlib.Core.Bool.{Bool, true, false, _||_}
 use mathlib.Core.List.{List}
 use mathlib.Core.Path.{_≡_, refl, sym, ap, _∙_}
 use native.Mathlib.Omega.{arith}
-use borrow.Author.Tests.{eqb-true, eqb-false, eq-eqb, ne-eqb}
+use borrow.Author.Tests.{eqb-true, eqb-false, eq-eqb, ne-eqb, lt-ltb, le-ltb}
 use lib.ListN.{length, take, drop, length-drop}
 use lib.Seq.{drop-drop}
-use lib.Dec.{eqb}
+use lib.Dec.{eqb, ltb}
 use Rattle.mir.proofs.Parts.{part}
-use Rattle.replay.specs.Tally.{Cases, Replayed, tallied, replayed}
+use Rattle.replay.specs.Numbers.{u32At}
+use Rattle.replay.specs.Tally.{Cases, Replayed, tallied, replayed, replayedList}
 
 -- nothing is left at the end of the list, and only there
 module _ (list : List ℕ) (at : ℕ) (h : at ≤ length list) where
@@ -70,6 +71,24 @@ module _ (k : Cases) (n : ℕ) (list : List ℕ) where
 -- a case that ends in what is left ends in the list
 pub inside : (list : List ℕ) (at : ℕ) {size : ℕ} → size ≤ length (take (length list - at) (drop at list)) → at ≤ length list → at + size ≤ length list
 inside list at h p = let e = ap length (part list at) in let d = length-drop at list in omega arith
+
+-- a list without a count, and one with it
+module _ (k : Cases) (t s : List ℕ) where
+  pub no-count : length s < 4 → (false ≡ replayedList k t s .whole) × (t ≡ replayedList k t s .counts)
+  unfolding replayedList
+  no-count h = let b : ltb (length s) 4 ≡ true = lt-ltb (length s) 4 h in (rw b, rw b)
+
+  pub with-count : {r : Bool} {n : ℕ} {last : List ℕ}
+      → 4 ≤ length s
+      → n ≡ u32At s 0
+      → r ≡ replayed k n t (drop 4 s) .whole
+      → last ≡ replayed k n t (drop 4 s) .counts
+      → (r ≡ replayedList k t s .whole) × (last ≡ replayedList k t s .counts)
+  unfolding replayedList
+  with-count h e f g =
+      let b : ltb (length s) 4 ≡ false = le-ltb (length s) 4 h in
+      let w = ap (λ (n : ℕ). replayed k n t (drop 4 s)) e in
+      (rw b (f ∙ ap (λ (x : Replayed). x .whole) w), rw b (g ∙ ap (λ (x : Replayed). x .counts) w))
 
 -- no test of a row holds where the whole row does not
 pub or-first : (a b : Bool) → (a || b) ≡ false → a ≡ false

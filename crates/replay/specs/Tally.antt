@@ -3,7 +3,8 @@ use Prim.Native.Nat.{ℕ, zero, suc, _+_, _%_, _^_}
 use mathlib.Core.Bool.{Bool, false, cond}
 use mathlib.Core.List.{List}
 use lib.ListN.{length, getD, set, drop}
-use lib.Dec.{eqb}
+use lib.Dec.{eqb, ltb}
+use Rattle.replay.specs.Numbers.{u32At}
 
 -- one more at i; a count is a word
 unfoldable pub raised : List ℕ → ℕ → List ℕ
@@ -33,3 +34,8 @@ replayed k zero t s = record { counts = t; whole = eqb (length s) 0 }
 replayed k (suc n) t s =
     cond (k .cut s) (record { counts = t; whole = false })
     (replayed k n (tallied t (k .number s) (k .differs s)) (drop (k .end s) s))
+
+-- a list: the count of its cases, then the cases
+unfoldable pub replayedList : Cases → List ℕ → List ℕ → Replayed
+replayedList k t s =
+    cond (ltb (length s) 4) (record { counts = t; whole = false }) (replayed k (u32At s 0) t (drop 4 s))
