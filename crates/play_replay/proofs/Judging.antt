@@ -1,21 +1,29 @@
 -- The parts of a case, from what the functions that make them give. Assumes nothing.
 use Prim.Native.Nat.{ℕ, _+_, _*_, _-_, _≤_}
-use mathlib.Core.Bool.{Bool, true, false, not}
+use mathlib.Core.Bool.{Bool, false}
 use mathlib.Core.List.{List}
 use mathlib.Core.Path.{_≡_, refl, sym, ap, _∙_}
 use native.Mathlib.Omega.{arith}
-use lib.ListN.{length, take, drop, length-take}
+use borrow.Author.Tests.{ltb-false}
+use lib.ListN.{length, take, drop}
+use lib.Dec.{ltb}
 use Rattle.machine.specs.Answer.{Answer, answer}
-use Rattle.play_replay.specs.Case.{Whole, end, u32At, wordAt, table, patched, constantsAt, changedAt, listing, constants, before, after, answered, expected}
-use Rattle.play_replay.specs.Tally.{raised, counted}
+use Rattle.replay.specs.Numbers.{u32At, wordAt}
+use Rattle.replay.proofs.Replaying.{or-first, or-rest}
+use Rattle.play_replay.specs.Case.{Whole, cut, table, patched, constantsAt, changedAt, listing, constants, before, after, answered}
 
--- the first n words of a list that has as many
-pub taken : (n : ℕ) (l : List ℕ) {k : ℕ} → n ≡ k → n ≤ length l → length (take n l) ≡ k
-taken n l e h = rw length-take (omega arith)
-
--- a whole case ends in the list
-pub inside : {l : List ℕ} (n at : ℕ) {e : ℕ} → Whole l → e ≡ end l → length l ≡ n - at → at ≤ n → at + e ≤ n
-inside n at w e h k = omega (arith, w .rest)
+-- a case that is not cut is whole
+pub is-whole : (s : List ℕ) → cut s ≡ false → Whole s
+unfolding cut
+is-whole s e =
+    let one = or-rest (ltb (length s) 48) _ e in
+    let two = or-rest (ltb 257 (u32At s 4)) _ one in
+    record {
+      head = ltb-false _ _ (or-first (ltb (length s) 48) _ e);
+      constants = ltb-false _ _ (or-first (ltb 257 (u32At s 4)) _ one);
+      store = ltb-false _ _ (or-first (ltb 1603 (u32At s 8)) _ two);
+      rest = ltb-false _ _ (or-rest (ltb 1603 (u32At s 8)) _ two);
+    }
 
 module _ (s : List ℕ) where
   pub loaded : {l : List ℕ} {k n : ℕ} → k ≡ u32At s 0 → n ≡ u32At s 4 → l ≡ table (λ i. wordAt s (48 + k + 8 * i)) n → l ≡ constants s
@@ -49,17 +57,3 @@ module _ (s : List ℕ) where
   is-answered {a} {c} {b} {k} hk hc hs hb ha =
       let e : 48 + k - 48 ≡ k = omega arith in
       rw (ha, e, hk, hc, hs, hb)
-
-  module _ (t : List ℕ) {d : Bool} {k : ℕ} {t₁ t₂ : List ℕ}
-      (hk : k ≡ answered s .number) (hd : d ≡ not (expected s (answered s))) (h₁ : t₁ ≡ raised t k) (h₂ : t₂ ≡ raised t₁ 256) where
-    pub counted-more : {t₃ : List ℕ} → d ≡ true → t₃ ≡ raised t₂ 257 → t₃ ≡ counted t s
-    unfolding counted
-    counted-more e h₃ =
-        let x : not (expected s (answered s)) ≡ true = sym hd ∙ e in
-        rw (h₃, h₂, h₁, hk, x)
-
-    pub counted-same : d ≡ false → t₂ ≡ counted t s
-    unfolding counted
-    counted-same e =
-        let x : not (expected s (answered s)) ≡ false = sym hd ∙ e in
-        rw (h₂, h₁, hk, x)

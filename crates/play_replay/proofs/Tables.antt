@@ -10,7 +10,8 @@ use borrow.Author.Tests.{eq-eqb, ne-eqb}
 use lib.ListN.{length, getD, set, drop}
 use lib.Seq.{drop-cons, drop-length}
 use lib.Dec.{eqb}
-use Rattle.play_replay.specs.Case.{u32At, wordAt, table, patched, same}
+use Rattle.replay.specs.Numbers.{u32At, wordAt}
+use Rattle.play_replay.specs.Case.{table, patched, same}
 
 -- a list whose first n words are those of a table
 unfoldable pub over : (ℕ → ℕ) → List ℕ → ℕ → List ℕ

@@ -1,17 +1,12 @@
 -- A case of the list: what is played, and the answer and the store that are expected; numbers little-endian. Assumes nothing.
-use Prim.Native.Nat.{ℕ, zero, suc, _+_, _*_, _^_, _≤_}
-use mathlib.Core.Bool.{Bool, true, false, not, _&&_}
+use Prim.Native.Nat.{ℕ, zero, suc, _+_, _*_, _≤_}
+use mathlib.Core.Bool.{Bool, true, false, not, _&&_, _||_}
 use mathlib.Core.List.{List, [], _∷_}
-use lib.ListN.{length, getD, set, take, drop}
-use lib.Dec.{eqb}
+use lib.ListN.{length, set, take, drop}
+use lib.Dec.{eqb, ltb}
 use Rattle.machine.specs.Answer.{Answer, answer}
-
--- the number of four bytes, and of eight, whose lowest stands at i
-unfoldable pub u32At : List ℕ → ℕ → ℕ
-u32At s i = getD s i 0 + 2 ^ 8 * getD s (i + 1) 0 + 2 ^ 16 * getD s (i + 2) 0 + 2 ^ 24 * getD s (i + 3) 0
-
-unfoldable pub wordAt : List ℕ → ℕ → ℕ
-wordAt s i = u32At s i + 2 ^ 32 * u32At s (i + 4)
+use Rattle.replay.specs.Numbers.{u32At, wordAt}
+use Rattle.replay.specs.Tally.{Cases}
 
 -- where the constants, the word that fills the store, the words set before and the words changed begin, and where the case ends
 abbrev pub constantsAt : List ℕ → ℕ
@@ -29,7 +24,11 @@ changedAt s = beforeAt s + 12 * u32At s 12
 abbrev pub end : List ℕ → ℕ
 end s = changedAt s + 12 * u32At s 16
 
--- the bytes begin with a whole case, of at most 257 constants and 1,603 words of the store
+-- the bytes begin with no whole case; a case has at most 257 constants and 1,603 words of the store
+unfoldable pub cut : List ℕ → Bool
+cut s = ltb (length s) 48 || (ltb 257 (u32At s 4) || (ltb 1603 (u32At s 8) || ltb (length s) (end s)))
+
+-- what a whole case has
 pub record Whole (s : List ℕ) : Type 0 where
   pub head : 48 ≤ length s
   pub constants : u32At s 4 ≤ 257
@@ -74,3 +73,9 @@ same (x ∷ xs) (y ∷ ys) = eqb x y && same xs ys
 unfoldable pub expected : List ℕ → Answer → Bool
 expected s a =
     eqb (a .number) (u32At s 28) && (eqb (a .index) (wordAt s 32) && (eqb (a .played) (wordAt s 40) && same (a .store) (after s)))
+
+abbrev pub differs : List ℕ → Bool
+differs s = not (expected s (answered s))
+
+abbrev pub cases : Cases
+cases = record { cut = cut; end = end; number = λ s. answered s .number; differs = differs }

@@ -1,2 +1,1 @@
 pub mod Case
-pub mod Tally

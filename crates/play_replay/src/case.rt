@@ -1,31 +1,29 @@
 // One case: whether it is whole, and how the player answers it.
-ghost use Prim.Native.Nat.{_+_, _^_, _<_, _≤_};
-ghost use mathlib.Core.Bool.{true, false, not};
+ghost use Prim.Native.Nat.{_^_, _<_};
 ghost use mathlib.Core.Path.{_≡_};
 ghost use lib.ListN.{length};
 ghost use Rattle.play_replay.specs.Case as Case;
-ghost use Rattle.play_replay.specs.Case.{Whole, u32At, changedAt, answered, expected};
+ghost use Rattle.play_replay.specs.Case.{Whole, cut, changedAt, answered, expected, differs};
+ghost use Rattle.replay.specs.Numbers.{u32At};
 ghost use Rattle.player.specs.Values.{whole};
-use crate::numbers::count_at;
-use crate::numbers::u32_at;
-use crate::numbers::word_at;
 use crate::stores::fill;
 use crate::stores::load;
 use crate::stores::patch;
 use crate::stores::same;
 use player::Answer;
+use replay::numbers::count_at;
+use replay::numbers::u32_at;
+use replay::numbers::word_at;
 
 // Where the words changed begin.
 fn changed_at(s: &[u8]) -> usize
-    requires { ⌜ 48 ≤ length (now s) ⌝ }
     ensures { λ r. ⌜ (r ≡ changedAt (now (s .entry))) × (r < 2 ^ 38) ⌝ }
 {
     48 + count_at(s, 0) + 8 * count_at(s, 4) + 8 + 12 * count_at(s, 12)
 }
 
 // Where the case ends.
-pub(crate) fn end(s: &[u8]) -> usize
-    requires { ⌜ 48 ≤ length (now s) ⌝ }
+pub fn end(s: &[u8]) -> usize
     ensures { λ r. ⌜ r ≡ Case.end (now (s .entry)) ⌝ }
 {
     changed_at(s) + 12 * count_at(s, 16)
@@ -33,7 +31,7 @@ pub(crate) fn end(s: &[u8]) -> usize
 
 // Whether the bytes begin with no whole case.
 pub fn is_cut(s: &[u8]) -> bool
-    ensures { λ r. ⌜ (r ≡ false → Whole (now (s .entry))) × (r ≡ true → Whole (now (s .entry)) → ⊥) ⌝ }
+    ensures { λ r. ⌜ r ≡ cut (now (s .entry)) ⌝ }
 {
     if s.len() < 48 {
         return true;
@@ -44,10 +42,7 @@ pub fn is_cut(s: &[u8]) -> bool
     if 1603 < count_at(s, 8) {
         return true;
     }
-    if s.len() < end(s) {
-        return true;
-    }
-    false
+    s.len() < end(s)
 }
 
 // Makes the store before the play.
@@ -79,7 +74,7 @@ pub struct Outcome {
 
 // Whether an answer and a store are the expected ones.
 fn agrees(s: &[u8], a: Answer, store: &[u64], after: &[u64]) -> bool
-    requires { ⌜ (48 ≤ length (now s)) × (now after ≡ Case.after (now s)) ⌝ }
+    requires { ⌜ now after ≡ Case.after (now s) ⌝ }
     ensures { λ r. ⌜ r ≡ expected (now (s .entry)) (whole a (now (store .entry))) ⌝ }
 {
     if a.number as u64 != u32_at(s, 28) {
@@ -97,7 +92,7 @@ fn agrees(s: &[u8], a: Answer, store: &[u64], after: &[u64]) -> bool
 // Plays the case, and compares what the player gives with what the case expects.
 fn judge(s: &[u8], constants: &[u64], store: &mut [u64], after: &[u64]) -> Outcome
     requires { ⌜ Whole (now s) × ((now constants ≡ Case.constants (now s)) × ((now store ≡ Case.before (now s)) × (now after ≡ Case.after (now s)))) ⌝ }
-    ensures { λ r. ⌜ (r .number ≡ answered (now (s .entry)) .number) × (r .differs ≡ not (expected (now (s .entry)) (answered (now (s .entry))))) ⌝ }
+    ensures { λ r. ⌜ (r .number ≡ answered (now (s .entry)) .number) × (r .differs ≡ differs (now (s .entry))) ⌝ }
 {
     let listing_end = 48 + count_at(s, 0);
     let start = word_at(s, 20) as usize;
@@ -112,7 +107,7 @@ fn judge(s: &[u8], constants: &[u64], store: &mut [u64], after: &[u64]) -> Outco
 // Makes what the case s plays, in room of its lengths, and plays it.
 fn replay_in(s: &[u8], constants: &mut [u64], store: &mut [u64], after: &mut [u64]) -> Outcome
     requires { ⌜ Whole (now s) × ((length (now constants) ≡ u32At (now s) 4) × ((length (now store) ≡ u32At (now s) 8) × (length (now after) ≡ u32At (now s) 8))) ⌝ }
-    ensures { λ r. ⌜ (r .number ≡ answered (now (s .entry)) .number) × (r .differs ≡ not (expected (now (s .entry)) (answered (now (s .entry))))) ⌝ }
+    ensures { λ r. ⌜ (r .number ≡ answered (now (s .entry)) .number) × (r .differs ≡ differs (now (s .entry))) ⌝ }
 {
     load(s, 48 + count_at(s, 0), constants);
     make_before(s, store);
@@ -121,9 +116,9 @@ fn replay_in(s: &[u8], constants: &mut [u64], store: &mut [u64], after: &mut [u6
 }
 
 // Replays the case at the start of s.
-pub(crate) fn replay(s: &[u8]) -> Outcome
+pub(crate) fn replay_case(s: &[u8]) -> Outcome
     requires { ⌜ Whole (now s) ⌝ }
-    ensures { λ r. ⌜ (r .number ≡ answered (now (s .entry)) .number) × (r .differs ≡ not (expected (now (s .entry)) (answered (now (s .entry))))) ⌝ }
+    ensures { λ r. ⌜ (r .number ≡ answered (now (s .entry)) .number) × (r .differs ≡ differs (now (s .entry))) ⌝ }
 {
     let mut constants = [0u64; 257];
     let mut store = [0u64; 1603];

@@ -5,20 +5,11 @@ ghost use mathlib.Core.Path.{_≡_};
 ghost use lib.ListN.{length};
 
 mod case;
-mod numbers;
 mod stores;
 mod tally;
 
 use libc::STDIN_FILENO;
 use libc::STDOUT_FILENO;
-
-// Counts the cases of a list; answers whether the list is well formed.
-fn replay_list(t: &mut [u64; 258], list: &[u8]) -> bool {
-    if list.len() < 4 {
-        return false;
-    }
-    tally::count_all(t, list, 4, numbers::count_at(list, 0))
-}
 
 // Room for a list. The length is all that its reader needs to know.
 fn room() -> [u8; 524288]
@@ -31,7 +22,7 @@ fn room() -> [u8; 524288]
 fn replay_input(t: &mut [u64; 258]) -> bool {
     let mut list = room();
     let n = io::read_full(STDIN_FILENO, &mut list);
-    replay_list(t, &list[..n])
+    tally::replay_list(t, &list[..n])
 }
 
 // The line of number k, where cases were answered with it.

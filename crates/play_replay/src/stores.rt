@@ -3,9 +3,10 @@ ghost use Prim.Native.Nat.{_+_, _*_, _≤_};
 ghost use mathlib.Core.Path.{_≡_};
 ghost use lib.ListN.{length, set};
 ghost use Rattle.play_replay.specs.Case as Case;
-ghost use Rattle.play_replay.specs.Case.{wordAt, table, patched};
-use crate::numbers::count_at;
-use crate::numbers::word_at;
+ghost use Rattle.play_replay.specs.Case.{table, patched};
+ghost use Rattle.replay.specs.Numbers.{wordAt};
+use replay::numbers::count_at;
+use replay::numbers::word_at;
 
 // Every word the same.
 pub fn fill(store: &mut [u64], word: u64)

@@ -1,37 +1,19 @@
-// The counts of a replay.
-ghost use Prim.Native.Nat.{_<_, _≤_};
+// The cases of a list, counted.
+ghost use Prim.Native.Nat.{_≤_};
 ghost use mathlib.Core.Path.{_≡_};
-ghost use lib.ListN.{length};
-ghost use Rattle.play_replay.specs.Case.{Whole};
-ghost use Rattle.play_replay.specs.Tally.{raised, counted};
+ghost use lib.ListN.{length, drop};
+ghost use Rattle.replay.specs.Tally.{replayed, replayedList};
+ghost use Rattle.play_replay.specs.Case.{cases};
 use crate::case::end;
 use crate::case::is_cut;
-use crate::case::replay;
-
-// One more at i.
-fn raise(t: &mut [u64; 258], i: usize)
-    requires { ⌜ i < 258 ⌝ }
-    ensures { λ _. ⌜ now (t .exit) ≡ raised (now (t .entry)) i ⌝ }
-{
-    t[i] = std::num::wrapping_add_u64(t[i], 1);
-}
-
-// Counts the case at the start of s.
-fn count(t: &mut [u64; 258], s: &[u8])
-    requires { ⌜ Whole (now s) ⌝ }
-    ensures { λ _. ⌜ now (t .exit) ≡ counted (now (t .entry)) (now (s .entry)) ⌝ }
-{
-    let o = replay(s);
-    raise(t, o.number as usize);
-    raise(t, 256);
-    if o.differs {
-        raise(t, 257);
-    }
-}
+use crate::case::replay_case;
+use replay::numbers::count_at;
+use replay::tally::tally;
 
 // Counts the n cases that begin at a position, and answers whether they are whole and nothing follows them.
-pub(crate) fn count_all(t: &mut [u64; 258], list: &[u8], start: usize, n: usize) -> bool
+fn count_all(t: &mut [u64; 258], list: &[u8], start: usize, n: usize) -> bool
     requires { ⌜ start ≤ length (now list) ⌝ }
+    ensures { λ r. ⌜ (r ≡ replayed cases n (now (t .entry)) (drop start (now (list .entry))) .whole) × (now (t .exit) ≡ replayed cases n (now (t .entry)) (drop start (now (list .entry))) .counts) ⌝ }
 {
     let mut at = start;
     let mut i: usize = 0;
@@ -40,9 +22,20 @@ pub(crate) fn count_all(t: &mut [u64; 258], list: &[u8], start: usize, n: usize)
         if is_cut(s) {
             return false;
         }
-        count(t, s);
+        let o = replay_case(s);
+        tally(t, o.number, o.differs);
         at += end(s);
         i += 1;
     }
     at == list.len()
+}
+
+// Counts the cases of a list, and answers whether the list is well formed.
+pub fn replay_list(t: &mut [u64; 258], list: &[u8]) -> bool
+    ensures { λ r. ⌜ (r ≡ replayedList cases (now (t .entry)) (now (list .entry)) .whole) × (now (t .exit) ≡ replayedList cases (now (t .entry)) (now (list .entry)) .counts) ⌝ }
+{
+    if list.len() < 4 {
+        return false;
+    }
+    count_all(t, list, 4, count_at(list, 0))
 }

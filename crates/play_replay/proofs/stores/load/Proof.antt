@@ -4,7 +4,7 @@ use mathlib.Core.Path.{_≡_, refl, sym, ap, _∙_}
 use native.Mathlib.Omega.{arith}
 use borrow.Author.Needs.{needs}
 use lib.ListN.{length, length-set}
-use Rattle.play_replay.specs.Case.{wordAt}
+use Rattle.replay.specs.Numbers.{wordAt}
 use Rattle.play_replay.proofs.Tables.{over, over-none, over-next, over-all}
 use Rattle.play_replay.proofs.stores.load.Statement.{statement}
 use Rattle.play_replay.proofs.stores.load.Tie as tie

@@ -1,0 +1,23 @@
+// The counts of a replay.
+ghost use Prim.Native.Nat.{_<_};
+ghost use mathlib.Core.Path.{_≡_};
+ghost use Rattle.replay.specs.Tally.{raised, tallied};
+
+// One more at i.
+fn raise(t: &mut [u64; 258], i: usize)
+    requires { ⌜ i < 258 ⌝ }
+    ensures { λ _. ⌜ now (t .exit) ≡ raised (now (t .entry)) i ⌝ }
+{
+    t[i] = std::num::wrapping_add_u64(t[i], 1);
+}
+
+// Counts a case that was answered with a number, and differs or not.
+pub fn tally(t: &mut [u64; 258], number: u8, differs: bool)
+    ensures { λ _. ⌜ now (t .exit) ≡ tallied (now (t .entry)) number differs ⌝ }
+{
+    raise(t, number as usize);
+    raise(t, 256);
+    if differs {
+        raise(t, 257);
+    }
+}
