@@ -1,3 +1,4 @@
 mod Steps
 mod Walks
+mod Looks
 mod Answering

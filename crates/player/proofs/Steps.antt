@@ -12,10 +12,11 @@ use Rattle.mir.specs.declared.records.Record.{Record}
 use Rattle.mir.specs.Read.{Read}
 use Rattle.mir.proofs.Decoding.{items, Here, Done}
 use Rattle.records.specs.Record.{recordFrom}
+use Rattle.records.proofs.Reading.{here-read}
 use Rattle.machine.specs.Machine.{Store, exec, execs, works, isLabel, seek, going, seeking, End, ticks, play}
 use Rattle.machine.proofs.Seeking.{seek-play}
 use Rattle.player.specs.declared.run.Turn.{Turn}
-use Rattle.player.specs.Positions.{left, blockAt, onFrom, Sought, BlockPlayed, Turned, Played}
+use Rattle.player.specs.Positions.{left, fault, isJump, Jumps, blockAt, onFrom, Sought, BlockPlayed, Turned, Played}
 
 IsTrue : Bool → Type 0
 IsTrue true = Unit {0}
@@ -51,21 +52,16 @@ pub works-done : {read : List ℕ → Read Record} {s : List ℕ} {at k : ℕ} �
 unfolding works
 works-done e = ap works (e .same)
 
--- no working record
-pub data Stop : Record → Type 0 where
-  stop-label : (l : ℕ) → Stop (Record.Label l)
-  stop-branch : (l : ℕ) → Stop (Record.Branch l)
-  stop-call : (l : ℕ) → Stop (Record.Call l)
-
-works-stopped : {r : Record} (rs : List Record) → Stop r → works (r ∷ rs) ≡ []
+works-stopped : (r : Record) (rs : List Record) → isJump r ≡ true → works (r ∷ rs) ≡ []
 unfolding works
-works-stopped rs (stop-label l) = refl
-works-stopped rs (stop-branch l) = refl
-works-stopped rs (stop-call l) = refl
+works-stopped (Record.Work w) rs e = no (sym e)
+works-stopped (Record.Label l) rs e = refl
+works-stopped (Record.Branch l) rs e = refl
+works-stopped (Record.Call l) rs e = refl
 
-pub works-stop : {read : List ℕ → Read Record} {s : List ℕ} {at next : ℕ} {r : Record} → Here read s at r next → Stop r
-    → works (items read (drop at s)) ≡ []
-works-stop e h = ap works (e .same) ∙ works-stopped _ h
+-- a record that jumps is no working record
+pub works-jump : {count : ℕ} {s : List ℕ} {at : ℕ} → Jumps count s at → works (left count s at) ≡ []
+works-jump {count} {s} {at} j = ap works (here-read count s at (j .rec) (j .here) .same) ∙ works-stopped (j .rec) _ (j .jump)
 
 pub execs-none : {l : List Work} (constants : List ℕ) (σ : Store) → l ≡ [] → execs constants l σ ≡ σ
 unfolding execs
@@ -84,11 +80,11 @@ known-here {read} {s} {at} {next} e f = subst (λ x. Here read s at x next) f e
 abbrev from : List ℕ → List ℕ → ℕ → List Record → Store → End
 from constants s body rs σ = play constants (blockAt constants s body) going rs σ
 
-module _ {constants s : List ℕ} {body at : ℕ} where
+module _ {constants s : List ℕ} {body at : ℕ} (z : fault (length constants) s at ≡ 0) where
   pub turn-torn : {k : ℕ} {σ : Store} → Done (recordFrom (length constants)) s at k
       → Turned constants s body at σ σ (record { done = true; at = at; played = 0 })
   unfolding play
-  turn-torn {k} {σ} e = record { same = ap (λ l. from constants s body l σ) (e .same); on = λ h. no h; small = omega arith }
+  turn-torn {k} {σ} e = record { same = ap (λ l. from constants s body l σ) (e .same); on = λ h. no h; sound = λ h. no h; small = omega arith }
 
   pub turn-work : {next : ℕ} {σ τ : Store} {w : Work} → Here (recordFrom (length constants)) s at (Record.Work w) next
       → τ ≡ exec constants w σ → Turned constants s body at σ τ (record { done = false; at = next; played = 1 })
@@ -98,31 +94,33 @@ module _ {constants s : List ℕ} {body at : ℕ} where
       record {
         same = ap (λ l. from constants s body l σ) (e .same) ∙ ap (λ u. ticks 1 (from constants s body (left (length constants) s next) u)) (sym h);
         on = λ x. g;
+        sound = λ x. sym (e .sound) ∙ z;
         small = omega arith;
       }
 
   pub turn-label : {next l : ℕ} {σ : Store} → Here (recordFrom (length constants)) s at (Record.Label l) next
       → Turned constants s body at σ σ (record { done = false; at = next; played = 1 })
   unfolding play
-  turn-label {next} {l} {σ} e = record { same = ap (λ l. from constants s body l σ) (e .same); on = λ x. e .on; small = omega arith }
+  turn-label {next} {l} {σ} e = record { same = ap (λ l. from constants s body l σ) (e .same); on = λ x. e .on; sound = λ x. sym (e .sound) ∙ z; small = omega arith }
 
   pub turn-end : {next l : ℕ} {σ : Store} → Here (recordFrom (length constants)) s at (Record.Branch l) next → l ≡ 0
       → Turned constants s body at σ σ (record { done = true; at = next; played = 1 })
   unfolding play
   turn-end {next} {l} {σ} e z =
-      record { same = ap (λ l. from constants s body l σ) (e .same) ∙ simp (eq-eqb _ _ z); on = λ h. no h; small = omega arith }
+      record { same = ap (λ l. from constants s body l σ) (e .same) ∙ simp (eq-eqb _ _ z); on = λ h. no h; sound = λ h. no h; small = omega arith }
 
   pub turn-branch : {next l to : ℕ} {σ : Store} → Here (recordFrom (length constants)) s at (Record.Branch l) next → (l ≡ 0 → ⊥)
       → Sought (length constants) s next l to → Turned constants s body at σ σ (record { done = false; at = to; played = 1 })
   unfolding play
-  turn-branch {next} {l} {to} {σ} e z w =
+  turn-branch {next} {l} {to} {σ} e n w =
       let h = w .on in
       let g = e .on in
       record {
         same = ap (λ l. from constants s body l σ) (e .same)
-            ∙ simp (ne-eqb _ _ z)
+            ∙ simp (ne-eqb _ _ n)
             (ap (ticks 1) (seek-play constants (blockAt constants s body) l (left (length constants) s next) σ ∙ ap (λ l. from constants s body l σ) (sym (w .same))));
         on = λ x. omega (arith, g, h);
+        sound = λ x. w .sound (sym (e .sound) ∙ z);
         small = omega arith;
       }
 
@@ -139,8 +137,14 @@ module _ {constants s : List ℕ} {body at : ℕ} where
             ∙ ap (λ j. ticks j (from constants s body (left (length constants) s next) (execs constants b σ))) m
             ∙ ap (λ u. ticks (2 + k) (from constants s body (left (length constants) s next) u)) (sym (w .same));
         on = λ x. e .on;
+        sound = λ x. sym (e .sound) ∙ z;
         small = omega (arith, d);
       }
+
+-- a turn from an equal store
+pub turn-from : {constants s : List ℕ} {body at : ℕ} {σ τ υ : Store} {t : Turn} → τ ≡ σ → Turned constants s body at τ υ t
+    → Turned constants s body at σ υ t
+turn-from {constants} {s} {body} {at} {σ} {τ} {υ} {t} e w = subst (λ u. Turned constants s body at u υ t) e w
 
 -- the whole run: what is left to do from here is the whole answer
 pub run-start : (e : End) → ticks 0 e ≡ e

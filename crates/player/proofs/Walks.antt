@@ -10,10 +10,10 @@ use Rattle.mir.specs.declared.records.Record.{Record}
 use Rattle.mir.specs.Read.{Read}
 use Rattle.mir.proofs.Decoding.{items, Here, Done}
 use Rattle.records.specs.Record.{recordFrom}
-use Rattle.machine.specs.Machine.{isLabel}
+use Rattle.machine.specs.Machine.{isLabel, seek}
 use Rattle.machine.specs.Jumps.{isReturn, bit, tally, has, Before, breaks, behind, breachFrom}
 use Rattle.player.specs.declared.passes.Seen.{Seen}
-use Rattle.player.specs.Positions.{left, fault, Examined}
+use Rattle.player.specs.Positions.{left, fault, isJump, Examined}
 
 pub bit-small : (b : Bool) → bit b ≤ 1
 bit-small true = omega arith
@@ -58,22 +58,42 @@ module _ {read : List ℕ → Read Record} {s : List ℕ} {at : ℕ} where
       ∙ h)
 
 -- where the records end, what was counted is the whole
-pub examined-end : {count : ℕ} {s : List ℕ} {at n index ones twos ends : ℕ} → index + length (left count s at) ≡ length (left count s 0)
+pub examined-end : {count : ℕ} {s : List ℕ} {at n index ones twos ends jumps : ℕ} → index + length (left count s at) ≡ length (left count s 0)
     → fault count s at ≡ fault count s 0
     → ones + tally (isLabel 1) (left count s at) ≡ tally (isLabel 1) (left count s 0)
     → twos + tally (isLabel 2) (left count s at) ≡ tally (isLabel 2) (left count s 0)
     → ends + tally isReturn (left count s at) ≡ tally isReturn (left count s 0)
+    → jumps + tally isJump (left count s at) ≡ tally isJump (left count s 0)
     → Done (recordFrom count) s at n
-    → Examined count s (record { number = n; index = index; ones = ones; twos = twos; ends = ends })
-examined-end i0 i1 i2 i3 i4 d =
+    → Examined count s (record { number = n; index = index; ones = ones; twos = twos; ends = ends; jumps = jumps })
+examined-end i0 i1 i2 i3 i4 i5 d =
     let g = ap length (d .same) in
     let t1 = tally-none (isLabel 1) d in
     let t2 = tally-none (isLabel 2) d in
     let t3 = tally-none isReturn d in
+    let t4 = tally-none isJump d in
     record {
       number = sym (d .why) ∙ i1;
       index = omega (arith, g, i0);
       ones = omega (arith, t1, i2);
       twos = omega (arith, t2, i3);
       ends = omega (arith, t3, i4);
+      jumps = omega (arith, t4, i5);
     }
+
+-- working records alone: no rule is broken, and no Label stands among them
+pub no-breach : (one : Bool) (c : Before) (rs : List Record) → tally isJump rs ≡ 0 → breachFrom one c rs ≡ length rs
+unfolding tally breachFrom
+no-breach one c [] e = refl
+no-breach one c (Record.Work w ∷ rs) e = ap suc (no-breach one c rs (omega arith))
+no-breach one c (Record.Label l ∷ rs) e = absurd (omega arith)
+no-breach one c (Record.Branch l ∷ rs) e = absurd (omega arith)
+no-breach one c (Record.Call l ∷ rs) e = absurd (omega arith)
+
+pub no-label : (l : ℕ) (rs : List Record) → tally isJump rs ≡ 0 → seek l rs ≡ []
+unfolding tally seek isLabel
+no-label l [] e = refl
+no-label l (Record.Work w ∷ rs) e = no-label l rs (omega arith)
+no-label l (Record.Label m ∷ rs) e = absurd (omega arith)
+no-label l (Record.Branch m ∷ rs) e = absurd (omega arith)
+no-label l (Record.Call m ∷ rs) e = absurd (omega arith)

@@ -3,7 +3,10 @@ ghost use mathlib.Core.Path.{_≡_};
 ghost use Rattle.records.specs.Record.{records};
 ghost use Rattle.machine.specs.Machine.{isLabel};
 ghost use Rattle.machine.specs.Jumps.{isReturn, tally, breaks, behind, breachFrom, nothing};
+ghost use lib.Dec.{ltb};
 ghost use Rattle.player.specs.Values.{asBefore};
+ghost use Rattle.player.specs.Positions.{Examined};
+use super::passes::Seen;
 use super::passes::is_label;
 use super::passes::is_return;
 use super::passes::one_if;
@@ -99,13 +102,7 @@ fn stood_behind(s: Stood, rec: Record) -> Stood
 
 // The index of the first record that breaks a jump rule; the count of records where none does. `all_twos`, `all_ends`: how many
 // records are Label 2 and Branch 0.
-pub(crate) fn first_breach(
-    listing: &[u8],
-    count: usize,
-    one: bool,
-    all_twos: usize,
-    all_ends: usize,
-) -> usize
+fn first_breach(listing: &[u8], count: usize, one: bool, all_twos: usize, all_ends: usize) -> usize
     requires { ⌜ «all_twos» ≡ tally (isLabel 2) (records count (now listing) .items) ⌝ }
     requires { ⌜ «all_ends» ≡ tally isReturn (records count (now listing) .items) ⌝ }
     ensures { λ r. ⌜ r ≡ breachFrom one nothing (records count (now (listing .entry)) .items) ⌝ }
@@ -135,4 +132,15 @@ pub(crate) fn first_breach(
         index += 1;
     }
     index
+}
+
+// The same, by what the first pass found: a listing of working records alone breaks no rule.
+pub(crate) fn breach_of(listing: &[u8], count: usize, seen: Seen) -> usize
+    requires { ⌜ Examined count (now listing) seen ⌝ }
+    ensures { λ r. ⌜ r ≡ breachFrom (ltb 0 (seen .ones)) nothing (records count (now (listing .entry)) .items) ⌝ }
+{
+    if seen.jumps == 0 {
+        return seen.index;
+    }
+    first_breach(listing, count, 0 < seen.ones, seen.twos, seen.ends)
 }

@@ -1,4 +1,4 @@
-// The player: a listing's records are examined, then played on the store. A record is decoded where it is played.
+// The player: a listing's records are examined once, then played on the store. A record is decoded where it is played.
 ghost use mathlib.Core.Path.{_≡_};
 ghost use Rattle.machine.specs.Answer.{answer};
 ghost use Rattle.player.specs.Values.{whole};
@@ -7,9 +7,9 @@ mod jumps;
 mod passes;
 mod run;
 
-use jumps::first_breach;
+use jumps::breach_of;
+use passes::block_at;
 use passes::examine;
-use passes::find;
 use passes::skip;
 use run::run;
 
@@ -51,12 +51,11 @@ pub fn play(listing: &[u8], constants: &[u64], store: &mut [u64], start: usize) 
     if seen.index < start {
         return refuse(9, start);
     }
-    let breach = first_breach(listing, count, 0 < seen.ones, seen.twos, seen.ends);
+    let breach = breach_of(listing, count, seen);
     if breach < seen.index {
         return refuse(9, breach);
     }
-    let label = find(listing, count, 0, 1);
-    let body = skip(listing, count, label, 1);
+    let body = block_at(listing, count, seen.jumps);
     let from = skip(listing, count, 0, start);
     let played = run(listing, constants, body, from, store);
     Answer {

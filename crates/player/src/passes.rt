@@ -2,9 +2,14 @@
 ghost use mathlib.Core.Path.{_≡_};
 ghost use Rattle.machine.specs.Machine.{isLabel};
 ghost use Rattle.machine.specs.Jumps.{isReturn, bit};
-ghost use Rattle.player.specs.Positions.{Sought, Skipped, Examined};
+ghost use Rattle.records.specs.Record.{records};
+ghost use Rattle.machine.specs.Jumps.{tally};
+ghost use Rattle.player.specs.Positions.{Sought, Skipped, Begun, Examined, isJump, sees, seesJump};
+use mir::fields::word;
 use mir::records::Record;
 use records::reader::NextRecord;
+use records::reader::Sight;
+use records::reader::look;
 use records::reader::read_record;
 
 pub fn is_label(rec: Record, label: u8) -> bool
@@ -73,14 +78,46 @@ pub fn skip(listing: &[u8], count: usize, from: usize, k: usize) -> usize
     at
 }
 
+// The position behind the first Label 1, where the block begins; the end where there is none. `jumps`: how many records are no working
+// records.
+pub(crate) fn block_at(listing: &[u8], count: usize, jumps: usize) -> usize
+    requires { ⌜ jumps ≡ tally isJump (records count (now listing) .items) ⌝ }
+    ensures { λ r. ⌜ Begun count (now (listing .entry)) r ⌝ }
+{
+    if jumps == 0 {
+        return listing.len();
+    }
+    let label = find(listing, count, 0, 1);
+    skip(listing, count, label, 1)
+}
+
+// A Label, a Branch or a Call, by its sight.
+fn sees_jump(q: Sight) -> bool
+    ensures { λ r. ⌜ r ≡ seesJump q ⌝ }
+{
+    q.what != 0
+}
+
+// One of them with a label, by its sight.
+fn sees_label(q: Sight, what: u8, label: u8) -> bool
+    ensures { λ r. ⌜ r ≡ sees what label q ⌝ }
+{
+    if q.what == what {
+        q.label == label
+    } else {
+        false
+    }
+}
+
 // What the first pass finds: the number that refuses a record (0: none) at its index or the count of records, and how many
-// records are Label 1, Label 2 and Branch 0.
+// records are Label 1, Label 2, Branch 0, and how many are no working records.
 pub struct Seen {
     pub number: u8,
     pub index: usize,
     pub ones: usize,
     pub twos: usize,
     pub ends: usize,
+    pub jumps: usize,
 }
 
 // Examines each record by itself.
@@ -92,26 +129,27 @@ pub fn examine(listing: &[u8], count: usize) -> Seen
     let mut ones: usize = 0;
     let mut twos: usize = 0;
     let mut ends: usize = 0;
+    let mut jumps: usize = 0;
     while at < listing.len() {
-        let q = read_record(listing, at, count);
-        match q {
-            NextRecord::Got(rec, next) => {
-                ones += one_if(is_label(rec, 1));
-                twos += one_if(is_label(rec, 2));
-                ends += one_if(is_return(rec));
-                at = next;
-                index += 1;
-            }
-            NextRecord::Refused(n) => {
-                return Seen {
-                    number: n,
-                    index: index,
-                    ones: ones,
-                    twos: twos,
-                    ends: ends,
-                };
-            }
+        let s = &listing[at..];
+        let q = look(s, count);
+        if q.number != 0 {
+            return Seen {
+                number: q.number,
+                index: index,
+                ones: ones,
+                twos: twos,
+                ends: ends,
+                jumps: jumps,
+            };
         }
+        ones += one_if(sees_label(q, 1, 1));
+        twos += one_if(sees_label(q, 1, 2));
+        ends += one_if(sees_label(q, 2, 0));
+        jumps += one_if(sees_jump(q));
+        let n = word(s, 0);
+        at += n as usize;
+        index += 1;
     }
     Seen {
         number: 0,
@@ -119,5 +157,6 @@ pub fn examine(listing: &[u8], count: usize) -> Seen
         ones: ones,
         twos: twos,
         ends: ends,
+        jumps: jumps,
     }
 }

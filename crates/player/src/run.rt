@@ -2,8 +2,9 @@
 ghost use mathlib.Core.Path.{_≡_};
 ghost use Prim.Native.Nat.{_≤_, _<_};
 ghost use lib.ListN.{length};
-ghost use Rattle.player.specs.Positions.{BlockPlayed, Turned, Played};
+ghost use Rattle.player.specs.Positions.{fault, Jumps, BlockPlayed, Turned, Played};
 use super::passes::find;
+use mir::fields::word;
 use mir::records::Record;
 use records::reader::NextRecord;
 use records::reader::read_record;
@@ -19,28 +20,30 @@ pub struct Turn {
 // Plays the working records from a position to the first that is none, and counts that one too.
 fn run_block(listing: &[u8], constants: &[u64], body: usize, store: &mut [u64]) -> usize
     requires { ⌜ length (now listing) ≤ 65536 ⌝ }
+    requires { ⌜ fault (length (now constants)) (now listing) body ≡ 0 ⌝ }
     ensures { λ r. ⌜ BlockPlayed (now (constants .entry)) (now (listing .entry)) body (now (store .entry)) (now (store .exit)) r ⌝ }
 {
     let mut at = body;
     let mut n: usize = 1;
     while at < listing.len() {
-        let q = read_record(listing, at, constants.len());
-        let NextRecord::Got(rec, next) = q else {
+        let s = &listing[at..];
+        let worked = exec(store, constants, s);
+        if !worked {
             return n;
-        };
-        let Record::Work(w) = rec else {
-            return n;
-        };
-        exec(store, constants, w);
-        at = next;
+        }
+        let k = word(s, 0);
+        at += k as usize;
         n += 1;
     }
     n
 }
 
-// Plays one record outside a call, with the whole block where it is a Call.
-fn run_record(listing: &[u8], constants: &[u64], body: usize, at: usize, store: &mut [u64]) -> Turn
+// Plays a record that is no working record, with the whole block where it is a Call.
+fn run_jump(listing: &[u8], constants: &[u64], body: usize, at: usize, store: &mut [u64]) -> Turn
     requires { ⌜ length (now listing) ≤ 65536 ⌝ }
+    requires { ⌜ fault (length (now constants)) (now listing) body ≡ 0 ⌝ }
+    requires { ⌜ fault (length (now constants)) (now listing) at ≡ 0 ⌝ }
+    requires { ⌜ Jumps (length (now constants)) (now listing) at ⌝ }
     requires { ⌜ at < length (now listing) ⌝ }
     ensures { λ r. ⌜ Turned (now (constants .entry)) (now (listing .entry)) body at (now (store .entry)) (now (store .exit)) r ⌝ }
 {
@@ -53,14 +56,11 @@ fn run_record(listing: &[u8], constants: &[u64], body: usize, at: usize, store: 
         };
     };
     match rec {
-        Record::Work(w) => {
-            exec(store, constants, w);
-            Turn {
-                done: false,
-                at: next,
-                played: 1,
-            }
-        }
+        Record::Work(w) => Turn {
+            done: true,
+            at: at,
+            played: 0,
+        },
         Record::Label(l) => Turn {
             done: false,
             at: next,
@@ -92,7 +92,29 @@ fn run_record(listing: &[u8], constants: &[u64], body: usize, at: usize, store: 
     }
 }
 
-// Plays from a position to the end, with the block's working records from body on, and counts the records reached.
+// Plays one record outside a call, with the whole block where it is a Call.
+fn run_record(listing: &[u8], constants: &[u64], body: usize, at: usize, store: &mut [u64]) -> Turn
+    requires { ⌜ length (now listing) ≤ 65536 ⌝ }
+    requires { ⌜ fault (length (now constants)) (now listing) body ≡ 0 ⌝ }
+    requires { ⌜ fault (length (now constants)) (now listing) at ≡ 0 ⌝ }
+    requires { ⌜ at < length (now listing) ⌝ }
+    ensures { λ r. ⌜ Turned (now (constants .entry)) (now (listing .entry)) body at (now (store .entry)) (now (store .exit)) r ⌝ }
+{
+    let s = &listing[at..];
+    let worked = exec(store, constants, s);
+    if worked {
+        let k = word(s, 0);
+        return Turn {
+            done: false,
+            at: at + k as usize,
+            played: 1,
+        };
+    }
+    run_jump(listing, constants, body, at, store)
+}
+
+// Plays from a position to the end, with the block's working records from body on, and counts the records reached. The listing was
+// examined: no record is refused.
 pub(crate) fn run(
     listing: &[u8],
     constants: &[u64],
@@ -101,6 +123,8 @@ pub(crate) fn run(
     store: &mut [u64],
 ) -> usize
     requires { ⌜ length (now listing) ≤ 65536 ⌝ }
+    requires { ⌜ fault (length (now constants)) (now listing) body ≡ 0 ⌝ }
+    requires { ⌜ fault (length (now constants)) (now listing) start ≡ 0 ⌝ }
     ensures { λ r. ⌜ Played (now (constants .entry)) (now (listing .entry)) body start (now (store .entry)) (now (store .exit)) r ⌝ }
 {
     let mut at = start;

@@ -4,3 +4,4 @@ pub mod Reading
 pub mod Holding
 pub mod Round
 pub mod Held
+pub mod Refusals

@@ -3,6 +3,7 @@ ghost use mathlib.Core.Path.{_≡_};
 ghost use Rattle.mir.specs.Operation.{uniAt, binAt, fusedAt, asUni, asBin, asFused, uniTaken, binTaken, fusedTaken};
 ghost use Rattle.records.specs.Takes.{takesUni, takesBin, takesFused};
 ghost use Rattle.records.specs.Record.{uniFrom, biFrom, movFrom, loadFrom, saveFrom, loadConstFrom, fusedFrom, ifElseFrom, loadComplexFrom, saveComplexFrom, complexBiFrom, labelFrom, branchFrom, callFrom, fieldsFrom, recordFrom, recordAt, asRead, asNext};
+ghost use Rattle.records.specs.Sight.{sightOf};
 use mir::fields::Head;
 use mir::fields::Place;
 use mir::fields::byte;
@@ -40,8 +41,16 @@ pub enum NextRecord {
     Refused(u8),
 }
 
+// What a pass over a listing needs of a record: the number that refuses it (0: none), what it is (0 a working record, 1 a Label, 2 a
+// Branch, 3 a Call) and its label.
+pub struct Sight {
+    pub number: u8,
+    pub what: u8,
+    pub label: u8,
+}
+
 // The UniOp of a number, where a listing takes it.
-fn listing_uni(n: u8) -> FoundUni
+pub fn listing_uni(n: u8) -> FoundUni
     ensures { λ r. ⌜ asUni r ≡ uniTaken takesUni (uniAt n) ⌝ }
 {
     let ops = [
@@ -71,7 +80,7 @@ fn listing_uni(n: u8) -> FoundUni
 }
 
 // The BinOp of a number, where a listing takes it.
-fn listing_bin(n: u8) -> FoundBin
+pub fn listing_bin(n: u8) -> FoundBin
     ensures { λ r. ⌜ asBin r ≡ binTaken takesBin (binAt n) ⌝ }
 {
     let ops = [
@@ -96,7 +105,7 @@ fn listing_bin(n: u8) -> FoundBin
 }
 
 // The FusedOp of a number, where a listing takes it.
-fn listing_fused(n: u8) -> FoundFused
+pub fn listing_fused(n: u8) -> FoundFused
     ensures { λ r. ⌜ asFused r ≡ fusedTaken takesFused (fusedAt n) ⌝ }
 {
     let ops = [
@@ -435,5 +444,64 @@ pub fn read_record(listing: &[u8], at: usize, count: usize) -> NextRecord
             NextRecord::Got(record, at + n as usize)
         }
         ReadRecord::Refused(n) => NextRecord::Refused(n),
+    }
+}
+
+// A sight from its three numbers.
+fn sighted(number: u8, what: u8, label: u8) -> Sight
+    ensures { λ r. ⌜ r ≡ record { number = number; what = what; label = label } ⌝ }
+{
+    Sight {
+        number: number,
+        what: what,
+        label: label,
+    }
+}
+
+// What a pass needs of what was read.
+fn look_at(q: ReadRecord) -> Sight
+    ensures { λ r. ⌜ r ≡ sightOf (asRead q) ⌝ }
+{
+    match q {
+        ReadRecord::Got(rec) => match rec {
+            Record::Work(w) => sighted(0, 0, 0),
+            Record::Label(l) => sighted(0, 1, l),
+            Record::Branch(l) => sighted(0, 2, l),
+            Record::Call(l) => sighted(0, 3, l),
+        },
+        ReadRecord::Refused(n) => sighted(n, 0, 0),
+    }
+}
+
+// The fields of a kind, looked at.
+fn look_fields(s: &[u8], kind: u16, count: usize) -> Sight
+    ensures { λ r. ⌜ r ≡ sightOf (fieldsFrom count kind (now (s .entry))) ⌝ }
+{
+    match kind {
+        1 => look_at(read_uni(s)),
+        2 => look_at(read_bi(s)),
+        3 => look_at(read_mov(s)),
+        4 => look_at(read_load(s)),
+        5 => look_at(read_save(s)),
+        6 => look_at(read_load_const(s, count)),
+        7 => look_at(read_fused(s)),
+        8 => look_at(read_if_else(s)),
+        11 => look_at(read_load_complex(s)),
+        12 => look_at(read_save_complex(s)),
+        13 => look_at(read_complex_bi(s)),
+        14 => look_at(read_label(s)),
+        15 => look_at(read_branch(s)),
+        16 => look_at(read_call(s)),
+        _ => sighted(2, 0, 0),
+    }
+}
+
+// The record that bytes begin with, looked at.
+pub fn look(s: &[u8], count: usize) -> Sight
+    ensures { λ r. ⌜ r ≡ sightOf (recordFrom count (now (s .entry))) ⌝ }
+{
+    match read_head(s, true) {
+        Head::Kind(kind) => look_fields(s, kind, count),
+        Head::Refused(n) => sighted(n, 0, 0),
     }
 }

@@ -1,51 +1,40 @@
-// What a working record does to the store, kind by kind.
+// What a working record does to the store, read from the bytes that begin with it.
 ghost use mathlib.Core.Path.{_≡_};
-ghost use Rattle.machine.specs.Machine as Machine;
-use mir::records::Work;
+ghost use Rattle.work.specs.Spelled.{spelled, hasWork, worked};
+use bytes::play_bi;
+use bytes::play_complex_bi;
+use bytes::play_fused;
+use bytes::play_if_else;
+use bytes::play_load;
+use bytes::play_load_complex;
+use bytes::play_load_const;
+use bytes::play_mov;
+use bytes::play_save;
+use bytes::play_save_complex;
+use bytes::play_uni;
+use mir::fields::word;
 
+mod bytes;
 mod kinds;
 mod operations;
 mod words;
 
-use kinds::bi;
-use kinds::complex_bi;
-use kinds::fused;
-use kinds::if_else;
-use kinds::load;
-use kinds::load_complex;
-use kinds::load_const;
-use kinds::mov;
-use kinds::save;
-use kinds::save_complex;
-use kinds::uni;
-
-pub fn exec(store: &mut [u64], constants: &[u64], work: Work)
-    ensures { λ r. ⌜ now (store .exit) ≡ Machine.exec (now (constants .entry)) work (now (store .entry)) ⌝ }
+// Whether the bytes spell work; the store is then what the work makes of it.
+pub fn exec(store: &mut [u64], constants: &[u64], s: &[u8]) -> bool
+    ensures { λ r. ⌜ (r ≡ hasWork (spelled (now (s .entry)))) × (now (store .exit) ≡ worked (now (constants .entry)) (spelled (now (s .entry))) (now (store .entry))) ⌝ }
 {
-    match work {
-        Work::Uni { op, dst, s1 } => uni(store, op, dst, s1),
-        Work::Bi { op, dst, s1, s2 } => bi(store, op, dst, s1, s2),
-        Work::Mov { dst, s1 } => mov(store, dst, s1),
-        Work::Load { dst, loc } => load(store, dst, loc),
-        Work::Save { src, loc } => save(store, src, loc),
-        Work::LoadConst { dst, idx } => load_const(store, constants, dst, idx),
-        Work::Fused { op, dst, a, b, c } => fused(store, op, dst, a, b, c),
-        Work::IfElse {
-            dst,
-            true_val,
-            false_val,
-            cond,
-        } => if_else(store, dst, true_val, false_val, cond),
-        Work::LoadComplex { xd, yd, loc } => load_complex(store, xd, yd, loc),
-        Work::SaveComplex { xs, ys, loc } => save_complex(store, xs, ys, loc),
-        Work::ComplexBi {
-            op,
-            xd,
-            yd,
-            x1,
-            y1,
-            x2,
-            y2,
-        } => complex_bi(store, op, xd, yd, x1, y1, x2, y2),
+    match word(s, 2) {
+        1 => play_uni(store, s),
+        2 => play_bi(store, s),
+        3 => play_mov(store, s),
+        4 => play_load(store, s),
+        5 => play_save(store, s),
+        6 => play_load_const(store, constants, s),
+        7 => play_fused(store, s),
+        8 => play_if_else(store, s),
+        11 => play_load_complex(store, s),
+        12 => play_save_complex(store, s),
+        13 => play_complex_bi(store, s),
+        _ => false,
     }
 }

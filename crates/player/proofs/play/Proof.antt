@@ -1,6 +1,7 @@
 -- `player::play` meets its contract: each refusal by its tests, and the accepted play by one law.
 use borrow.Author.Needs.{needs}
 use borrow.Author.Tests.{eq-eqb, le-ltb, lt-ltb, ne-eqb}
+use mathlib.Core.Path.{sym, _∙_}
 use Rattle.machine.specs.Jumps.{breach}
 use Rattle.machine.specs.Answer.{answer}
 use Rattle.player.proofs.Answering.{answered}
@@ -20,17 +21,24 @@ play-spec =
     (λ c. simp (c .refuse3 .ensures, le-ltb _ _ (c .before .before .before .if1 .left), le-ltb _ _ (c .before .before .if2 .left), ne-eqb _ _ (c .before .if3 .taken)))
     (λ c κs. search needs)
     (λ c κs. search needs)
-    (λ c. simp (c .refuse4 .ensures, le-ltb _ _ (c .before .before .before .before .before .before .if1 .left), le-ltb _ _ (c .before .before .before .before .before .if2 .left), eq-eqb _ _ (c .before .before .before .before .if3 .left), ← c .before .before .before .examine .ensures .number, ← c .before .before .before .examine .ensures .index, ne-eqb _ _ (c .before .if4 .taken)))
+    (λ c.
+    let e = c .before .before .before .examine .ensures in
+    simp (c .refuse4 .ensures, le-ltb _ _ (c .before .before .before .before .before .before .if1 .left), le-ltb _ _ (c .before .before .before .before .before .if2 .left), eq-eqb _ _ (c .before .before .before .before .if3 .left), ← e .number, ← e .index, ne-eqb _ _ (c .before .if4 .taken)))
     (λ c κs. search needs)
-    (λ c. simp (c .refuse5 .ensures, le-ltb _ _ (c .before .before .before .before .before .before .before .before .if1 .left), le-ltb _ _ (c .before .before .before .before .before .before .before .if2 .left), eq-eqb _ _ (c .before .before .before .before .before .before .if3 .left), ← c .before .before .before .before .before .examine .ensures .number, ← c .before .before .before .before .before .examine .ensures .index, eq-eqb _ _ (c .before .before .before .if4 .left), lt-ltb _ _ (c .before .if5 .taken)))
+    (λ c.
+    let e = c .before .before .before .before .before .examine .ensures in
+    simp (c .refuse5 .ensures, le-ltb _ _ (c .before .before .before .before .before .before .before .before .if1 .left), le-ltb _ _ (c .before .before .before .before .before .before .before .if2 .left), eq-eqb _ _ (c .before .before .before .before .before .before .if3 .left), ← e .number, ← e .index, eq-eqb _ _ (c .before .before .before .if4 .left), lt-ltb _ _ (c .before .if5 .taken)))
     (λ c κs. search needs)
     (λ c κs. search needs)
-    (λ c. simp (c .refuse6 .ensures, le-ltb _ _ (c .before .before .before .before .before .before .before .before .before .before .before .before .if1 .left), le-ltb _ _ (c .before .before .before .before .before .before .before .before .before .before .before .if2 .left), eq-eqb _ _ (c .before .before .before .before .before .before .before .before .before .before .if3 .left), ← c .before .before .before .before .before .before .before .before .before .examine .ensures .number, ← c .before .before .before .before .before .before .before .before .before .examine .ensures .index, ← c .before .before .before .before .before .before .before .before .before .examine .ensures .ones, eq-eqb _ _ (c .before .before .before .before .before .before .before .if4 .left), le-ltb _ _ (c .before .before .before .before .before .if5 .left), ← c .before .before .before .first-breach .ensures, lt-ltb _ _ (c .before .if6 .taken)))
+    (λ c.
+    let e = c .before .before .before .before .before .before .before .before .examine .ensures in
+    simp (c .refuse6 .ensures, le-ltb _ _ (c .before .before .before .before .before .before .before .before .before .before .before .if1 .left), le-ltb _ _ (c .before .before .before .before .before .before .before .before .before .before .if2 .left), eq-eqb _ _ (c .before .before .before .before .before .before .before .before .before .if3 .left), ← e .number, ← e .index, ← e .ones, eq-eqb _ _ (c .before .before .before .before .before .before .if4 .left), le-ltb _ _ (c .before .before .before .before .if5 .left), ← c .before .before .before .breach-of .ensures, lt-ltb _ _ (c .before .if6 .taken)))
+    (λ c κs. c .before .before .before .before .before .before .before .examine .ensures .jumps)
     (λ c κs. search needs)
-    (λ c κs. search needs)
-    (λ c κs. search needs)
-    (λ c κs. search needs)
+    (λ c κs.
+    let z = sym (c .before .before .before .before .before .before .before .before .before .before .examine .ensures .number) ∙ c .before .before .before .before .before .before .before .before .if4 .left in
+    (c .before .before .before .before .before .before .before .before .before .before .before .before .before .if1 .left, (c .before .before .block-at .ensures .sound z, c .before .skip .ensures .sound z)))
     (λ c. search needs)
     (λ c.
-    let a = c .before .before .before .before .before .before .before .before .before .before .before .before .before .before .before .before .before .before .before .before .before .before .args in
-    answered (a .constants .now) (a .listing .now) (a .start) (a .store .now) (c .before .before .before .before .before .before .before .before .before .before .before .before .before .before .before .before .before .before .if1 .left) (c .before .before .before .before .before .before .before .before .before .before .before .before .before .before .before .before .before .if2 .left) (c .before .before .before .before .before .before .before .before .before .before .before .before .before .before .before .before .if3 .left) (c .before .before .before .before .before .before .before .before .before .before .before .before .before .before .before .examine .ensures) (c .before .before .before .before .before .before .before .before .before .before .before .before .before .if4 .left) (c .before .before .before .before .before .before .before .before .before .before .before .if5 .left) (c .before .before .before .before .before .before .before .before .before .first-breach .ensures) (c .before .before .before .before .before .before .before .if6 .left) (c .before .before .before .before .before .before .find .ensures) (c .before .before .before .before .before .skip .ensures) (c .before .before .before .before .skip2 .ensures) (c .before .before .run .ensures)))
+    let a = c .before .before .before .before .before .before .before .before .before .before .before .before .before .before .before .before .before .before .before .before .args in
+    answered (a .constants .now) (a .listing .now) (a .start) (a .store .now) (c .before .before .before .before .before .before .before .before .before .before .before .before .before .before .before .before .if1 .left) (c .before .before .before .before .before .before .before .before .before .before .before .before .before .before .before .if2 .left) (c .before .before .before .before .before .before .before .before .before .before .before .before .before .before .if3 .left) (c .before .before .before .before .before .before .before .before .before .before .before .before .before .examine .ensures) (c .before .before .before .before .before .before .before .before .before .before .before .if4 .left) (c .before .before .before .before .before .before .before .before .before .if5 .left) (c .before .before .before .before .before .before .before .before .breach-of .ensures) (c .before .before .before .before .before .before .if6 .left) (c .before .before .before .before .before .block-at .ensures) (c .before .before .before .before .skip .ensures) (c .before .before .run .ensures)))

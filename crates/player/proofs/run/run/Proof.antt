@@ -5,7 +5,7 @@ use Prim.Native.Nat.{ℕ, suc, _+_, _-_, _*_, _≤_, _<_}
 use mathlib.Core.Path.{_≡_, refl, sym, ap, _∙_}
 use lib.ListN.{length, drop}
 use Rattle.machine.specs.Machine.{ticks}
-use Rattle.player.specs.Positions.{onFrom}
+use Rattle.player.specs.Positions.{onFrom, fault}
 use Rattle.player.proofs.Steps.{run-start, run-turn, run-stop, run-end}
 use Rattle.mir.proofs.Decoding.{ended}
 use Rattle.records.specs.Record.{recordFrom}
@@ -17,6 +17,7 @@ Inv-loop s constants body start store₀ at₀ played₀ store at played =
     (played ≤ 65602 * at)
     × (length store ≡ length store₀)
     × (ticks played (onFrom constants s body at store) ≡ onFrom constants s body start store₀)
+    × (fault (length constants) s at ≡ 0)
 
 abbrev μ-loop : tie.MeasureT-loop
 μ-loop s constants body start store₀ at₀ played₀ store at played = length s - at
@@ -27,8 +28,8 @@ run-spec =
     (tie.spec
     Inv-loop
     μ-loop
-    (λ c. (omega arith, refl, run-start _))
-    (λ c κs. search needs)
+    (λ c. (omega arith, refl, run-start _, search needs))
+    (λ c κs. let p = c .before .before .before .before .before .before .pre in (p .0, (p .1 .0, (c .before .before .loop .inv .3, c .before .loop-test .taken))))
     (λ c.
     let h = c .before .before .before .run-record .ensures .small in
     omega (arith, h))
@@ -44,7 +45,7 @@ run-spec =
     let w = c .before .before .before .before .run-record .ensures in
     let h = w .on (c .if1 .left) in
     let k = w .small in
-    (omega (arith, h, k), search needs, sym (run-turn (l .played) w (c .if1 .left)) ∙ l .inv .2))
+    (omega (arith, h, k), search needs, sym (run-turn (l .played) w (c .if1 .left)) ∙ l .inv .2, w .sound (c .if1 .left)))
     (λ c. search needs)
     (λ c.
     let a = c .before .before .before .before .before .args in

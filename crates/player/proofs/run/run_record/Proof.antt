@@ -1,9 +1,9 @@
--- `player::run::run_record` meets its contract, one law for each way to go on.
+-- `player::run::run_record` meets its contract: a working record, or else a jump on the store as it was.
 use borrow.Author.Needs.{needs}
 use native.Mathlib.Omega.{arith}
-use lib.ListN.{length, drop}
-use Rattle.player.proofs.Steps.{turn-torn, turn-work, turn-label, turn-end, turn-branch, turn-call, known-here}
-use Rattle.records.proofs.Reading.{here-record, torn-record}
+use lib.ListN.{length}
+use Rattle.player.proofs.Steps.{turn-work, turn-from}
+use Rattle.player.proofs.Looks.{Tried, readable, did, jumps, kept}
 use Rattle.player.proofs.run.run_record.Statement.{statement}
 use Rattle.player.proofs.run.run_record.Tie as tie
 
@@ -11,34 +11,34 @@ pub run-record-spec : {M : Type 1} → statement M
 run-record-spec =
     tie.close
     (tie.spec
+    (λ c. search needs)
+    (λ c. search needs)
+    (λ c. search needs)
+    (λ c κs. search needs)
     (λ c κs. search needs)
     (λ c. search needs)
     (λ c. search needs)
-    (λ c.
-    let a = c .before .before .before .before .before .before .args in
-    turn-torn (torn-record (length (a .constants .now)) (a .listing .now) (a .at) (c .before .before .read-record .ensures) (c .enum-told .given .1) (omega arith)))
     (λ c. search needs)
-    (λ c κs. search needs)
-    (λ c. search needs)
-    (λ c. search needs)
-    (λ c.
-    let a = c .before .before .before .before .before .before .before .before .before .before .before .args in
-    turn-end (known-here (here-record (length (a .constants .now)) (a .listing .now) (a .at) (c .before .before .before .before .before .before .before .read-record .ensures) (c .before .before .before .before .before .q .given .1)) (c .before .before .rec3 .given .1)) (c .if1 .taken))
-    (λ c κs. search needs)
-    (λ c. search needs)
-    (λ c κs. search needs)
-    (λ c. search needs)
-    (λ c. search needs)
-    (λ c.
-    let a = c .before .before .before .before .before .before .before .before .before .before .before .before .before .before .args in
-    turn-work (known-here (here-record (length (a .constants .now)) (a .listing .now) (a .at) (c .before .before .before .before .before .before .before .before .before .before .read-record .ensures) (c .before .before .before .before .before .before .before .before .q .given .1)) (c .before .before .before .before .before .rec .given .1)) (c .before .before .exec .ensures))
     (λ c.
     let a = c .before .before .before .before .before .before .before .before .before .before .args in
-    turn-label (known-here (here-record (length (a .constants .now)) (a .listing .now) (a .at) (c .before .before .before .before .before .before .read-record .ensures) (c .before .before .before .before .q .given .1)) (c .before .rec2 .given .1)))
-    (λ c.
-    let a = c .before .before .before .before .before .before .before .before .before .before .before .before .args in
-    turn-branch (known-here (here-record (length (a .constants .now)) (a .listing .now) (a .at) (c .before .before .before .before .before .before .before .before .read-record .ensures) (c .before .before .before .before .before .before .q .given .1)) (c .before .before .before .rec3 .given .1)) (c .before .if1 .left) (c .find .ensures))
+    let p = c .before .before .before .before .before .before .before .before .before .before .pre in
+    let x = c .before .before .before .before .exec .ensures in
+    let t : Tried (a .constants .now) (a .listing .now) (a .at) _ (a .store .now) _ = record { went = x .0; after = x .1 } in
+    let f = readable (length (a .constants .now)) (a .listing .now) (a .at) (p .1 .1 .0) (p .1 .1 .1) in
+    let d = did (a .constants .now) (a .listing .now) (a .at) f t (c .word .ensures) (c .before .if1 .taken) in
+    turn-work (p .1 .1 .0) (d .here) (d .same))
+    (λ c κs.
+    let a = c .before .before .before .before .before .before .before .before .before .before .args in
+    let p = c .before .before .before .before .before .before .before .before .before .before .pre in
+    let x = c .before .before .before .before .exec .ensures in
+    let t : Tried (a .constants .now) (a .listing .now) (a .at) _ (a .store .now) _ = record { went = x .0; after = x .1 } in
+    let f = readable (length (a .constants .now)) (a .listing .now) (a .at) (p .1 .1 .0) (p .1 .1 .1) in
+    (p .0, (p .1 .0, (p .1 .1 .0, (jumps (a .constants .now) (a .listing .now) (a .at) f t (c .before .if1 .left), p .1 .1 .1)))))
     (λ c. search needs)
     (λ c.
-    let a = c .before .before .before .before .before .before .before .before .before .before .before .before .before .before .args in
-    turn-call (known-here (here-record (length (a .constants .now)) (a .listing .now) (a .at) (c .before .before .before .before .before .before .before .before .before .before .read-record .ensures) (c .before .before .before .before .before .before .before .before .q .given .1)) (c .before .before .before .before .before .rec4 .given .1)) (c .before .before .run-block .ensures)))
+    let a = c .before .before .before .before .before .before .before .before .before .before .before .before .before .args in
+    let p = c .before .before .before .before .before .before .before .before .before .before .before .before .before .pre in
+    let x = c .before .before .before .before .before .before .before .exec .ensures in
+    let t : Tried (a .constants .now) (a .listing .now) (a .at) _ (a .store .now) _ = record { went = x .0; after = x .1 } in
+    let f = readable (length (a .constants .now)) (a .listing .now) (a .at) (p .1 .1 .0) (p .1 .1 .1) in
+    turn-from (kept (a .constants .now) (a .listing .now) (a .at) f t (c .before .before .before .before .if1 .left)) (c .before .before .run-jump .ensures)))

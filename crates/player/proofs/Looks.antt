@@ -1,0 +1,147 @@
+-- What is known of the record at a position: by its sight, in the first pass, and by its work, in a play.
+use Prim.Native.Nat.{ℕ, _+_, _-_, _<_}
+use mathlib.Core.Path.{_≡_, refl, sym, ap, _∙_, subst}
+use mathlib.Core.Bool.{Bool, true, false, true≢false}
+use mathlib.Core.List.{List, [], _∷_}
+use lib.ListN.{length, take, drop}
+use Rattle.mir.specs.declared.records.Work.{Work}
+use Rattle.mir.specs.declared.records.Record.{Record}
+use Rattle.mir.specs.Read.{Read, got, refused}
+use Rattle.mir.specs.Field.{wordAt}
+use Rattle.mir.proofs.Parts.{part}
+use Rattle.mir.proofs.Decoding.{Here, Done}
+use Rattle.records.specs.declared.reader.Sight.{Sight}
+use Rattle.records.specs.Record.{recordFrom}
+use Rattle.records.specs.Sight.{sightOf}
+use Rattle.records.proofs.Reading.{here-read, torn-read}
+use Rattle.records.proofs.Refusals.{Found, refused-by, looked}
+use Rattle.machine.specs.Machine.{Store, exec, isLabel}
+use Rattle.machine.specs.Jumps.{isReturn}
+use Rattle.work.specs.Spelled.{spelled, workIn, hasWork, worked}
+use Rattle.work.proofs.Spelling.{spelling}
+use Rattle.player.specs.Positions.{fault, isJump, sees, seesJump, Jumps}
+
+-- ---- a sight
+
+pub sees-label : (l : ℕ) (r : Record) → sees 1 l (sightOf (got r)) ≡ isLabel l r
+unfolding isLabel
+sees-label l (Record.Work w) = refl
+sees-label l (Record.Label m) = refl
+sees-label l (Record.Branch m) = refl
+sees-label l (Record.Call m) = refl
+
+pub sees-return : (r : Record) → sees 2 0 (sightOf (got r)) ≡ isReturn r
+unfolding isReturn
+sees-return (Record.Work w) = refl
+sees-return (Record.Label m) = refl
+sees-return (Record.Branch m) = refl
+sees-return (Record.Call m) = refl
+
+pub sees-jump : (r : Record) → seesJump (sightOf (got r)) ≡ isJump r
+sees-jump (Record.Work w) = refl
+sees-jump (Record.Label m) = refl
+sees-jump (Record.Branch m) = refl
+sees-jump (Record.Call m) = refl
+
+-- the record that a sight is of, and n bytes long
+pub record Sighted (count : ℕ) (s : List ℕ) (at n : ℕ) (q : Sight) : Type 0 where
+  pub rec : Record
+  pub here : Here (recordFrom count) s at rec (at + n)
+  pub sight : q ≡ sightOf (got rec)
+
+-- the first two bytes, of the code's part of the slice
+on-by : (count : ℕ) {s : List ℕ} {at n : ℕ} {rec : Record} → n ≡ wordAt (take (length s - at) (drop at s)) 0
+    → Here (recordFrom count) s at rec (at + wordAt (drop at s) 0) → Here (recordFrom count) s at rec (at + n)
+on-by count {s} {at} {n} {rec} w h =
+    subst (λ k. Here (recordFrom count) s at rec (at + k)) (sym (w ∙ ap (λ l. wordAt l 0) (part s at))) h
+
+module _ (count : ℕ) (s : List ℕ) (at : ℕ) (q : Sight) (e : q ≡ sightOf (recordFrom count (take (length s - at) (drop at s)))) where
+  whole-sight : q ≡ sightOf (recordFrom count (drop at s))
+  whole-sight = e ∙ ap (λ l. sightOf (recordFrom count l)) (part s at)
+
+  pub sighted : {n : ℕ} → n ≡ wordAt (take (length s - at) (drop at s)) 0 → q .number ≡ 0 → Sighted count s at n q
+  sighted w h =
+      let f = looked count (drop at s) (ap (λ q. q .number) (sym whole-sight) ∙ h) in
+      record { rec = f .rec; here = on-by count w (here-read count s at (f .rec) (f .is)); sight = whole-sight ∙ ap sightOf (f .is) }
+
+  unseen : (r : Read Record) → recordFrom count (drop at s) ≡ r → (q .number ≡ 0 → ⊥) → at < length s → Done (recordFrom count) s at (q .number)
+  unseen (got r) f n h = absurd (n (ap (λ q. q .number) (whole-sight ∙ ap sightOf f) ∙ zero-number r))
+    where
+      zero-number : (r : Record) → sightOf (got r) .number ≡ 0
+      zero-number (Record.Work w) = refl
+      zero-number (Record.Label m) = refl
+      zero-number (Record.Branch m) = refl
+      zero-number (Record.Call m) = refl
+  unseen (refused k) f n h =
+      subst (λ k. Done (recordFrom count) s at k) (sym (ap (λ q. q .number) (whole-sight ∙ ap sightOf f))) (torn-read count s at k f h)
+
+  pub refused-sight : (q .number ≡ 0 → ⊥) → at < length s → Done (recordFrom count) s at (q .number)
+  refused-sight n h = unseen (recordFrom count (drop at s)) refl n h
+
+-- ---- a work
+
+module _ (count : ℕ) (s : List ℕ) (at : ℕ) where
+  -- where no record is refused, one stands at each position before the end
+  pub readable : fault count s at ≡ 0 → at < length s → Found count (drop at s)
+  readable z h = go (recordFrom count (drop at s)) refl
+    where
+      go : (r : Read Record) → recordFrom count (drop at s) ≡ r → Found count (drop at s)
+      go (got rec) e = record { rec = rec; is = e }
+      go (refused n) e = absurd (refused-by count (drop at s) (e ∙ ap refused (sym (torn-read count s at n e h .why) ∙ z)))
+
+-- what `exec` answers and leaves, of the code's part of the slice
+pub record Tried (constants s : List ℕ) (at : ℕ) (w : Bool) (σ τ : Store) : Type 0 where
+  pub went : w ≡ hasWork (spelled (take (length s - at) (drop at s)))
+  pub after : τ ≡ worked constants (spelled (take (length s - at) (drop at s))) σ
+
+pub record Did (constants s : List ℕ) (at n : ℕ) (σ τ : Store) : Type 0 where
+  pub work : Work
+  pub here : Here (recordFrom (length constants)) s at (Record.Work work) (at + n)
+  pub same : τ ≡ exec constants work σ
+
+module _ (constants s : List ℕ) (at : ℕ) {w : Bool} {σ τ : Store} (f : Found (length constants) (drop at s)) (t : Tried constants s at w σ τ) where
+  spells : spelled (take (length s - at) (drop at s)) ≡ workIn (f .rec)
+  spells = ap spelled (part s at) ∙ spelling (length constants) (drop at s) (f .rec) (f .is)
+
+  by-work : {n : ℕ} → n ≡ wordAt (take (length s - at) (drop at s)) 0 → (r : Record) → f .rec ≡ r → w ≡ true → Did constants s at n σ τ
+  by-work k (Record.Work x) e h =
+      record {
+        work = x;
+        here = on-by (length constants) k (here-read (length constants) s at (Record.Work x) (f .is ∙ ap got e));
+        same = t .after ∙ ap (λ o. worked constants o σ) (spells ∙ ap workIn e);
+      }
+  by-work k (Record.Label l) e h = absurd (true≢false (sym h ∙ t .went ∙ ap hasWork (spells ∙ ap workIn e)))
+  by-work k (Record.Branch l) e h = absurd (true≢false (sym h ∙ t .went ∙ ap hasWork (spells ∙ ap workIn e)))
+  by-work k (Record.Call l) e h = absurd (true≢false (sym h ∙ t .went ∙ ap hasWork (spells ∙ ap workIn e)))
+
+  pub did : {n : ℕ} → n ≡ wordAt (take (length s - at) (drop at s)) 0 → w ≡ true → Did constants s at n σ τ
+  did k h = by-work k (f .rec) refl h
+
+  by-jump : (r : Record) → f .rec ≡ r → w ≡ false → Jumps (length constants) s at
+  by-jump (Record.Work x) e h = absurd (true≢false (sym (t .went ∙ ap hasWork (spells ∙ ap workIn e)) ∙ h))
+  by-jump (Record.Label l) e h = record { rec = Record.Label l; here = f .is ∙ ap got e; jump = refl }
+  by-jump (Record.Branch l) e h = record { rec = Record.Branch l; here = f .is ∙ ap got e; jump = refl }
+  by-jump (Record.Call l) e h = record { rec = Record.Call l; here = f .is ∙ ap got e; jump = refl }
+
+  -- no work: a jump stands there, and the store is as it was
+  pub jumps : w ≡ false → Jumps (length constants) s at
+  jumps h = by-jump (f .rec) refl h
+
+  by-kept : (r : Record) → f .rec ≡ r → w ≡ false → τ ≡ σ
+  by-kept (Record.Work x) e h = absurd (true≢false (sym (t .went ∙ ap hasWork (spells ∙ ap workIn e)) ∙ h))
+  by-kept (Record.Label l) e h = t .after ∙ ap (λ o. worked constants o σ) (spells ∙ ap workIn e)
+  by-kept (Record.Branch l) e h = t .after ∙ ap (λ o. worked constants o σ) (spells ∙ ap workIn e)
+  by-kept (Record.Call l) e h = t .after ∙ ap (λ o. worked constants o σ) (spells ∙ ap workIn e)
+
+  pub kept : w ≡ false → τ ≡ σ
+  kept h = by-kept (f .rec) refl h
+
+-- where a jump stands no working record does
+first : Record → List Record → Record
+first d [] = d
+first d (x ∷ xs) = x
+
+pub no-work : {count : ℕ} {s : List ℕ} {at next : ℕ} {w : Work} → Jumps count s at → Here (recordFrom count) s at (Record.Work w) next → ⊥
+unfolding first
+no-work {count} {s} {at} {next} {w} j h =
+    true≢false (sym (j .jump) ∙ ap (λ l. isJump (first (Record.Work w) l)) (sym (here-read count s at (j .rec) (j .here) .same) ∙ h .same))

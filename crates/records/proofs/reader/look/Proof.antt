@@ -1,0 +1,18 @@
+-- `records::reader::look` meets its contract.
+use borrow.Author.Needs.{needs}
+use Rattle.records.specs.Record.{recordFrom}
+use Rattle.records.proofs.reader.look.Statement.{statement}
+use Rattle.records.proofs.reader.look.Tie as tie
+
+pub look-spec : {M : Type 1} → statement M
+unfolding recordFrom
+look-spec =
+    tie.close
+    (tie.spec
+    (λ c κs. search needs)
+    (λ c. search needs)
+    (λ c κs. search needs)
+    (λ c. search needs)
+    (λ c κs. search needs)
+    (λ c. simp (← c .before .before .before .before .read-head .ensures, c .before .before .kind .given .1) (c .look-fields .ensures))
+    (λ c. simp (← c .before .before .before .before .read-head .ensures, c .before .before .n .given .1) (c .sighted .ensures)))

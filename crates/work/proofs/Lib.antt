@@ -1,0 +1,2 @@
+mod Arith
+pub mod Spelling

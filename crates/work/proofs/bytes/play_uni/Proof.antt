@@ -1,0 +1,22 @@
+-- `work::bytes::play_uni` meets its contract.
+use borrow.Author.Needs.{needs}
+use Rattle.machine.specs.Machine as Machine
+use Rattle.work.specs.Spelled.{uniSpelled}
+use Rattle.work.proofs.bytes.play_uni.Statement.{statement}
+use Rattle.work.proofs.bytes.play_uni.Tie as tie
+
+pub play-uni-spec : {M : Type 1} → statement M
+unfolding uniSpelled Machine.exec Machine.put Machine.writes
+play-uni-spec =
+    tie.close
+    (tie.spec
+    (λ c κs. search needs)
+    (λ c κs. search needs)
+    (λ c. search needs)
+    (λ c κs. search needs)
+    (λ c κs. search needs)
+    (λ c κs. search needs)
+    (λ c. search needs)
+    (λ c. search needs)
+    (λ c. (simp (← c .before .before .before .before .before .before .before .before .before .before .byte .ensures, ← c .before .before .before .before .before .before .before .before .before .listing-uni .ensures, c .before .before .before .before .before .before .before .op .given .1), λ constants. simp (← c .before .before .before .before .before .before .before .before .before .before .byte .ensures, ← c .before .before .before .before .before .before .before .before .before .listing-uni .ensures, c .before .before .before .before .before .before .before .op .given .1, ← c .before .before .before .before .byte2 .ensures, ← c .before .before .before .byte3 .ensures) (c .before .before .uni .ensures)))
+    (λ c. (simp (← c .before .before .before .byte .ensures, ← c .before .before .listing-uni .ensures, c .enum-told .given .1), λ constants. simp (← c .before .before .before .byte .ensures, ← c .before .before .listing-uni .ensures, c .enum-told .given .1))))
