@@ -20,11 +20,11 @@ use Rattle.lowering.specs.Lower.{Ended, ended, lowerFrom, barred}
 use Rattle.lines.proofs.Fitting.{pushAll-fits}
 use Rattle.complexifier.specs.Does.{state}
 use Rattle.complexify.specs.declared.entry.Answer.{Answer}
-use Rattle.complexify.specs.declared.methods.Turn.{Turn}
+use Rattle.rerun.specs.declared.turn.Turn.{Turn}
 use Rattle.complexify.specs.declared.turn.Stand.{Stand}
 use Rattle.complexify.specs.declared.turn.Next.{Next}
 use Rattle.complexify.specs.Entry.{answerOf}
-use Rattle.complexify.specs.Ends.{Ends}
+use Rattle.rerun.specs.Ends.{Ends}
 use Rattle.complexify.specs.Taken.{space, Ready, Kept, endedAt, goesOn, left, Turned, Lowered, Taken, Ran}
 use Rattle.complexify.proofs.Bounds.{staged, spaced}
 use Rattle.complexify.proofs.Copies.{taken, kept-store, kept-none, kept-then}

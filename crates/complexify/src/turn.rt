@@ -4,12 +4,12 @@ ghost use mathlib.Core.Bool.{true};
 ghost use Prim.Native.Nat.{_<_};
 ghost use lib.ListN.{length};
 ghost use Rattle.complexify.specs.Taken.{Ready, Lowered, Taken};
-use super::barred::barred;
 use super::copying::copy_bytes;
 use super::copying::copy_words;
-use super::rerun::rerun;
 use complexifier::state::Complexifier;
 use mir::records::Instruction;
+use rerun::barred::barred;
+use rerun::instruction::rerun;
 use sheet::reader::NextInstruction;
 use sheet::reader::read_instruction;
 
