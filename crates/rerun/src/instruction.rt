@@ -160,7 +160,9 @@ fn rerun_within(
         Instruction::Load { dst, loc } => turned(low.load_from(out, at, dst, loc)),
         Instruction::Save { src, loc } => turned(low.save_to(out, at, src, loc)),
         Instruction::LoadConst { dst, idx } => turned(low.load_const(out, at, dst, idx)),
-        Instruction::Fused { op, dst, a, b, c } => turned(low.rerun_fused(out, at, op, dst, a, b, c)),
+        Instruction::Fused { op, dst, a, b, c } => {
+            turned(low.rerun_fused(out, at, op, dst, a, b, c))
+        }
         Instruction::IfElse {
             dst,
             true_val,

@@ -18,7 +18,7 @@ pub struct Turn {
     pub added: Added,
 }
 
-pub fn nothing() -> Added
+pub(crate) fn nothing() -> Added
     ensures { λ r. ⌜ r ≡ none ⌝ }
 {
     let words = [0u64, 0, 0];
@@ -29,7 +29,7 @@ pub fn nothing() -> Added
 }
 
 // A step, which adds no constants.
-pub fn turned(step: Step) -> Turn
+pub(crate) fn turned(step: Step) -> Turn
     ensures { λ r. ⌜ r ≡ asTurn step ⌝ }
 {
     let low = step.low;

@@ -1,7 +1,7 @@
 -- `rerun_arith` meets its contract.
 use borrow.Author.Needs.{needs}
 use Rattle.lowering.specs.Rerun.{rerunArith}
-use Rattle.rerun.specs.Ends.{plainly, stay}
+use Rattle.rerun.specs.Ends.{plainly}
 use Rattle.rerun.proofs.instruction.rerun_arith.Statement.{statement}
 use Rattle.rerun.proofs.instruction.rerun_arith.Tie as tie
 
@@ -20,7 +20,7 @@ rerun-arith-spec =
     (λ c κs. search needs)
     (λ c κs. search needs)
     (λ c. search needs)
-    (λ c κs. c .before .before .before .before .before .pre)
+    (λ c κs. c .before .before .before .before .before .before .pre)
     (λ c. search needs)
     (λ c. simp (c .before .before .before .before .before .enum-told .given .1) (plainly (c .before .before .before .plus .ensures) (c .turned .ensures)))
     (λ c. search needs)
