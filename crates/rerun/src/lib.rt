@@ -1,6 +1,4 @@
-// mir.rs's `rerun` over the methods of complexify.rs: one instruction of a sheet, listed in a lent slice. `barred` says where the Rust
-// asserts.
-pub mod barred;
+// mir.rs's `rerun` over the methods of complexify.rs: one instruction of a sheet, listed in a lent slice.
 mod constants;
 pub mod instruction;
 mod methods;

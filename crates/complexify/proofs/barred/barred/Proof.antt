@@ -2,8 +2,8 @@
 use borrow.Author.Needs.{needs}
 use mathlib.Core.Path.{_∙_}
 use Rattle.lowering.specs.Lower.{barred}
-use Rattle.rerun.proofs.barred.barred.Statement.{statement}
-use Rattle.rerun.proofs.barred.barred.Tie as tie
+use Rattle.complexify.proofs.barred.barred.Statement.{statement}
+use Rattle.complexify.proofs.barred.barred.Tie as tie
 
 pub barred-spec : {M : Type 1} → statement M
 unfolding barred

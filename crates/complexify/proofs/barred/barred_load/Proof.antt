@@ -1,8 +1,8 @@
 -- `barred_load` meets its contract.
 use borrow.Author.Needs.{needs}
 use mathlib.Core.Path.{_∙_}
-use Rattle.rerun.proofs.barred.barred_load.Statement.{statement}
-use Rattle.rerun.proofs.barred.barred_load.Tie as tie
+use Rattle.complexify.proofs.barred.barred_load.Statement.{statement}
+use Rattle.complexify.proofs.barred.barred_load.Tie as tie
 
 pub barred-load-spec : {M : Type 1} → statement M
 barred-load-spec =

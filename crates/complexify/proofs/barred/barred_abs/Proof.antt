@@ -1,8 +1,8 @@
 -- `barred_abs` meets its contract.
 use borrow.Author.Needs.{needs}
 use borrow.Author.Tests.{eq-eqb, ne-eqb}
-use Rattle.rerun.proofs.barred.barred_abs.Statement.{statement}
-use Rattle.rerun.proofs.barred.barred_abs.Tie as tie
+use Rattle.complexify.proofs.barred.barred_abs.Statement.{statement}
+use Rattle.complexify.proofs.barred.barred_abs.Tie as tie
 
 pub barred-abs-spec : {M : Type 1} → statement M
 barred-abs-spec =

@@ -1,7 +1,7 @@
 -- `barred_divide` meets its contract.
 use borrow.Author.Tests.{le-ltb, lt-ltb}
-use Rattle.rerun.proofs.barred.barred_divide.Statement.{statement}
-use Rattle.rerun.proofs.barred.barred_divide.Tie as tie
+use Rattle.complexify.proofs.barred.barred_divide.Statement.{statement}
+use Rattle.complexify.proofs.barred.barred_divide.Tie as tie
 
 pub barred-divide-spec : {M : Type 1} → statement M
 barred-divide-spec =

@@ -1,19 +1,23 @@
--- `barred_bin` meets its contract.
+-- `barred_uni` meets its contract.
 use borrow.Author.Needs.{needs}
 use mathlib.Core.Path.{_∙_}
-use Rattle.rerun.proofs.barred.barred_bin.Statement.{statement}
-use Rattle.rerun.proofs.barred.barred_bin.Tie as tie
+use Rattle.complexify.proofs.barred.barred_uni.Statement.{statement}
+use Rattle.complexify.proofs.barred.barred_uni.Tie as tie
 
-pub barred-bin-spec : {M : Type 1} → statement M
-barred-bin-spec =
+pub barred-uni-spec : {M : Type 1} → statement M
+barred-uni-spec =
     tie.close
     (tie.spec
     (λ c. search needs)
     (λ c. search needs)
     (λ c. search needs)
+    (λ c κs. search needs)
     (λ c. search needs)
-    (λ c κs. search needs)
-    (λ c κs. search needs)
+    (λ c. search needs)
+    (λ c. search needs)
+    (λ c. search needs)
+    (λ c. search needs)
+    (λ c. search needs)
     (λ c. search needs)
     (λ c. search needs)
     (λ c. search needs)
@@ -27,8 +31,8 @@ barred-bin-spec =
     (λ c. search needs)
     (λ c. simp (c .enum-told .given .1))
     (λ c. simp (c .enum-told2 .given .1))
-    (λ c. simp (c .enum-told3 .given .1))
-    (λ c. simp (c .before .before .enum-told4 .given .1) (c .barred-divide .ensures ∙ simp (c .before .is-real-reg .ensures)))
+    (λ c. simp (c .before .enum-told3 .given .1) (c .barred-abs .ensures))
+    (λ c. simp (c .enum-told4 .given .1))
     (λ c. simp (c .enum-told5 .given .1))
     (λ c. simp (c .enum-told6 .given .1))
     (λ c. simp (c .enum-told7 .given .1))
@@ -39,4 +43,9 @@ barred-bin-spec =
     (λ c. simp (c .enum-told12 .given .1))
     (λ c. simp (c .enum-told13 .given .1))
     (λ c. simp (c .enum-told14 .given .1))
-    (λ c. simp (c .enum-told15 .given .1)))
+    (λ c. simp (c .enum-told15 .given .1))
+    (λ c. simp (c .enum-told16 .given .1))
+    (λ c. simp (c .enum-told17 .given .1))
+    (λ c. simp (c .enum-told18 .given .1))
+    (λ c. simp (c .enum-told19 .given .1))
+    (λ c. simp (c .enum-told20 .given .1)))
