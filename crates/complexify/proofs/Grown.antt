@@ -10,7 +10,7 @@ use lib.Dec.{ltb}
 use Rattle.mir.proofs.Passing.{either}
 use Rattle.lowering.specs.Complexifier.{position, stableConst, threeConsts, MIN_POSITIVE, INFINITY, QUARTER, EXP_MASK_FINITE, FLOOR_FINITE}
 use Rattle.complexify.specs.Taken.{absent, space}
-use Rattle.complexify.proofs.Positions.{in-first, stays, grows, at-end}
+use Rattle.rerun.proofs.Positions.{in-first, stays, grows, at-end}
 
 module _ (v : ℕ) (t : List ℕ) where
   present : position v t < length t → absent v t ≡ 0

@@ -1,10 +1,6 @@
-mod Positions
 mod Copies
 mod Grown
 mod Bounds
 mod Turns
 mod Setups
 mod Answers
-mod Roots
-mod Divides
-mod Moves

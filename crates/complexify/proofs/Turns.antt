@@ -5,12 +5,13 @@ use mathlib.Core.Bool.{Bool, true, false, cond}
 use mathlib.Core.List.{List, [], _∷_, _++_}
 use native.Mathlib.Numerals.{add-one}
 use native.Mathlib.Omega.{arith}
-use borrow.Author.Tests.{lt-ltb, le-ltb}
+use borrow.Author.Tests.{lt-ltb, le-ltb, ltb-true, ltb-false}
 use lib.ListN.{length, take, drop, length-append, length-take}
 use lib.Seq.{sets, length-sets}
 use lib.Dec.{T}
 use Rattle.mir.specs.declared.records.Instruction.{Instruction}
 use Rattle.mir.specs.Encode.{Buf, buf, encodeAll}
+use Rattle.mir.proofs.Passing.{either}
 use Rattle.mir.proofs.Decoding.{Here, Done}
 use Rattle.mir.specs.Decode.{Decoded, decoded}
 use Rattle.sheet.specs.Instruction.{instructionFrom}
@@ -20,12 +21,12 @@ use Rattle.lowering.specs.Lower.{Ended, ended, lowerFrom, barred}
 use Rattle.lines.proofs.Fitting.{pushAll-fits}
 use Rattle.complexifier.specs.Does.{state}
 use Rattle.complexify.specs.declared.entry.Answer.{Answer}
-use Rattle.complexify.specs.declared.methods.Turn.{Turn}
+use Rattle.rerun.specs.declared.turn.Turn.{Turn}
 use Rattle.complexify.specs.declared.turn.Stand.{Stand}
 use Rattle.complexify.specs.declared.turn.Next.{Next}
 use Rattle.complexify.specs.Entry.{answerOf}
-use Rattle.complexify.specs.Ends.{Ends}
-use Rattle.complexify.specs.Taken.{space, Ready, Kept, endedAt, goesOn, left, Turned, Lowered, Taken, Ran}
+use Rattle.rerun.specs.Ends.{Ends, tabled, untabled}
+use Rattle.complexify.specs.Taken.{space, Ready, Kept, endedAt, goesOn, left, refusal, finished, full, Finished, Fits, Turned, Lowered, Taken, Ran}
 use Rattle.complexify.proofs.Bounds.{staged, spaced}
 use Rattle.complexify.proofs.Copies.{taken, kept-store, kept-none, kept-then}
 
@@ -57,9 +58,6 @@ lower-end stable room fault index bytes s = refl
 
 -- ---- a refused instruction
 
-abbrev pub refusal : ℕ → Stand → Next
-refusal number p = record { done = true; number = number; stand = p }
-
 unchanged : {stage listing constants : List ℕ} {p : Stand} (number : ℕ) → Ready stage listing constants p
     → Turned listing constants p listing constants (refusal number p)
 unchanged {stage} {listing} {constants} {p} number r =
@@ -78,6 +76,29 @@ module _ {stable : Bool} {i : Instruction} {next : ℕ} {stage listing constants
   pub turn-barred : barred stable i (p .low .real) ≡ true → Lowered stable i next listing constants p listing constants (refusal 6 p)
   turn-barred e = refusing 6 (λ is fault. lower-barred stable (length listing) i is fault _ _ _ e)
 
+-- ---- what a turn of `rerun` listed and added, copied
+
+module _ {t : Turn} {bytes : List ℕ} {next : ℕ} {listing constants : List ℕ} {p : Stand} {r : Next} where
+  pub too-long : length listing - p .written < length bytes → r ≡ refusal 7 p → Finished t bytes next listing constants p listing constants r
+  too-long h e =
+      let z = sym (lt-ltb _ _ h) in
+      record {
+        stands = e ∙ ap (λ x. cond x (refusal 7 p) (finished t bytes next p)) z;
+        listed = ap (λ x. cond x listing (sets listing (p .written) bytes)) z;
+        added = ap (λ x. cond x constants (sets constants (p .count) (take (t .added .count) (t .added .words)))) z;
+      }
+
+  pub copied : {listing' constants' : List ℕ} → length bytes ≤ length listing - p .written → r ≡ finished t bytes next p
+      → listing' ≡ sets listing (p .written) bytes → constants' ≡ sets constants (p .count) (take (t .added .count) (t .added .words))
+      → Finished t bytes next listing constants p listing' constants' r
+  copied h e f g =
+      let z = sym (le-ltb _ _ h) in
+      record {
+        stands = e ∙ ap (λ x. cond x (refusal 7 p) (finished t bytes next p)) z;
+        listed = f ∙ ap (λ x. cond x listing (sets listing (p .written) bytes)) z;
+        added = g ∙ ap (λ x. cond x constants (sets constants (p .count) (take (t .added .count) (t .added .words)))) z;
+      }
+
 -- ---- an instruction listed in the stage
 
 abbrev bytesOf : Buf → List ℕ
@@ -87,7 +108,7 @@ abbrev positionOf : Buf → ℕ
 positionOf (buf l at) = at
 
 module _ (stable : Bool) (i : Instruction) {stage stage' listing constants : List ℕ} {p : Stand} {t : Turn}
-    (r : Ready stage listing constants p) (e : Ends (buf stage 0) (p .low) (take (p .count) constants) (rerun stable i) stage' t)
+    (r : Ready stage listing constants p) (d : Ends (buf stage 0) (p .low) (take (p .count) constants) (tabled (rerun stable i)) stage' t)
     (b : barred stable i (p .low .real) ≡ false) (three : length (t .added .words) ≡ 3) where
   abbrev before : State
   before = state (p .low) (take (p .count) constants)
@@ -98,13 +119,19 @@ module _ (stable : Bool) (i : Instruction) {stage stage' listing constants : Lis
   abbrev words : List ℕ
   words = take (t .added .count) (t .added .words)
 
+  counted : length (take (p .count) constants) ≡ p .count
+  counted = simp length-take (omega (arith, r .words, r .count))
+
+  e : Ends (buf stage 0) (p .low) (take (p .count) constants) (rerun stable i) stage' t
+  e = untabled (rerun stable i) (omega (arith, counted, r .count)) d
+
   whole : buf stage' (t .at) ≡ buf (sets stage 0 bytes) (0 + length bytes)
   whole = e .listed ∙ pushAll-fits stage 0 (rerun stable i before .records) (let h = staged stable i before in omega (arith, h, r .stage))
 
-  pub listed-at : t .at ≡ length bytes
+  listed-at : t .at ≡ length bytes
   listed-at = let h : t .at ≡ 0 + length bytes = ap positionOf whole in omega (arith, h)
 
-  pub listed-bytes : take (t .at) stage' ≡ bytes
+  listed-bytes : take (t .at) stage' ≡ bytes
   listed-bytes =
       let h = staged stable i before in
       let z : 0 + length bytes ≡ t .at = omega (arith, listed-at) in
@@ -115,45 +142,48 @@ module _ (stable : Bool) (i : Instruction) {stage stage' listing constants : Lis
   pub listed-few : t .at ≤ 704
   listed-few = let h = staged stable i before in omega (arith, h, listed-at)
 
+  pub listed-length : length (take (t .at) stage') ≡ t .at
+  listed-length = ap length listed-bytes ∙ sym listed-at
+
   added-length : length words ≡ t .added .count
   added-length = let f = e .few in simp length-take (omega (arith, f, three))
-
-  finished : length (take (p .count) constants) ≡ p .count
-  finished = simp length-take (omega (arith, r .words, r .count))
 
   listed-space : space (take (p .count) constants ++ words) ≤ 256
   listed-space = subst (λ k. space k ≤ 256) (sym (ap (λ s. s .consts) (e .kept))) (let h = spaced stable i before in omega (arith, h, r .space))
 
-  pub added-fits : p .count + t .added .count ≤ 256
+  added-fits : p .count + t .added .count ≤ 256
   added-fits =
       let n : length (take (p .count) constants ++ words) ≡ length (take (p .count) constants) + length words = simp length-append in
-      omega (arith, listed-space, n, finished, added-length)
+      omega (arith, listed-space, n, counted, added-length)
+
+  pub listed-fits : p .index < 65536 → Fits t (take (t .at) stage') listing constants p
+  listed-fits h =
+      record {
+        short = omega (arith, listed-length, listed-few);
+        room = r .room;
+        written = r .written;
+        words = r .words;
+        few = let f = e .few in omega (arith, f, three);
+        count = added-fits;
+        index = h;
+      }
 
   written-length : length (take (p .written) listing) ≡ p .written
   written-length = simp length-take (omega (arith, r .written))
 
-  pub turn-full : (next : ℕ) → length listing - p .written < t .at → Lowered stable i next listing constants p listing constants (refusal 7 p)
+  turn-full : (next : ℕ) → length listing - p .written < length bytes → Lowered stable i next listing constants p listing constants (refusal 7 p)
   turn-full next h =
-      refusing r 7
-      (λ is fault. lower-full stable (length listing) i is fault _ _ _ b (omega (arith, h, listed-at, written-length, r .written)))
+      refusing r 7 (λ is fault. lower-full stable (length listing) i is fault _ _ _ b (omega (arith, h, written-length, r .written)))
 
-  pub turn-done : (next : ℕ) {listing' constants' : List ℕ} → t .at ≤ length listing - p .written
-      → listing' ≡ sets listing (p .written) (take (t .at) stage')
-      → constants' ≡ sets constants (p .count) (take (t .added .count) (t .added .words))
-      → Lowered stable i next listing constants p listing' constants'
-      (record {
-        done = false;
-        number = 0;
-        stand = record { at = next; index = p .index + 1; written = p .written + t .at; count = p .count + t .added .count; low = t .low };
-      })
+  turn-done : (next : ℕ) {listing' constants' : List ℕ} → length bytes ≤ length listing - p .written
+      → listing' ≡ sets listing (p .written) bytes → constants' ≡ sets constants (p .count) words
+      → Lowered stable i next listing constants p listing' constants' (finished t bytes next p)
   turn-done next {listing'} {constants'} h f g =
-      let room : p .written + length bytes ≤ length listing = omega (arith, h, listed-at, r .written) in
-      let l : listing' ≡ sets listing (p .written) bytes = f ∙ ap (sets listing (p .written)) listed-bytes in
-      let n : p .written + t .at ≡ p .written + length bytes = omega (arith, listed-at) in
+      let room : p .written + length bytes ≤ length listing = omega (arith, h, r .written) in
       let c : p .count + t .added .count ≡ p .count + length words = omega (arith, added-length) in
       let fits : p .count + length words ≤ length constants = omega (arith, added-fits, added-length, r .words) in
-      let x : take (p .written + t .at) listing' ≡ take (p .written) listing ++ bytes
-      = ap (λ n. take n listing') n ∙ ap (take (p .written + length bytes)) l ∙ taken listing bytes (p .written) room in
+      let x : take (p .written + length bytes) listing' ≡ take (p .written) listing ++ bytes
+      = ap (take (p .written + length bytes)) f ∙ taken listing bytes (p .written) room in
       let y : take (p .count + t .added .count) constants' ≡ take (p .count) constants ++ words
       = ap (λ n. take n constants') c ∙ ap (take (p .count + length words)) g ∙ taken constants words (p .count) fits in
       record {
@@ -164,13 +194,36 @@ module _ (stable : Bool) (i : Instruction) {stage stage' listing constants : Lis
         at = λ z. refl;
         index = λ z. add-one (p .index);
         turned = record {
-          bytes = subst (λ l. Kept listing (p .written) l (p .written + t .at)) (sym l)
-              (subst (λ n. Kept listing (p .written) (sets listing (p .written) bytes) n) (sym n) (kept-store listing bytes (p .written) room));
+          bytes = subst (λ l. Kept listing (p .written) l (p .written + length bytes)) (sym f) (kept-store listing bytes (p .written) room);
           words = subst (λ l. Kept constants (p .count) l (p .count + t .added .count)) (sym g)
               (subst (λ n. Kept constants (p .count) (sets constants (p .count) words) n) (sym c) (kept-store constants words (p .count) fits));
           space = subst (λ k. space k ≤ 256) (sym y) listed-space;
         };
       }
+
+  by-room : (next : ℕ) {listing' constants' : List ℕ} {q : Next} → Finished t bytes next listing constants p listing' constants' q
+      → Lowered stable i next listing constants p listing' constants' q
+  by-room next {listing'} {constants'} {q} f =
+      either (full bytes listing p)
+      (λ z.
+      subst (λ q. Lowered stable i next listing constants p listing' constants' q)
+      (sym (f .stands ∙ ap (λ x. cond x (refusal 7 p) (finished t bytes next p)) z))
+      (subst (λ k. Lowered stable i next listing constants p listing' k (refusal 7 p))
+      (sym (f .added ∙ ap (λ x. cond x constants (sets constants (p .count) words)) z))
+      (subst (λ l. Lowered stable i next listing constants p l constants (refusal 7 p))
+      (sym (f .listed ∙ ap (λ x. cond x listing (sets listing (p .written) bytes)) z)) (turn-full next (ltb-true _ _ z)))))
+      (λ z.
+      subst (λ q. Lowered stable i next listing constants p listing' constants' q)
+      (sym (f .stands ∙ ap (λ x. cond x (refusal 7 p) (finished t bytes next p)) z))
+      (turn-done next (ltb-false _ _ z)
+      (f .listed ∙ ap (λ x. cond x listing (sets listing (p .written) bytes)) z)
+      (f .added ∙ ap (λ x. cond x constants (sets constants (p .count) words)) z)))
+
+  pub turn-finished : (next : ℕ) {listing' constants' : List ℕ} {q : Next}
+      → Finished t (take (t .at) stage') next listing constants p listing' constants' q
+      → Lowered stable i next listing constants p listing' constants' q
+  turn-finished next {listing'} {constants'} {q} f =
+      by-room next (subst (λ l. Finished t l next listing constants p listing' constants' q) listed-bytes f)
 
 -- ---- one turn
 

@@ -1,4 +1,2 @@
 pub mod Entry
-pub mod Added
-pub mod Ends
 pub mod Taken

@@ -1,15 +1,17 @@
 -- What the loop over a sheet's instructions keeps, and what one turn of it does.
-use Prim.Native.Nat.{ℕ, suc, _+_, _≤_, _<_}
+use Prim.Native.Nat.{ℕ, suc, _+_, _-_, _≤_, _<_}
 use mathlib.Core.Path.{_≡_}
-use mathlib.Core.Bool.{Bool, cond, false}
+use mathlib.Core.Bool.{Bool, cond, true, false}
 use mathlib.Core.List.{List, [], _∷_}
 use lib.ListN.{length, take, drop}
+use lib.Seq.{sets}
 use lib.Dec.{ltb}
 use Rattle.mir.specs.declared.records.Instruction.{Instruction}
 use Rattle.sheet.specs.Instruction.{instructions}
 use Rattle.lowering.specs.Complexifier.{position, MIN_POSITIVE, INFINITY, QUARTER, EXP_MASK_FINITE, FLOOR_FINITE}
 use Rattle.lowering.specs.Lower.{Ended, ended, lowerFrom}
 use Rattle.complexifier.specs.Does.{state}
+use Rattle.rerun.specs.declared.turn.Turn.{Turn}
 use Rattle.complexify.specs.declared.entry.Answer.{Answer}
 use Rattle.complexify.specs.declared.turn.Stand.{Stand}
 use Rattle.complexify.specs.declared.turn.Next.{Next}
@@ -51,6 +53,43 @@ goesOn stable room is fault listing constants p =
 abbrev pub left : Bool → ℕ → ℕ → List ℕ → List ℕ → List ℕ → Stand → Ended
 left stable room own sheet listing constants p =
     let d = instructions own (drop (p .at) sheet) in goesOn stable room (d .items) (d .fault) listing constants p
+
+-- where lowering stands after a number refused the instruction, and after a finished one with these bytes
+abbrev pub refusal : ℕ → Stand → Next
+refusal number p = record { done = true; number = number; stand = p }
+
+abbrev pub finished : Turn → List ℕ → ℕ → Stand → Next
+finished t bytes next p =
+    record {
+      done = false;
+      number = 0;
+      stand = record {
+        at = next;
+        index = p .index + 1;
+        written = p .written + length bytes;
+        count = p .count + t .added .count;
+        low = t .low;
+      };
+    }
+
+-- 7, the bytes exceed those left; else they are copied behind the finished ones, and so are the constants that the turn added
+abbrev pub full : List ℕ → List ℕ → Stand → Bool
+full bytes listing p = ltb (length listing - p .written) (length bytes)
+
+pub record Finished (t : Turn) (bytes : List ℕ) (next : ℕ) (listing constants : List ℕ) (p : Stand) (listing' constants' : List ℕ) (r : Next) : Type 0 where
+  pub stands : r ≡ cond (full bytes listing p) (refusal 7 p) (finished t bytes next p)
+  pub listed : listing' ≡ cond (full bytes listing p) listing (sets listing (p .written) bytes)
+  pub added : constants' ≡ cond (full bytes listing p) constants (sets constants (p .count) (take (t .added .count) (t .added .words)))
+
+-- what that asks of the turn and of the slices
+pub record Fits (t : Turn) (bytes listing constants : List ℕ) (p : Stand) : Type 0 where
+  pub short : length bytes ≤ 704
+  pub room : length listing ≤ 65536
+  pub written : p .written ≤ length listing
+  pub words : length constants ≡ 256
+  pub few : t .added .count ≤ length (t .added .words)
+  pub count : p .count + t .added .count ≤ 256
+  pub index : p .index < 65536
 
 -- what the slices keep in a turn
 pub record Turned (listing constants : List ℕ) (p : Stand) (listing' constants' : List ℕ) (r : Next) : Type 0 where

@@ -4,7 +4,6 @@ ghost use Prim.Native.Nat.{_+_, _≤_};
 ghost use lib.ListN.{length, take};
 ghost use lib.Seq.{sets};
 ghost use Rattle.sheet.specs.Setup.{constantsOf};
-use super::constants::Added;
 use sheet::setup::constant_at;
 
 // Bytes copied from `at` on.
@@ -12,7 +11,7 @@ pub(crate) fn copy_bytes(from: &[u8], to: &mut [u8], at: usize)
     requires { ⌜ at + length (now from) ≤ length (now to) ⌝ }
     ensures { λ r. ⌜ now (to .exit) ≡ sets (now (to .entry)) at (now (from .entry)) ⌝ }
 {
-    let mut i: usize = 0;
+    let mut i = 0usize;
     while i < from.len() {
         to[at + i] = from[i];
         i += 1;

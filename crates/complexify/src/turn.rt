@@ -1,15 +1,15 @@
 // One instruction of a sheet: read, lowered into the stage, and copied to the lent slices. What is refused has changed neither.
 ghost use mathlib.Core.Path.{_≡_};
-ghost use mathlib.Core.Bool.{true};
 ghost use Prim.Native.Nat.{_<_};
 ghost use lib.ListN.{length};
-ghost use Rattle.complexify.specs.Taken.{Ready, Lowered, Taken};
+ghost use Rattle.complexify.specs.Taken.{Ready, Fits, Finished, Lowered, Taken, refusal};
 use super::barred::barred;
 use super::copying::copy_bytes;
 use super::copying::copy_words;
-use super::rerun::rerun;
 use complexifier::state::Complexifier;
 use mir::records::Instruction;
+use rerun::instruction::rerun;
+use rerun::turn::Turn;
 use sheet::reader::NextInstruction;
 use sheet::reader::read_instruction;
 
@@ -31,11 +31,49 @@ pub struct Next {
 }
 
 fn refused(number: u8, stand: Stand) -> Next
-    ensures { λ r. ⌜ r ≡ record { done = true; number = number; stand = stand } ⌝ }
+    ensures { λ r. ⌜ r ≡ refusal number stand ⌝ }
 {
     Next {
         done: true,
         number: number,
+        stand: stand,
+    }
+}
+
+// An instruction's bytes and constants, copied behind the finished ones; 7 where the bytes exceed those left.
+fn finish(
+    t: Turn,
+    bytes: &[u8],
+    next: usize,
+    p: Stand,
+    listing: &mut [u8],
+    constants: &mut [u64],
+) -> Next
+    requires { ⌜ Fits t (now bytes) (now listing) (now constants) p ⌝ }
+    ensures { λ r. ⌜ Finished t (now (bytes .entry)) next (now (listing .entry)) (now (constants .entry)) p (now (listing .exit)) (now (constants .exit)) r ⌝ }
+{
+    let n = bytes.len();
+    let written = p.written;
+    let count = p.count;
+    let added = t.added;
+    let more = added.count;
+    let low = t.low;
+    let stand = Stand {
+        at: next,
+        index: p.index + 1,
+        written: written + n,
+        count: count + more,
+        low: low,
+    };
+    if listing.len() - written < n {
+        return refused(7, p);
+    }
+    copy_bytes(bytes, listing, written);
+    let words = added.words;
+    copy_words(&words[..more], constants, count);
+    Next {
+        done: false,
+        number: 0,
         stand: stand,
     }
 }
@@ -59,31 +97,10 @@ fn lower_one(
     if barred(stable, instruction, real) {
         return refused(6, p);
     }
-    let written = p.written;
     let count = p.count;
     let t = rerun(low, &constants[..count], stable, stage, 0, instruction);
     let n = t.at;
-    if listing.len() - written < n {
-        return refused(7, p);
-    }
-    copy_bytes(&stage[..n], listing, written);
-    let added = t.added;
-    let words = added.words;
-    let more = added.count;
-    copy_words(&words[..more], constants, count);
-    let low = t.low;
-    let stand = Stand {
-        at: next,
-        index: p.index + 1,
-        written: written + n,
-        count: count + more,
-        low: low,
-    };
-    Next {
-        done: false,
-        number: 0,
-        stand: stand,
-    }
+    finish(t, &stage[..n], next, p, listing, constants)
 }
 
 // One turn, of a sheet with `own` constants.

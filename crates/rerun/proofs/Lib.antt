@@ -1,0 +1,4 @@
+pub mod Positions
+mod Roots
+mod Divides
+mod Moves

@@ -1,0 +1,31 @@
+-- Constants sought and added: what the functions over the lent constants promise.
+use Prim.Native.Nat.{ℕ, suc, _+_, _≤_, _<_}
+use mathlib.Core.Path.{_≡_}
+use mathlib.Core.List.{List, [], _∷_, _++_}
+use lib.ListN.{length, take}
+use Rattle.lowering.specs.Complexifier.{position, stableConst, threeConsts}
+use Rattle.rerun.specs.declared.turn.Added.{Added}
+use Rattle.rerun.specs.declared.constants.Found.{Found}
+use Rattle.rerun.specs.declared.constants.Three.{Three}
+
+-- nothing added
+abbrev pub none : Added
+none = record { words = 0 ∷ 0 ∷ 0 ∷ []; count = 0 }
+
+-- the constants of the finished instructions, then those that the instruction under way added
+abbrev pub table : List ℕ → Added → List ℕ
+table k a = k ++ take (a .count) (a .words)
+
+-- `stable_const` of v: the position, and what is then added
+pub record Sought (k : List ℕ) (a : Added) (v : ℕ) (f : Found) : Type 0 where
+  pub at : f .at ≡ position v (stableConst v (table k a))
+  pub kept : table k (f .added) ≡ stableConst v (table k a)
+  pub few : f .added .count ≤ suc (a .count)
+
+-- three constants sought one after the other
+pub record Thrice (k : List ℕ) (u v w : ℕ) (t : Three) : Type 0 where
+  pub first : t .i ≡ position u (stableConst u k)
+  pub second : t .j ≡ position v (stableConst v (stableConst u k))
+  pub third : t .q ≡ position w (threeConsts u v w k)
+  pub kept : table k (t .added) ≡ threeConsts u v w k
+  pub few : t .added .count ≤ 3
