@@ -1,5 +1,5 @@
 mod Positions
-mod Copies
+pub mod Copies
 mod Grown
 mod Bounds
 mod Turns
