@@ -10,15 +10,16 @@ use lib.Seq.{sets, length-sets}
 use Rattle.sheet.specs.declared.setup.Setup.{Setup}
 use Rattle.sheet.specs.Setup.{setup, constantsOf}
 use Rattle.sheet.specs.Instruction.{instructions}
+use Rattle.sheet.proofs.Setting.{length-constants}
 use Rattle.lowering.specs.Realness.{fresh}
-use Rattle.lowering.specs.Lower.{lowerFrom}
+use Rattle.lowering.specs.Lower.{lowerFrom, lowerSheet}
 use Rattle.complexifier.specs.declared.state.Complexifier.{Complexifier}
 use Rattle.complexifier.specs.Does.{state}
 use Rattle.complexify.specs.declared.entry.Answer.{Answer}
 use Rattle.complexify.specs.declared.turn.Stand.{Stand}
-use Rattle.complexify.specs.Entry.{wrongSetup, refusedSetup, lowering, answerOf, answer, listingAfter, constantsAfter}
+use Rattle.complexify.specs.Entry.{wrongSetup, refusedSetup, answerOf, answer, listingAfter, constantsAfter}
 use Rattle.complexify.specs.Taken.{Ready, Kept, left, Ran}
-use Rattle.complexify.proofs.Copies.{length-constants, kept-first, taken-first, kept-then, kept-sets}
+use Rattle.complexify.proofs.Copies.{kept-first, taken-first, kept-then, kept-sets}
 use Rattle.complexify.proofs.Grown.{space-start}
 use Rattle.complexify.proofs.Setups.{Right, right}
 
@@ -81,7 +82,7 @@ module _ (sheet listing constants : List ℕ) (x : Setup) (e : x ≡ setup sheet
         → low ≡ record { real = fresh (x .places); «root_defined» = false }
         → Ran (left (x .stable) (length listing) (x .count) sheet listing constants₁ (beginning low)) listing constants₁ (beginning low) listing' constants' a
         → Answered sheet listing constants a listing' constants'
-    unfolding lowering
+    unfolding lowerSheet
     answering {constants₁} {listing'} {constants'} {low} {a} k h r =
         record {
           answered = r .answer ∙ ap answerOf whole ∙ sym (simp rightly);
@@ -89,7 +90,7 @@ module _ (sheet listing constants : List ℕ) (x : Setup) (e : x ≡ setup sheet
           words = kept-sets constants constants' 0 (a .count) kept ∙ ap (sets constants 0) (sym (r .consts) ∙ ap (λ w. w .state .consts) whole) ∙ sym (simp rightly);
         }
       where
-        whole : left (x .stable) (length listing) (x .count) sheet listing constants₁ (beginning low) ≡ lowering sheet listing
+        whole : left (x .stable) (length listing) (x .count) sheet listing constants₁ (beginning low) ≡ lowerSheet sheet (length listing)
         whole =
             ap (λ low. left (x .stable) (length listing) (x .count) sheet listing constants₁ (beginning low)) h
             ∙ ap

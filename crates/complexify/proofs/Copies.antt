@@ -29,10 +29,6 @@ stored l b i {v} e h =
 
 -- the constants of a sheet, one by one
 module _ (s : List ℕ) where
-  pub length-constants : (n i : ℕ) → length (constantsFromOn s n i) ≡ n
-  length-constants zero i = refl
-  length-constants (suc n) i = ap suc (length-constants n (suc i))
-
   pub nth : (n i k : ℕ) → k < n → getD (constantsFromOn s n i) k 0 ≡ constantAt s (i + k)
   nth zero i k h = absurd (omega arith)
   nth (suc n) i zero h = ap (constantAt s) (sym (add-zero i))

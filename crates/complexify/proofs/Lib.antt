@@ -1,4 +1,4 @@
-mod Copies
+pub mod Copies
 mod Grown
 mod Bounds
 mod Turns

@@ -1,14 +1,13 @@
 -- The whole of lowering (document 01, "What the two entries give back"): the answer, and the two lent slices after it.
 use Prim.Native.Nat.{ℕ}
 use mathlib.Core.Bool.{Bool, not, cond, _||_}
-use mathlib.Core.List.{List, []}
-use lib.ListN.{length, drop, replicate}
+use mathlib.Core.List.{List}
+use lib.ListN.{length, replicate}
 use lib.Seq.{sets}
 use lib.Dec.{ltb, eqb}
-use Rattle.sheet.specs.Setup.{setup, constantsOf}
-use Rattle.sheet.specs.Instruction.{instructions}
+use Rattle.sheet.specs.Setup.{setup}
 use Rattle.lowering.specs.Realness.{fresh}
-use Rattle.lowering.specs.Lower.{Ended, lowerFrom, startState}
+use Rattle.lowering.specs.Lower.{Ended, lowerSheet}
 use Rattle.complexify.specs.declared.entry.Answer.{Answer}
 
 -- 8, "tested first": what the sheet's setup refuses, "a listing slice over 65,536 bytes, or a constants slice of other than 256 words"
@@ -19,13 +18,6 @@ wrongSetup sheet listing constants =
 -- "Setup refusals carry index 0, counts 0 and all realness complex."
 abbrev pub refusedSetup : Answer
 refusedSetup = record { number = 8; index = 0; written = 0; count = 0; real = fresh (replicate 64 0) }
-
--- the sheet's instructions lowered one after the other, in the room that the listing slice has
-unfoldable pub lowering : List ℕ → List ℕ → Ended
-lowering sheet listing =
-    let s = setup sheet in
-    let d = instructions (s .count) (drop (s .start) sheet) in
-    lowerFrom (s .stable) (length listing) (d .items) (d .fault) 0 [] (startState (s .places) (constantsOf sheet (s .count)))
 
 -- "Lowering returns a number (0: accepted), an instruction's index, listing bytes written, a count of constants and the final record of
 -- realness."
@@ -40,14 +32,14 @@ answerOf e =
     }
 
 abbrev pub answer : List ℕ → List ℕ → List ℕ → Answer
-answer sheet listing constants = cond (wrongSetup sheet listing constants) refusedSetup (answerOf (lowering sheet listing))
+answer sheet listing constants = cond (wrongSetup sheet listing constants) refusedSetup (answerOf (lowerSheet sheet (length listing)))
 
 -- "A refusal by 8 changes nothing. Any other refusal of lowering leaves the sheet's constants, the finished instructions' bytes and
 -- constants, nothing of the refused one, and every later byte or word as lent"
 abbrev pub listingAfter : List ℕ → List ℕ → List ℕ → List ℕ
 listingAfter sheet listing constants =
-    cond (wrongSetup sheet listing constants) listing (sets listing 0 (lowering sheet listing .bytes))
+    cond (wrongSetup sheet listing constants) listing (sets listing 0 (lowerSheet sheet (length listing) .bytes))
 
 abbrev pub constantsAfter : List ℕ → List ℕ → List ℕ → List ℕ
 constantsAfter sheet listing constants =
-    cond (wrongSetup sheet listing constants) constants (sets constants 0 (lowering sheet listing .state .consts))
+    cond (wrongSetup sheet listing constants) constants (sets constants 0 (lowerSheet sheet (length listing) .state .consts))

@@ -30,7 +30,7 @@ use Rattle.lowering.specs.Lines.{realLines}
 use Rattle.lowering.specs.Complexifier as c
 use Rattle.lowering.specs.Complexifier.{then, unlisted, byOne}
 use Rattle.lowering.specs.Rerun.{rerunUni, rerun, complexify}
-use Rattle.lowering.specs.Lower.{lowerFrom}
+use Rattle.lowering.specs.Lower.{lowerFrom, lowerSheet}
 use Rattle.leftovers.specs.Leftovers.{Leftover, half, Alike, sheetOf, Accepted, Lowered, lowered, realAt, playOn, standing}
 use Rattle.leftovers.specs.Kept.{kept-im}
 use Rattle.leftovers.specs.Examples.{zeros, mixing, touched, Needed, clean, Met}
@@ -38,7 +38,7 @@ use Rattle.leftovers.proofs.Words.{not-both}
 
 -- what is opened to lower a sheet, to stand at its points and to play on
 unfoldable lower : List ℕ → Lowered
-unfolding setup wordAt lowerFrom decoded instructionFrom takesKind lengthOf uniOps rerun rerunUni byOne realLines recordOf c.half re im complexify then unlisted
+unfolding lowerSheet setup wordAt lowerFrom decoded instructionFrom takesKind lengthOf uniOps rerun rerunUni byOne realLines recordOf c.half re im complexify then unlisted
 lower bytes = lowered bytes 65536
 
 unfoldable stood : List ℕ → ℕ → Option Store

@@ -2,23 +2,23 @@
 -- from every point.
 use mathlib.Core.Path.{_≡_, refl, sym, ap, subst}
 use mathlib.Core.List.{List, [], _∷_}
-use Prim.Native.Nat.{ℕ, zero, suc, _≤_}
+use Prim.Native.Nat.{ℕ, _≤_}
 use native.Mathlib.Omega.{arith}
 use native.Mathlib.Nat.{le-refl, le-trans, le-of-eq}
 use lib.ListN.{length, drop}
 use borrow.Author.Tests.{le-ltb, eq-eqb}
 use Rattle.mir.specs.declared.records.Instruction.{Instruction}
 use Rattle.mir.specs.Encode.{encodeAll}
-use Rattle.sheet.specs.Setup.{setup, constantsFromOn}
+use Rattle.sheet.specs.Setup.{setup}
 use Rattle.sheet.specs.Instruction.{instructions}
-use Rattle.sheet.proofs.Setting.{right}
+use Rattle.sheet.proofs.Setting.{right, length-constants}
 use Rattle.records.specs.Record.{records}
 use Rattle.records.proofs.Holding.{AllHold}
 use Rattle.records.proofs.Round.{round}
 use Rattle.machine.specs.Machine.{Store, block}
 use Rattle.machine.specs.Jumps.{breach}
 use Rattle.machine.specs.Answer.{accept, answer}
-use Rattle.lowering.specs.Lower.{startState}
+use Rattle.lowering.specs.Lower.{startState, lowerSheet}
 use Rattle.mir.specs.Decode.{decoded}
 use Rattle.leftovers.proofs.Accepting.{wrote}
 use Rattle.leftovers.proofs.Ranges.{all-in-range}
@@ -28,12 +28,6 @@ use Rattle.leftovers.proofs.Instructions.{InRange}
 use Rattle.leftovers.proofs.Listing.{grows, finds-block}
 use Rattle.leftovers.proofs.Jumping.{no-breach}
 use Rattle.leftovers.proofs.Points.{AllIn, all-keep, whole, playFrom, point-below}
-
--- ---- the sheet
-
-constants-count : (s : List ℕ) (n i : ℕ) → length (constantsFromOn s n i) ≡ n
-constants-count s zero i = refl
-constants-count s (suc n) i = ap suc (constants-count s n (suc i))
 
 -- ---- instructions within the limits of a longer table
 
@@ -104,19 +98,21 @@ pub record Sound (bytes : List ℕ) (room : ℕ) : Type 0 where
   pub same : lowered bytes room ≡ asLowered (sheetOf bytes)
   pub in-range : AllIn (length (sheetOf bytes .constants)) (sheetOf bytes .instructions)
   pub few : length (sheetOf bytes .constants) ≤ 251
+  pub within : length (lowerSheet bytes room .bytes) ≤ room
   pub fits : length (encodeAll (whole (sheetOf bytes) .records)) ≤ 65536
 
 pub sound : (bytes : List ℕ) (room : ℕ) → Accepted bytes room → Sound bytes room
-unfolding decoded
+unfolding decoded lowerSheet
 sound bytes room a =
     let u = setup bytes in
     let s = sheetOf bytes in
     let rest = drop (u .start) bytes in
     let w = wrote (s .stable) room (s .instructions) (instructions (u .count) rest .fault) 0 [] (startState (s .places) (s .constants)) (omega arith) (a .number) in
-    let n = constants-count bytes (u .count) 0 in
+    let n = length-constants bytes (u .count) 0 in
     record {
       same = λ j. record { sheet = s; listing = w .listing j; constants = w .last j .consts; last = w .last j .real };
       in-range = subst (λ (n : ℕ). AllIn n (s .instructions)) (sym n) (all-in-range (u .count) rest 0);
       few = omega (arith, n, right bytes (a .right) .few);
+      within = w .fits;
       fits = omega (arith, w .fits, ap length (w .listing), a .slice);
     }

@@ -3,7 +3,7 @@ use Prim.Native.Nat.{ℕ, suc, _-_, _≤_, _<_}
 use mathlib.Core.Path.{_≡_}
 use mathlib.Core.Bool.{Bool, true, false}
 use mathlib.Core.Logic.{_⊎_}
-use mathlib.Core.List.{List, []}
+use mathlib.Core.List.{List}
 use mathlib.Core.Option.{Option, none, some}
 use lib.ListN.{length, take, drop, getD}
 use Rattle.mir.specs.declared.ops.UniOp.{UniOp}
@@ -21,7 +21,7 @@ use Rattle.lowering.specs.declared.realness.Realness.{Realness}
 use Rattle.lowering.specs.Realness.{isRealReg, isRealLoc}
 use Rattle.lowering.specs.Complexifier.{Out}
 use Rattle.lowering.specs.Rerun.{complexify}
-use Rattle.lowering.specs.Lower.{Ended, lowerFrom, startState}
+use Rattle.lowering.specs.Lower.{startState, lowerSheet}
 
 -- ---- leftovers
 
@@ -58,18 +58,11 @@ sheetOf bytes =
       instructions = instructions (u .count) (drop (u .start) bytes) .items;
     }
 
--- a sheet's bytes lowered to a slice of so many bytes
-abbrev pub lowering : List ℕ → ℕ → Ended
-lowering bytes room =
-    let u = setup bytes in
-    let d = instructions (u .count) (drop (u .start) bytes) in
-    lowerFrom (u .stable) room (d .items) (d .fault) 0 [] (startState (u .places) (constantsOf bytes (u .count)))
-
 -- "any accepted sheet": no 8, and the number is 0
 pub record Accepted (bytes : List ℕ) (room : ℕ) : Type 0 where
   pub right : setup bytes .number ≡ 0
   pub slice : room ≤ 65536
-  pub number : lowering bytes room .number ≡ 0
+  pub number : lowerSheet bytes room .number ≡ 0
 
 -- a sheet, and what lowering gave: the listing's bytes, the constants and the final record of realness
 pub record Lowered : Type 0 where
@@ -80,7 +73,7 @@ pub record Lowered : Type 0 where
 
 abbrev pub lowered : List ℕ → ℕ → Lowered
 lowered bytes room =
-    let e = lowering bytes room in
+    let e = lowerSheet bytes room in
     record { sheet = sheetOf bytes; listing = e .bytes; constants = e .state .consts; last = e .state .real }
 
 -- ---- points

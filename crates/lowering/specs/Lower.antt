@@ -2,17 +2,17 @@
 use Prim.Native.Nat.{ℕ, suc, _+_}
 use mathlib.Core.Bool.{Bool, true, false, not, cond, _&&_, _||_}
 use mathlib.Core.List.{List, [], _∷_, _++_}
-use lib.ListN.{length, drop, replicate}
-use lib.Seq.{sets}
-use lib.Dec.{ltb, leb, eqb}
+use lib.ListN.{length, drop}
+use lib.Dec.{ltb, eqb}
 use Rattle.mir.specs.declared.ops.UniOp.{UniOp}
 use Rattle.mir.specs.declared.ops.BinOp.{BinOp}
 use Rattle.mir.specs.declared.ops.ArithOp.{ArithOp}
 use Rattle.mir.specs.declared.ops.FusedOp.{FusedOp}
 use Rattle.mir.specs.declared.records.Instruction.{Instruction}
 use Rattle.mir.specs.Register.{Ret, Temp}
-use Rattle.mir.specs.Decode.{Decoded}
 use Rattle.mir.specs.Encode.{encodeAll}
+use Rattle.sheet.specs.Setup.{setup, constantsOf}
+use Rattle.sheet.specs.Instruction.{instructions}
 use Rattle.lowering.specs.declared.realness.Realness.{Realness}
 use Rattle.lowering.specs.Realness.{isRealReg, isRealLoc, fresh}
 use Rattle.lowering.specs.Complexifier.{State, Out}
@@ -111,3 +111,11 @@ lowerFrom stable room (i ∷ is) fault index bytes s =
 -- "`complexify` on a fresh `Complexifier`": the constants are the sheet's, "Every register starts recorded as complex"
 abbrev pub startState : List ℕ → List ℕ → State
 startState places consts = record { real = fresh places; rootDefined = false; consts = consts }
+
+-- a sheet's instructions lowered one after the other, in the room that a listing slice has
+unfoldable pub lowerSheet : List ℕ → ℕ → Ended
+unfolding lowerFrom
+lowerSheet sheet room =
+    let s = setup sheet in
+    let d = instructions (s .count) (drop (s .start) sheet) in
+    lowerFrom (s .stable) room (d .items) (d .fault) 0 [] (startState (s .places) (constantsOf sheet (s .count)))

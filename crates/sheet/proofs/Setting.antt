@@ -1,12 +1,12 @@
 -- What is known of a sheet whose setup is right.
-use Prim.Native.Nat.{ℕ, _+_, _*_, _≤_}
-use mathlib.Core.Path.{_≡_, refl}
+use Prim.Native.Nat.{ℕ, zero, suc, _+_, _*_, _≤_}
+use mathlib.Core.Path.{_≡_, refl, ap}
 use mathlib.Core.List.{List}
 use native.Mathlib.Omega.{arith}
 use lib.ListN.{length, take, drop, length-take, length-drop}
 use Rattle.mir.specs.Read.{Read, got, refused}
 use Rattle.sheet.specs.declared.setup.Setup.{Setup}
-use Rattle.sheet.specs.Setup.{headerFrom, constantsFrom, setupWith, setupFrom, setup}
+use Rattle.sheet.specs.Setup.{headerFrom, constantsFrom, constantsFromOn, setupWith, setupFrom, setup}
 use Rattle.sheet.proofs.Heading.{Headed, headed}
 use Rattle.sheet.proofs.Counting.{few}
 
@@ -40,3 +40,8 @@ by-header s (refused n) e z = absurd (omega arith)
 pub right : (s : List ℕ) → setup s .number ≡ 0 → Right s (setup s)
 unfolding setup
 right s z = by-header s (headerFrom s) refl z
+
+-- as many constants as were counted
+pub length-constants : (s : List ℕ) (n i : ℕ) → length (constantsFromOn s n i) ≡ n
+length-constants s zero i = refl
+length-constants s (suc n) i = ap suc (length-constants s n (suc i))

@@ -7,7 +7,8 @@ use native.Mathlib.Nat.{zero-add, add-zero}
 use lib.ListN.{length, drop, set}
 use lib.Seq.{sets}
 use Rattle.sheet.specs.Setup.{constantAt, constantsOf}
-use Rattle.complexify.proofs.Copies.{length-constants, nth, stored, ended}
+use Rattle.sheet.proofs.Setting.{length-constants}
+use Rattle.complexify.proofs.Copies.{nth, stored, ended}
 use Rattle.complexify.proofs.copying.copy_constants.Statement.{statement}
 use Rattle.complexify.proofs.copying.copy_constants.Tie as tie
 

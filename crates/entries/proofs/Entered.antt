@@ -1,0 +1,61 @@
+-- What the entry `lower` leaves is what demand 3 speaks of.
+use Prim.Native.Nat.{ℕ, _≤_}
+use mathlib.Core.Path.{_≡_, refl, sym, ap, _∙_}
+use mathlib.Core.Bool.{Bool, true, false, true≢false, cond, not, _||_}
+use mathlib.Core.List.{List}
+use native.Mathlib.Omega.{arith}
+use lib.ListN.{length, take}
+use lib.Seq.{sets}
+use lib.Dec.{ltb, eqb}
+use borrow.Author.Tests.{ltb-false, eqb-true, not-false}
+use Rattle.sheet.specs.Setup.{setup}
+use Rattle.lowering.specs.Lower.{lowerSheet}
+use Rattle.complexify.specs.Entry.{wrongSetup, refusedSetup, answerOf}
+use Rattle.complexify.proofs.Copies.{taken-first}
+use Rattle.leftovers.specs.Leftovers.{sheetOf, Accepted}
+use Rattle.entries.specs.Entries.{Left, Entered}
+use Rattle.leftovers.proofs.Sheets.{sound, table}
+
+-- no test of three holds
+record Neither (x y z : Bool) : Type 0 where
+  first : x ≡ false
+  second : y ≡ false
+  third : z ≡ false
+
+neither : (x y z : Bool) → (x || (y || z)) ≡ false → Neither x y z
+neither false false false e = record { first = refl; second = refl; third = refl }
+neither false false true e = absurd (true≢false e)
+neither false true z e = absurd (true≢false e)
+neither true y z e = absurd (true≢false e)
+
+module _ (sheet listing constants : List ℕ) where
+  abbrev room : ℕ
+  room = length listing
+
+  accepts : (b : Bool) → wrongSetup sheet listing constants ≡ b → cond b refusedSetup (answerOf (lowerSheet sheet room)) .number ≡ 0
+      → Left sheet listing constants
+  accepts true w e = absurd (omega arith)
+  accepts false w e =
+      let n = neither (not (eqb (setup sheet .number) 0)) (ltb 65536 room) (not (eqb (length constants) 256)) w in
+      let a : Accepted sheet room = record {
+        right = eqb-true (setup sheet .number) 0 (not-false _ (n .first));
+        slice = ltb-false 65536 room (n .second);
+        number = e;
+      } in
+      let o = lowerSheet sheet room in
+      let c = eqb-true (length constants) 256 (not-false _ (n .third)) in
+      let s = sound sheet room a in
+      let t = table (sheetOf sheet) (s .in-range) (s .few) in
+      record {
+        accepted = a;
+        bytes =
+            ap (λ b. take (cond b refusedSetup (answerOf o) .written) (cond b listing (sets listing 0 (o .bytes)))) w
+            ∙ taken-first listing (o .bytes) _ refl (s .within);
+        words =
+            ap (λ b. take (cond b refusedSetup (answerOf o) .count) (cond b constants (sets constants 0 (o .state .consts)))) w
+            ∙ taken-first constants (o .state .consts) _ refl (omega (arith, c, t, ap (λ l. length (l .constants)) (s .same)));
+        last = ap (λ b. cond b refusedSetup (answerOf o) .real) w;
+      }
+
+pub entered : Entered
+entered sheet listing constants e = accepts sheet listing constants (wrongSetup sheet listing constants) refl e
