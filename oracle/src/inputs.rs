@@ -44,6 +44,20 @@ pub fn of_play(case: &ToPlay) -> Option<Vec<u8>> {
     Some(bytes)
 }
 
+/// An input with slices of each wrong length that the harness lends, and that of a play with its listing 256 times over.
+pub fn variants(input: &[u8]) -> Vec<Vec<u8>> {
+    let with = |at: usize, byte: u8| {
+        let mut copy = input.to_vec();
+        copy[at] = byte;
+        copy
+    };
+    let mut found: Vec<Vec<u8>> = (240..=255).map(|byte| with(1, byte)).collect();
+    if input[0] % 2 == 1 {
+        found.push(with(8, 255));
+    }
+    found
+}
+
 /// What an input calls, with slices of the right lengths.
 pub enum Call {
     Lower(ToLower),

@@ -5,7 +5,7 @@ use std::fs;
 use std::path::Path;
 
 use oracle::boundary;
-use oracle::inputs::{of_lowering, of_play};
+use oracle::inputs::{of_lowering, of_play, variants};
 use oracle::random::{self, Rng};
 
 /// Up to `count` of the cases, evenly spread.
@@ -21,6 +21,13 @@ fn write(folder: &Path, name: &str, inputs: &[Vec<u8>]) {
     println!("{name}: {} inputs", inputs.len());
 }
 
+/// The inputs, and the variants of a short one.
+fn with_variants(mut inputs: Vec<Vec<u8>>) -> Vec<Vec<u8>> {
+    let short = inputs.iter().filter(|input| input.len() < 1000).max_by_key(|input| input.len()).cloned();
+    inputs.extend(short.iter().flat_map(|input| variants(input)));
+    inputs
+}
+
 fn main() {
     let mut words = std::env::args().skip(1);
     let folder = words.next().expect("a folder");
@@ -30,11 +37,12 @@ fn main() {
     let mut sheets = boundary::kept_sheets();
     sheets.extend(spread(&boundary::sheets(), count));
     sheets.extend((0..count).map(|_| random::to_lower(&mut rng)));
-    write(Path::new(&folder), "lower", &sheets.iter().filter_map(of_lowering).collect::<Vec<_>>());
+    write(Path::new(&folder), "lower", &with_variants(sheets.iter().filter_map(of_lowering).collect()));
 
     let mut plays = boundary::kept_plays();
     plays.extend(spread(&boundary::plays(), count / 2));
     plays.extend(spread(&boundary::jump_rows(4), count / 2));
+    plays.push(boundary::all_operations(random::SPECIAL[2], random::SPECIAL[19], random::SPECIAL[30]));
     plays.extend((0..count).map(|_| random::to_play(&mut rng)));
-    write(Path::new(&folder), "play", &plays.iter().filter_map(of_play).collect::<Vec<_>>());
+    write(Path::new(&folder), "play", &with_variants(plays.iter().filter_map(of_play).collect()));
 }
