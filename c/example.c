@@ -16,10 +16,12 @@ static size_t mem(size_t i) { return 66 + 512 + 2 * i; }
 int main(void) {
     uint64_t lowered[TULIPCRICKET_LOWER_ANSWER / 8], played[TULIPCRICKET_PLAY_ANSWER / 8];
     double in[2] = {3, 4}, out[2];
-    if (tulipcricket_lower(sheet, sizeof sheet, listing, sizeof listing, constants, sizeof constants, (uint8_t *)lowered, sizeof lowered))
+    if (tulipcricket_lower(sheet, sizeof sheet, listing, sizeof listing, constants, sizeof constants, (uint8_t *)lowered,
+                           sizeof lowered) != 0)
         return 1;
-    memcpy(store + mem(3), in, sizeof in); /* the words of this machine, x86-64, have their lowest byte first too */
-    if (tulipcricket_play(listing, lowered[2], constants, 8 * lowered[3], (uint8_t *)store, sizeof store, 0, (uint8_t *)played, sizeof played))
+    memcpy(store + mem(3), in, sizeof in); /* x86-64 has the lowest byte first too */
+    if (tulipcricket_play(listing, lowered[2], constants, 8 * lowered[3], (uint8_t *)store, sizeof store, 0, (uint8_t *)played,
+                          sizeof played) != 0)
         return 1;
     memcpy(out, store + mem(4), sizeof out);
     printf("Mem 4 = %g + %gi after %d records\n", out[0], out[1], (int)played[2]);
