@@ -1,7 +1,8 @@
 /* Tulipcricket's two entries as C functions: link target/staticlib/libinterface.a, which `rt staticlib interface` makes.
  *
- * Every slice is a pointer and a count of bytes. The functions keep no pointer, take no memory and call nothing. Slices that are written
- * may not overlap another slice. Words are eight bytes, the lowest first; so are the numbers of an answer.
+ * Every slice is a pointer, which is not null even where the slice is empty, and a count of bytes. A slice that is written may not overlap
+ * another. The functions keep no pointer, hold nothing between calls, take no memory but the stack's, and call only memcpy and memset.
+ * Words are eight bytes, the lowest first; so are the numbers of an answer.
  *
  * Both return document 01's number, which is also the first number of the answer:
  *   0 accepted          1 torn record     2 unknown work      3 bad register    4 bad place
