@@ -147,29 +147,34 @@ fn constants() -> Vec<Vec<u8>> {
     found
 }
 
+/// A sheet of this instruction and so many Nops.
+fn filled(first: Vec<u8>, nops: usize) -> ToLower {
+    whole([make::header(false, &NONE), first, make::nop().repeat(nops)].concat())
+}
+
+/// Limits that every list of sheets has: the longest sheet, the most room, the words of the constants slice, and their neighbours.
+pub fn kept_sheets() -> Vec<ToLower> {
+    let mut found = vec![filled(make::uni(0, 1, 2), 4077), filled(make::bi(0, 1, 2, 3), 4077)];
+    for room in [65_535, 65_536, 65_537] {
+        found.push(ToLower { sheet: paper(), room, table: TABLE });
+    }
+    for table in [0, 1, 255, 256, 257] {
+        found.push(ToLower { sheet: paper(), room: 100, table });
+    }
+    found
+}
+
 fn limits() -> Vec<ToLower> {
-    let filled = |first: Vec<u8>, nops: usize| {
-        let mut bytes = [make::header(false, &NONE), first].concat();
-        bytes.extend(make::nop().repeat(nops));
-        whole(bytes)
-    };
-    let mut found = vec![
-        filled(make::mov(1, 2), 4077),
-        filled(make::uni(0, 1, 2), 4077),
-        filled(make::bi(0, 1, 2, 3), 4077),
-        filled(make::nop(), 4078),
-    ];
+    let mut found = kept_sheets();
+    found.extend([filled(make::mov(1, 2), 4077), filled(make::nop(), 4078)]);
     for stable in [false, true] {
         let row = vec![make::uni(uni::ABS, 1, 2); 2330];
         found.push(whole(make::sheet(stable, &NONE, &[], &row)));
         let row = vec![make::uni(uni::ROOT, 1, 2); 2330];
         found.push(whole(make::sheet(stable, &NONE, &[], &row)));
     }
-    for room in (0..=42).chain([65_535, 65_536, 65_537]) {
+    for room in 0..=42 {
         found.push(ToLower { sheet: paper(), room, table: TABLE });
-    }
-    for table in [0, 1, 255, 256, 257] {
-        found.push(ToLower { sheet: paper(), room: 100, table });
     }
     found
 }
@@ -296,12 +301,7 @@ pub fn all_operations(a: u64, b: u64, c: u64) -> ToPlay {
 }
 
 fn setups() -> Vec<ToPlay> {
-    let mut found = Vec::new();
-    for words in [0, 1, 1601, 1602, 1603] {
-        let mut play = on_zeros(make::mov(4, 5), 0, 0);
-        play.store = vec![7; words];
-        found.push(play);
-    }
+    let mut found = kept_plays();
     for constants in [0, 1, 255, 256, 257] {
         for index in [0, 1, 254, 255, 256, 257] {
             found.push(on_zeros(make::load_const(4, index), constants, 0));
@@ -314,6 +314,10 @@ fn setups() -> Vec<ToPlay> {
             longer.extend(&make::mov(5, 6)[..more]);
             found.push(on_zeros(longer, 0, 0));
         }
+    }
+    for (unis, movs) in [(3, 10_919), (4, 10_918), (5, 10_917)] {
+        let listing = [make::uni(0, 1, 2).repeat(unis), make::mov(3, 4).repeat(movs)].concat();
+        found.push(on_zeros(listing, 0, 0));
     }
     let calls = [make::label(1), make::branch(0), make::call(1).repeat(9_000)].concat();
     found.extend([0, 1, 2, 3, 9_002, 9_003, u64::MAX].map(|start| on_zeros(calls.clone(), 0, start)));
@@ -349,9 +353,12 @@ pub fn every_instruction(registers: &[u8]) -> Vec<Vec<u8>> {
     found
 }
 
-/// Limits that every list of plays has: places by class, and the infinities of MulAdd.
+/// Limits that every list of plays has: the store's words, the count of constants, places by class, and the infinities of MulAdd.
 pub fn kept_plays() -> Vec<ToPlay> {
-    let mut found = Vec::new();
+    let mut found = vec![on_zeros(make::load_const(4, 255), 256, 0), on_zeros(make::load_const(4, 255), 257, 0)];
+    found.extend(
+        [0, 1, 1601, 1602, 1603].map(|words| ToPlay { store: vec![7; words], ..on_zeros(make::mov(4, 5), 0, 0) }),
+    );
     for class in [STACK, MEM, PARAM] {
         found.extend([0, 255, 256, 257, 65535].map(|index| on_zeros(make::load(4, class, index), 0, 0)));
     }

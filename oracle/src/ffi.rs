@@ -153,7 +153,7 @@ pub fn wrong_lengths() -> Vec<String> {
     for constants in [0, 8, 2040, 2047, 2048, 2049, 2056] {
         found.extend([0, 127, 128, 129, 256].map(|length| wrong_lower(constants, length)));
     }
-    for constants in [0, 7, 8, 9, 2047] {
+    for constants in [0, 7, 8, 9, 2047, 2048, 2056] {
         for words in [0, 8, 12_808, 12_815, 12_817, 12_824] {
             found.extend([0, 23, 24, 25].map(|length| wrong_play(constants, words, length)));
         }

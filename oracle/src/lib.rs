@@ -9,6 +9,7 @@ pub mod encode;
 pub mod ffi;
 pub mod flow;
 pub mod format;
+pub mod inputs;
 pub mod lists;
 pub mod machine;
 pub mod make;

@@ -1,10 +1,12 @@
 //! Runs sheets and plays through the reference and through the C functions, and prints every difference.
-//! Usage: compare [COUNT] [SEED].
+//! Usage: compare [COUNT] [SEED], or compare FOLDER for the inputs that fuzzing kept there.
 
+use std::fs;
 use std::process::ExitCode;
 
 use oracle::boundary;
 use oracle::ffi::{wrong_lengths, Linked};
+use oracle::inputs::{cut, Call};
 use oracle::lists::{lowered, played};
 use oracle::machine::Reference;
 use oracle::random::{self, Rng, ToLower, ToPlay};
@@ -71,11 +73,23 @@ fn compare_play(case: &ToPlay, tally: &mut Tally) {
     });
 }
 
-fn main() -> ExitCode {
-    let mut words = std::env::args().skip(1).map(|w| w.parse::<u64>().expect("a number"));
-    let count = words.next().unwrap_or(10_000);
-    let mut rng = Rng(words.next().unwrap_or(1));
+/// Every input of a folder, cut as the fuzzing harness cuts it; the differences.
+fn compare_inputs(folder: &str) -> u64 {
+    let (mut sheets, mut plays) = (Tally::default(), Tally::default());
+    for entry in fs::read_dir(folder).expect("a folder") {
+        match cut(&fs::read(entry.expect("a file").path()).expect("a file")) {
+            Some(Call::Lower(case)) => compare_sheet(&case, &mut sheets),
+            Some(Call::Play(case)) => compare_play(&case, &mut plays),
+            None => {}
+        }
+    }
+    sheets.report("sheets kept");
+    plays.report("plays kept");
+    sheets.differences + plays.differences
+}
 
+/// Every limit, and `count` random cases of each kind; the differences.
+fn compare_cases(count: u64, mut rng: Rng) -> u64 {
     let mut sheets = Tally::default();
     boundary::sheets().iter().for_each(|case| compare_sheet(case, &mut sheets));
     sheets.report("sheets at limits");
@@ -101,7 +115,16 @@ fn main() -> ExitCode {
     let wrong = wrong_lengths();
     wrong.iter().for_each(|text| println!("{text}"));
     let tallies = [&sheets, &random_sheets, &plays, &random_plays, &arithmetic];
-    let differences = wrong.len() as u64 + tallies.iter().map(|t| t.differences).sum::<u64>();
+    wrong.len() as u64 + tallies.iter().map(|t| t.differences).sum::<u64>()
+}
+
+fn main() -> ExitCode {
+    let words: Vec<String> = std::env::args().skip(1).collect();
+    let numbers: Vec<u64> = words.iter().map_while(|w| w.parse().ok()).collect();
+    let differences = match words.first() {
+        Some(folder) if numbers.is_empty() => compare_inputs(folder),
+        _ => compare_cases(*numbers.first().unwrap_or(&10_000), Rng(*numbers.get(1).unwrap_or(&1))),
+    };
     println!("{differences} differences");
     if differences == 0 {
         ExitCode::SUCCESS

@@ -24,7 +24,8 @@ fn main() {
     let count = words.next().map_or(500, |w| w.parse().expect("a count"));
     let mut rng = Rng(words.next().map_or(1, |w| w.parse().expect("a seed")));
 
-    let mut sheets = spread(&boundary::sheets(), count);
+    let mut sheets = boundary::kept_sheets();
+    sheets.extend(spread(&boundary::sheets(), count));
     sheets.extend((0..count).map(|_| random::to_lower(&mut rng)));
     write(Path::new(&folder), "sheets", &lists::sheets(&sheets));
 

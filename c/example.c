@@ -1,0 +1,29 @@
+/* Lowers document 01's sheet on paper (Mem 4 = 2 * Mem 3) and plays it on Mem 3 = 3 + 4i. Prints "Mem 4 = 6 + 8i after 5 records". */
+#include <stdio.h>
+#include <string.h>
+
+#include "tulipcricket.h"
+
+/* Plain mode, no real places; constant 2.0; LoadConst 0, 0; Load 1, Mem 3; Times 0, 0, 1; Save 0, Mem 4. */
+static const uint8_t sheet[] = {
+    69, 0, 32, 0, 0, [69] = 12, 0, 33, 0, 0, 0, 0, 0, 0, 0, 0, 0x40,
+    7, 0, 6, 0, 0, 0, 0, 8, 0, 4, 0, 1, 1, 3, 0, 8, 0, 2, 0, 2, 0, 0, 1, 8, 0, 5, 0, 0, 1, 4, 0};
+static uint8_t listing[TULIPCRICKET_LISTING_LIMIT], constants[TULIPCRICKET_CONSTANTS];
+static uint64_t store[TULIPCRICKET_STORE / 8];
+
+static size_t mem(size_t i) { return 66 + 512 + 2 * i; }
+
+int main(void) {
+    uint64_t lowered[TULIPCRICKET_LOWER_ANSWER / 8], played[TULIPCRICKET_PLAY_ANSWER / 8];
+    double in[2] = {3, 4}, out[2];
+    if (tulipcricket_lower(sheet, sizeof sheet, listing, sizeof listing, constants, sizeof constants, (uint8_t *)lowered,
+                           sizeof lowered) != 0)
+        return 1;
+    memcpy(store + mem(3), in, sizeof in); /* x86-64 has the lowest byte first too */
+    if (tulipcricket_play(listing, lowered[2], constants, 8 * lowered[3], (uint8_t *)store, sizeof store, 0, (uint8_t *)played,
+                          sizeof played) != 0)
+        return 1;
+    memcpy(out, store + mem(4), sizeof out);
+    printf("Mem 4 = %g + %gi after %d records\n", out[0], out[1], (int)played[2]);
+    return 0;
+}

@@ -1,0 +1,71 @@
+/* Tulipcricket's two entries as C functions: link target/staticlib/libinterface.a, which `rt staticlib interface` makes.
+ *
+ * Every slice is a pointer, which is not null even where the slice is empty, and a count of bytes. A slice that is written may not overlap
+ * another. The functions keep no pointer, hold nothing between calls, take no memory but the stack's, and call only memcpy and memset.
+ * Words are eight bytes, the lowest first; so are the numbers of an answer.
+ *
+ * Both return document 01's number, which is also the first number of the answer:
+ *   0 accepted          1 torn record     2 unknown work      3 bad register    4 bad place
+ *   5 missing constant  6 barred operand  7 listing full      8 wrong setup     9 stray jump
+ * Lowering never gives 9; playing never gives 6 or 7.
+ */
+#ifndef TULIPCRICKET_H
+#define TULIPCRICKET_H
+
+#include <stddef.h>
+#include <stdint.h>
+
+#ifdef __cplusplus
+extern "C" {
+#endif
+
+enum {
+    TULIPCRICKET_SHEET_LIMIT = 16384,    /* bytes of a sheet */
+    TULIPCRICKET_LISTING_LIMIT = 65536,  /* bytes of a listing */
+    TULIPCRICKET_CONSTANTS = 2048,       /* bytes of the constants: 256 words */
+    TULIPCRICKET_STORE = 12816,          /* bytes of a store: 1,602 words */
+    TULIPCRICKET_LOWER_ANSWER = 128,
+    TULIPCRICKET_PLAY_ANSWER = 24
+};
+
+/* Lowers a sheet to a listing and its constants.
+ *
+ * sheet      up to 16,384 bytes: header (69 bytes), constants (12 bytes each, at most 251), instructions.
+ * listing    the room for the listing, up to 65,536 bytes.
+ * constants  2,048 bytes.
+ * answer     128 bytes:
+ *              0  number
+ *              8  index: of the refused instruction; accepted, the count of instructions
+ *             16  bytes of the listing written
+ *             24  count of constants
+ *             32  32 bytes, 1 where the sheet's register of that number (30 Ret, 31 Temp) is recorded as real, else 0
+ *             64  64 bytes of the places recorded as real, as in a header: bit i mod 8 of byte i div 8 for Stack i, then Param
+ *
+ * Refused by 1 to 7: the listing and the constants of the instructions before the refused one are written, and the answer is theirs.
+ * Bytes of the listing past those written, and constants past those counted, are always as lent.
+ * Refused by 8: listing and constants are as lent, and the answer is 8 and zeros; but where the answer is not 128 bytes, or the
+ * constants are no whole number of words, the answer is as lent too. */
+uint32_t tulipcricket_lower(const uint8_t *sheet, size_t sheet_len, uint8_t *listing, size_t listing_len,
+                            uint8_t *constants, size_t constants_len, uint8_t *answer, size_t answer_len);
+
+/* Plays a listing on a store, from the record `start` on.
+ *
+ * listing    up to 65,536 bytes.
+ * constants  up to 256 words.
+ * store      12,816 bytes: registers 0 to 63, Ret, Temp, a word each; then 256 places each of Stack, Mem and Param, two words each,
+ *            real and imaginary. Real word of place i of class c (0, 1, 2): word 66 + 512 * c + 2 * i.
+ * answer     24 bytes:
+ *              0  number
+ *              8  index: of the refused record; accepted, the count of records
+ *             16  records played
+ *
+ * Refused: the store is as lent and 0 records are played. By 8 the index is 0; but where the answer is not 24 bytes, or the constants
+ * are no whole number of words, the answer is as lent too. */
+uint32_t tulipcricket_play(const uint8_t *listing, size_t listing_len, const uint8_t *constants, size_t constants_len,
+                           uint8_t *store, size_t store_len, uint64_t start, uint8_t *answer, size_t answer_len);
+
+#ifdef __cplusplus
+}
+#endif
+
+#endif

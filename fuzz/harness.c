@@ -1,0 +1,332 @@
+/* libFuzzer's entry: cuts an input, calls the C functions on lent slices, and aborts on a breach of what c/tulipcricket.h says. */
+#include <stdio.h>
+#include <stdlib.h>
+#include <string.h>
+
+#include "../c/tulipcricket.h"
+#include "records.h"
+
+#if defined(__has_feature)
+#if __has_feature(address_sanitizer)
+#include <sanitizer/asan_interface.h>
+#endif
+#endif
+#ifndef ASAN_POISON_MEMORY_REGION
+#define ASAN_POISON_MEMORY_REGION(at, length) ((void)(at), (void)(length))
+#define ASAN_UNPOISON_MEMORY_REGION(at, length) ((void)(at), (void)(length))
+#endif
+
+#define HOLDS(fact) ((fact) ? (void)0 : breach(#fact, __LINE__))
+
+static void breach(const char *fact, int line) {
+    fprintf(stderr, "breach at line %d: %s\n", line, fact);
+    abort();
+}
+
+enum { GUARD = 64, ROOM = 65544, WORDS = TULIPCRICKET_STORE / 8 };
+
+/* A lent slice of `length` bytes after GUARD bytes; the bytes around it are not to be touched. */
+typedef struct {
+    _Alignas(16) uint8_t bytes[GUARD + ROOM + GUARD];
+    uint8_t *at;
+    size_t length;
+} Lent;
+
+static int filled(const uint8_t *at, size_t length, uint8_t byte) {
+    return length == 0 || (at[0] == byte && memcmp(at, at + 1, length - 1) == 0);
+}
+
+static void lend(Lent *lent, size_t length, uint8_t fill) {
+    lent->at = lent->bytes + GUARD;
+    lent->length = least(length, ROOM);
+    memset(lent->bytes, (uint8_t)~fill, GUARD);
+    memset(lent->at, fill, lent->length);
+    memset(lent->at + lent->length, (uint8_t)~fill, GUARD);
+    ASAN_POISON_MEMORY_REGION(lent->bytes, GUARD);
+    ASAN_POISON_MEMORY_REGION(lent->at + lent->length, ROOM - lent->length + GUARD);
+}
+
+static void lend_copy(Lent *lent, const uint8_t *from, size_t length, uint8_t fill) {
+    lend(lent, length, fill);
+    if (length > 0) memcpy(lent->at, from, lent->length);
+}
+
+/* Takes a slice back: the bytes around it are as they were. */
+static void take_back(Lent *lent, uint8_t fill) {
+    ASAN_UNPOISON_MEMORY_REGION(lent->bytes, sizeof lent->bytes);
+    HOLDS(filled(lent->bytes, GUARD, (uint8_t)~fill));
+    HOLDS(filled(lent->at + lent->length, GUARD, (uint8_t)~fill));
+}
+
+static int same(const Lent *lent, const uint8_t *bytes) {
+    return lent->length == 0 || memcmp(lent->at, bytes, lent->length) == 0;
+}
+
+/* Lowering */
+
+typedef struct {
+    Lent sheet, listing, constants, answer;
+    uint32_t number;
+} Lowering;
+
+static void lower(Lowering *l, const uint8_t *sheet, const size_t lengths[4], uint8_t fill) {
+    lend_copy(&l->sheet, sheet, lengths[0], fill);
+    lend(&l->listing, lengths[1], fill);
+    lend(&l->constants, lengths[2], fill);
+    lend(&l->answer, lengths[3], fill);
+    l->number = tulipcricket_lower(l->sheet.at, l->sheet.length, l->listing.at, l->listing.length, l->constants.at,
+                                   l->constants.length, l->answer.at, l->answer.length);
+    take_back(&l->sheet, fill);
+    take_back(&l->listing, fill);
+    take_back(&l->constants, fill);
+    take_back(&l->answer, fill);
+    HOLDS(l->number <= 8);
+    HOLDS(same(&l->sheet, sheet));
+}
+
+/* The sheet's own constants, or -1 where its header or its constants are refused by 8. */
+static int own_constants(const uint8_t *sheet, size_t length) {
+    if (length > TULIPCRICKET_SHEET_LIMIT || length < HEADER_LENGTH) return -1;
+    if (two(sheet) != HEADER_LENGTH || two(sheet + 2) != HEADER || sheet[4] > 1) return -1;
+    size_t at = HEADER_LENGTH;
+    int count = 0;
+    for (; length - at >= 4 && two(sheet + at + 2) == CONSTANT; at += CONSTANT_LENGTH, count++)
+        if (count == 251 || two(sheet + at) != CONSTANT_LENGTH || length - at < CONSTANT_LENGTH) return -1;
+    return count;
+}
+
+/* The readable records from `at` on. */
+static size_t records_from(const uint8_t *bytes, size_t length, size_t at) {
+    size_t count = 0;
+    for (size_t next; (next = readable(bytes + at, length - at)) > 0; at += next) count++;
+    return count;
+}
+
+static void refused_setup(const Lowering *l, uint8_t fill) {
+    HOLDS(l->number == 8);
+    HOLDS(filled(l->listing.at, l->listing.length, fill));
+    HOLDS(filled(l->constants.at, l->constants.length, fill));
+    if (l->answer.length != TULIPCRICKET_LOWER_ANSWER || l->constants.length % 8 != 0) {
+        HOLDS(filled(l->answer.at, l->answer.length, fill));
+    } else {
+        HOLDS(word_at(l->answer.at) == 8);
+        HOLDS(filled(l->answer.at + 8, l->answer.length - 8, 0));
+    }
+}
+
+/* What holds of every answer whose setup was not refused. */
+static void answered(const Lowering *l, int own, uint8_t fill) {
+    const uint8_t *answer = l->answer.at, *sheet = l->sheet.at;
+    uint64_t written = word_at(answer + 16), count = word_at(answer + 24);
+    size_t start = HEADER_LENGTH + (size_t)own * CONSTANT_LENGTH;
+    size_t readable_ones = records_from(sheet, l->sheet.length, start);
+    HOLDS(l->number != 8 && word_at(answer) == l->number);
+    HOLDS(l->number == 0 ? word_at(answer + 8) == readable_ones : word_at(answer + 8) <= readable_ones);
+    HOLDS(written <= l->listing.length && count >= (uint64_t)own && count <= (uint64_t)own + 5);
+    HOLDS(sheet[4] == 1 || count == (uint64_t)own);
+    HOLDS(filled(l->listing.at + written, l->listing.length - written, fill));
+    HOLDS(filled(l->constants.at + 8 * count, l->constants.length - 8 * count, fill));
+    for (int i = 0; i < own; i++)
+        HOLDS(memcmp(l->constants.at + 8 * i, sheet + HEADER_LENGTH + i * CONSTANT_LENGTH + 4, 8) == 0);
+    for (int i = 32; i < 64; i++) HOLDS(answer[i] <= 1);
+    for (int i = 0; i < 32; i++) HOLDS((answer[64 + i] & ~sheet[5 + i]) == 0);
+    HOLDS(memcmp(answer + 96, sheet + 37, 32) == 0);
+}
+
+/* In all the room: no refusal by 7 before the one given, the same bytes and constants as far as both were written. */
+static void agrees(const Lowering *l, const Lowering *whole) {
+    const uint8_t *answer = l->answer.at, *other = whole->answer.at;
+    HOLDS(l->number == 7 || memcmp(answer, other, TULIPCRICKET_LOWER_ANSWER) == 0);
+    HOLDS(word_at(answer + 8) <= word_at(other + 8));
+    HOLDS(word_at(answer + 16) <= word_at(other + 16) && word_at(answer + 24) <= word_at(other + 24));
+    HOLDS(memcmp(l->listing.at, whole->listing.at, word_at(answer + 16)) == 0);
+    HOLDS(memcmp(l->constants.at, whole->constants.at, 8 * word_at(answer + 24)) == 0);
+}
+
+/* Playing */
+
+typedef struct {
+    Lent listing, constants, store, answer;
+    uint32_t number;
+} Play;
+
+static void play(Play *p, const uint8_t *slices[3], const size_t lengths[4], uint64_t start, uint8_t fill) {
+    lend_copy(&p->listing, slices[0], lengths[0], fill);
+    lend_copy(&p->constants, slices[1], lengths[1], fill);
+    lend_copy(&p->store, slices[2], lengths[2], fill);
+    lend(&p->answer, lengths[3], fill);
+    p->number = tulipcricket_play(p->listing.at, p->listing.length, p->constants.at, p->constants.length, p->store.at,
+                                  p->store.length, start, p->answer.at, p->answer.length);
+    take_back(&p->listing, fill);
+    take_back(&p->constants, fill);
+    take_back(&p->store, fill);
+    take_back(&p->answer, fill);
+    HOLDS(p->number <= 9 && p->number != 6 && p->number != 7);
+    HOLDS(same(&p->listing, slices[0]) && same(&p->constants, slices[1]));
+}
+
+static void refused_play(const Play *p, const uint8_t *store, uint8_t fill, int setup) {
+    HOLDS(p->number != 0 && (p->number == 8) == setup);
+    HOLDS(same(&p->store, store));
+    if (p->answer.length != TULIPCRICKET_PLAY_ANSWER || p->constants.length % 8 != 0) {
+        HOLDS(filled(p->answer.at, p->answer.length, fill));
+        return;
+    }
+    HOLDS(word_at(p->answer.at) == p->number && word_at(p->answer.at + 16) == 0);
+    HOLDS(!setup || word_at(p->answer.at + 8) == 0);
+}
+
+/* Records, calls, and records of the block from Label 1 to its Branch 0. */
+typedef struct {
+    uint64_t records, calls, block;
+} Shape;
+
+static Shape shape_of(const uint8_t *listing, size_t length) {
+    Shape shape = {0, 0, 0};
+    int inside = 0, ended = 0;
+    for (size_t at = 0, next; (next = readable(listing + at, length - at)) > 0; at += next) {
+        size_t kind = two(listing + at + 2);
+        shape.records++;
+        shape.calls += kind == 16;
+        inside |= kind == 14 && listing[at + 4] == 1 && !ended;
+        shape.block += inside;
+        if (inside && kind == 15 && listing[at + 4] == 0) inside = 0, ended = 1;
+    }
+    return shape;
+}
+
+static size_t place(const uint8_t *at) { return 66 + 512 * (size_t)at[0] + 2 * two(at + 1); }
+
+/* Marks the words that an accepted record may write. */
+static void mark(uint8_t marks[WORDS], const uint8_t *record) {
+    const uint8_t *fields = record + 4;
+    switch (two(record + 2)) {
+    case 1: case 2: case 7: marks[fields[1]] = 1; break;
+    case 3: case 4: case 6: case 8: marks[fields[0]] = 1; break;
+    case 5: marks[place(fields + 1)] = 1; break;
+    case 11: marks[fields[0]] = marks[fields[1]] = 1; break;
+    case 12: marks[place(fields + 2)] = marks[place(fields + 2) + 1] = 1; break;
+    case 13: marks[fields[1]] = marks[fields[2]] = 1; break;
+    }
+}
+
+/* Words that no record writes are as lent. */
+static void others_kept(const Play *p, const uint8_t *store) {
+    uint8_t marks[WORDS] = {0};
+    const Lent *l = &p->listing;
+    for (size_t at = 0, next; (next = readable(l->at + at, l->length - at)) > 0; at += next) mark(marks, l->at + at);
+    for (size_t i = 0; i < WORDS; i++) HOLDS(marks[i] || word_at(p->store.at + 8 * i) == word_at(store + 8 * i));
+}
+
+static void accepted_play(const Play *p, const uint8_t *store, uint64_t start) {
+    Shape shape = shape_of(p->listing.at, p->listing.length);
+    uint64_t played = word_at(p->answer.at + 16);
+    HOLDS(word_at(p->answer.at) == 0 && word_at(p->answer.at + 8) == shape.records);
+    HOLDS(start <= shape.records && played <= shape.records + shape.calls * shape.block);
+    HOLDS(start < shape.records ? played >= 1 : played == 0);
+    others_kept(p, store);
+}
+
+/* Plays twice, around other bytes: the same answer and store, and what holds of every play. */
+static uint32_t check_play(const uint8_t *slices[3], const size_t lengths[4], uint64_t start) {
+    static Play first, second;
+    play(&first, slices, lengths, start, 0xa5);
+    play(&second, slices, lengths, start, 0x5a);
+    int setup = lengths[0] > TULIPCRICKET_LISTING_LIMIT || lengths[1] > TULIPCRICKET_CONSTANTS || lengths[1] % 8 != 0 ||
+                lengths[2] != TULIPCRICKET_STORE || lengths[3] != TULIPCRICKET_PLAY_ANSWER;
+    if (first.number == 0) {
+        HOLDS(!setup);
+        accepted_play(&first, slices[2], start);
+    } else {
+        refused_play(&first, slices[2], 0xa5, setup);
+        refused_play(&second, slices[2], 0x5a, setup);
+    }
+    HOLDS(first.number == second.number && same(&first.store, second.store.at));
+    HOLDS(first.number == 8 || same(&first.answer, second.answer.at));
+    return first.number;
+}
+
+/* What was listed is played from record 0. */
+static void is_played(const Lowering *l) {
+    static uint8_t store[TULIPCRICKET_STORE];
+    const uint8_t *slices[3] = {l->listing.at, l->constants.at, store};
+    size_t lengths[4] = {word_at(l->answer.at + 16), 8 * word_at(l->answer.at + 24), sizeof store, TULIPCRICKET_PLAY_ANSWER};
+    for (size_t i = 0; i < sizeof store; i++) store[i] = (uint8_t)(i % 8 == 7 ? 0x3f : i * 37);
+    HOLDS(check_play(slices, lengths, 0) == 0);
+}
+
+/* Cutting an input */
+
+/* A length that is right but for one byte in 16. */
+static size_t lent_length(uint8_t byte, unsigned of, size_t right, size_t unit) {
+    if (byte < 240 || byte % 4 != of) return right;
+    switch (byte / 4 % 4) {
+    case 0: return right - unit;
+    case 1: return right + unit;
+    case 2: return right + 1;
+    default: return 0;
+    }
+}
+
+static size_t room(size_t number) { return number == 0xffff ? 65536 : number == 0xfffe ? 65537 : number; }
+
+static void fuzz_lower(const uint8_t *data, size_t size) {
+    static Lowering small, whole;
+    size_t lengths[4] = {least(size - LOWER_HEAD, TULIPCRICKET_SHEET_LIMIT + 1), room(two(data + 2)),
+                         lent_length(data[1], 0, TULIPCRICKET_CONSTANTS, 8),
+                         lent_length(data[1], 1, TULIPCRICKET_LOWER_ANSWER, 8)};
+    lower(&small, data + LOWER_HEAD, lengths, 0xa5);
+    int own = own_constants(small.sheet.at, small.sheet.length);
+    if (own < 0 || lengths[1] > TULIPCRICKET_LISTING_LIMIT || lengths[2] != TULIPCRICKET_CONSTANTS ||
+        lengths[3] != TULIPCRICKET_LOWER_ANSWER) {
+        refused_setup(&small, 0xa5);
+        return;
+    }
+    answered(&small, own, 0xa5);
+    lengths[1] = TULIPCRICKET_LISTING_LIMIT;
+    lower(&whole, data + LOWER_HEAD, lengths, 0x5a);
+    answered(&whole, own, 0x5a);
+    agrees(&small, &whole);
+    if (small.number == 7) is_played(&small);
+    is_played(&whole);
+}
+
+/* The store's words: all one word, then those of the input, each after its index. */
+static void fill_store(uint8_t store[TULIPCRICKET_STORE + 8], const uint8_t *fill, const uint8_t *sets, size_t size) {
+    for (size_t i = 0; i <= WORDS; i++) memcpy(store + 8 * i, fill, 8);
+    for (; size >= WORD_SET; size -= WORD_SET, sets += WORD_SET) memcpy(store + two(sets) % WORDS * 8, sets + 2, 8);
+}
+
+/* The listing, `times` more often than it stands in the input, as far as one byte over the limit. */
+static size_t repeated(uint8_t listing[ROOM], const uint8_t *from, size_t length, size_t times) {
+    size_t filled_up = 0;
+    for (size_t i = 0; i <= times; i++) {
+        size_t more = least(length, TULIPCRICKET_LISTING_LIMIT + 1 - filled_up);
+        memcpy(listing + filled_up, from, more);
+        filled_up += more;
+    }
+    return filled_up;
+}
+
+static void fuzz_play(const uint8_t *data, size_t size) {
+    static uint8_t listing[ROOM], constants[TULIPCRICKET_CONSTANTS + 16], store[TULIPCRICKET_STORE + 8];
+    const uint8_t *rest = data + PLAY_HEAD;
+    size_t left = size - PLAY_HEAD;
+    size_t words = least(two(data + 4) % 258, left / 8);
+    size_t listed = least(two(data + 6), left - 8 * words);
+    uint64_t start = two(data + 2) == 0xffff ? UINT64_MAX : two(data + 2);
+    memcpy(constants, rest, 8 * words);
+    const uint8_t *slices[3] = {listing, constants, store};
+    size_t lengths[4] = {repeated(listing, rest + 8 * words, listed, data[8]), lent_length(data[1], 2, 8 * words, 8),
+                         lent_length(data[1], 0, TULIPCRICKET_STORE, 8),
+                         lent_length(data[1], 1, TULIPCRICKET_PLAY_ANSWER, 8)};
+    if (lengths[1] > sizeof constants) lengths[1] = 0;
+    fill_store(store, data + 9, rest + 8 * words + listed, left - 8 * words - listed);
+    check_play(slices, lengths, start);
+}
+
+int LLVMFuzzerTestOneInput(const uint8_t *data, size_t size) {
+    if (size >= LOWER_HEAD && data[0] % 2 == 0) fuzz_lower(data, size);
+    if (size >= PLAY_HEAD && data[0] % 2 == 1) fuzz_play(data, size);
+    return 0;
+}

@@ -1,0 +1,196 @@
+//! Times lowering beside the Rust's `complexify` and playing beside the independent player, by size and mode, on the same inputs in one
+//! run. Usage: speed [ROUNDS] [SEED]. A figure is that of the fastest round; the rounds of both sides alternate.
+
+use std::hint::black_box;
+use std::time::Instant;
+
+use oracle::format::*;
+use oracle::names::{bi, uni};
+use oracle::random::{parts, Rng};
+use oracle::reference::{complexify, decode, lower, real_set};
+use oracle::rust::complexify::Complexifier;
+use oracle::rust::config::Config;
+use oracle::rust::mir::Instruction;
+use oracle::{ffi, make, player};
+
+/// Instructions of a sheet, and how many sheets are timed together; `None` is as many as 16,384 bytes hold.
+const SIZES: [(Option<usize>, usize); 5] = [(Some(1), 128), (Some(10), 32), (Some(100), 8), (Some(612), 2), (None, 1)];
+
+fn mode(stable: bool) -> &'static str {
+    if stable {
+        "stable"
+    } else {
+        "plain"
+    }
+}
+
+/// Seconds of the fastest round of each of two works, which take turns.
+fn fastest(rounds: u64, mut one: impl FnMut(), mut other: impl FnMut()) -> [f64; 2] {
+    let time = |work: &mut dyn FnMut()| {
+        let start = Instant::now();
+        work();
+        start.elapsed().as_secs_f64()
+    };
+    let mut least = [f64::INFINITY; 2];
+    for _ in 0..rounds {
+        least = [least[0].min(time(&mut one)), least[1].min(time(&mut other))];
+    }
+    least
+}
+
+/// A row: size, mode, and millions per second of both sides for so much work.
+fn row(name: &str, stable: bool, work: usize, [rust, ours]: [f64; 2]) {
+    let millions = |seconds: f64| work as f64 / seconds / 1e6;
+    println!("| {name} | {} | {:.1} | {:.1} | {:.2} |", mode(stable), millions(rust), millions(ours), rust / ours);
+}
+
+fn accepted(sheet: &[u8]) -> bool {
+    lower(sheet, &mut vec![0; LISTING_LIMIT], &mut [0; TABLE]).number == 0
+}
+
+/// A random sheet of this mode and size that is accepted and has at most five constants.
+fn random_sheet(rng: &mut Rng, stable: bool, size: Option<usize>) -> Vec<u8> {
+    loop {
+        let parts = parts(rng, size.unwrap_or(SHEET_LIMIT / 4));
+        let sheet = parts.sheet();
+        let wanted = parts.head.len() <= HEADER_LENGTH + 5 * CONSTANT_LENGTH && sheet[4] == stable as u8;
+        if wanted && accepted(&sheet) {
+            return sheet;
+        }
+    }
+}
+
+/// A sheet as the Rust takes it: its real places, constants and instructions.
+struct Decoded {
+    sheet: Vec<u8>,
+    constants: Vec<u64>,
+    instructions: Vec<Instruction>,
+}
+
+fn decoded(sheet: Vec<u8>) -> Decoded {
+    let row = records(&sheet[HEADER_LENGTH..]);
+    let own = row.iter().take_while(|r| two(r, 2) == CONSTANT).count();
+    let constants = row[..own].iter().map(|r| word(r, 4)).collect();
+    let instructions = row[own..].iter().map(|r| decode(r, own).unwrap().0).collect();
+    Decoded { sheet, constants, instructions }
+}
+
+fn size_name(size: Option<usize>, found: usize) -> String {
+    size.map_or(format!("{found} (longest)"), |n| n.to_string())
+}
+
+/// The Rust from its own instructions to its own `Mir`; ours from the sheet's bytes to the listing's.
+fn lowering(rounds: u64, stable: bool, size: Option<usize>, sheets: &[Decoded]) {
+    let work: usize = sheets.iter().map(|d| d.instructions.len()).sum();
+    let reals: Vec<_> = sheets.iter().map(|d| real_set(&d.sheet[5..69].try_into().unwrap())).collect();
+    let unchanged = || {
+        for (d, reals) in sheets.iter().zip(&reals) {
+            let mut complexifier = Complexifier::new(reals, Config::with_mode(stable));
+            black_box(complexify(&mut complexifier, stable, &d.constants, &d.instructions));
+        }
+    };
+    let (mut listing, mut constants, mut answer) = (vec![0; LISTING_LIMIT], vec![0; 8 * TABLE], vec![0; 128]);
+    let ours = || {
+        for d in sheets {
+            black_box(ffi::lower(&d.sheet, &mut listing, &mut constants, &mut answer));
+        }
+    };
+    row(&size_name(size, work), stable, work, fastest(rounds, unchanged, ours));
+}
+
+/// Sums, differences and products over the general registers, with fresh loads that keep the values in range, and saves; every tenth
+/// instruction, and the only one of a sheet of one, is `other`.
+fn calm_sheet(stable: bool, size: Option<usize>, other: impl Fn(u8, u8, u8) -> Vec<u8>) -> Vec<u8> {
+    let mut sheet = make::sheet(stable, &[0; 64], &[], &[]);
+    for i in 0..size.unwrap_or(SHEET_LIMIT) {
+        let (a, b, d) = ((i * 7 % 28) as u8, (i * 11 % 28) as u8, (i * 5 % 28) as u8);
+        let record = match i % 10 {
+            0 => other(d, a, b),
+            1 | 3 | 6 => make::load(d, MEM, (i % 200) as u16),
+            2 | 8 => make::bi(bi::PLUS, d, a, b),
+            4 => make::bi(bi::TIMES, d, a, b),
+            5 => make::bi(bi::MINUS, d, a, b),
+            7 => make::uni(uni::NEG, d, a),
+            _ => make::save(a, STACK, (100 + i % 100) as u16),
+        };
+        if sheet.len() + record.len() > SHEET_LIMIT {
+            break;
+        }
+        sheet.extend(record);
+    }
+    sheet
+}
+
+fn to_bytes(words: &[u64]) -> Vec<u8> {
+    words.iter().flat_map(|w| w.to_le_bytes()).collect()
+}
+
+/// Both players on the listing of a sheet, `times` in a round; each play is on a fresh store.
+fn playing(rounds: u64, name: &str, stable: bool, times: usize, sheet: &[u8]) -> Vec<u8> {
+    let (mut listing, mut table) = (vec![0; LISTING_LIMIT], vec![0; TABLE]);
+    let answer = lower(sheet, &mut listing, &mut table);
+    assert_eq!(answer.number, 0);
+    listing.truncate(answer.written as usize);
+    table.truncate(answer.count as usize);
+    let words: Vec<u64> = (0..STORE).map(|i| (1.0 + i as f64 / 977.0).to_bits()).collect();
+    let (bytes, constants) = (to_bytes(&words), to_bytes(&table));
+    let (mut store, mut lent, mut given) = (words.clone(), bytes.clone(), vec![0; 24]);
+    let played = player::play(&listing, &table, &mut store, 0).played as usize;
+    let independent = || {
+        for _ in 0..times {
+            store.copy_from_slice(&words);
+            black_box(player::play(&listing, &table, &mut store, 0));
+        }
+    };
+    let ours = || {
+        for _ in 0..times {
+            lent.copy_from_slice(&bytes);
+            black_box(ffi::play(&listing, &constants, &mut lent, 0, &mut given));
+        }
+    };
+    let seconds = fastest(rounds, independent, ours);
+    row(&format!("{name} | {played}"), stable, played * times, seconds);
+    listing
+}
+
+/// Whether a listing has a Root or a MulAdd.
+fn roots_or_fuses(listing: &[u8]) -> bool {
+    records(listing).iter().any(|r| two(r, 2) == 7 || two(r, 2) == 1 && r[4] == uni::ROOT)
+}
+
+fn main() {
+    let mut words = std::env::args().skip(1).map(|w| w.parse::<u64>().expect("a number"));
+    let rounds = words.next().unwrap_or(200);
+    let mut rng = Rng(words.next().unwrap_or(1));
+
+    println!("Lowering: random sheets of every instruction, millions of instructions per second\n");
+    println!(
+        "| Instructions | Mode | `complexify` of the unchanged Rust | `tulipcricket_lower` | Ours to the Rust's |"
+    );
+    println!("|---|---|---|---|---|");
+    for (size, times) in SIZES {
+        for stable in [false, true] {
+            let sheets: Vec<_> = (0..times).map(|_| decoded(random_sheet(&mut rng, stable, size))).collect();
+            lowering(rounds, stable, size, &sheets);
+        }
+    }
+
+    println!("\nPlaying: every tenth instruction as named, millions of records per second\n");
+    println!(
+        "| Instructions | Every tenth | Records | Mode | `player.rs` | `tulipcricket_play` | Ours to `player.rs` |"
+    );
+    println!("|---|---|---|---|---|---|---|");
+    for (size, times) in SIZES {
+        for stable in [false, true] {
+            let sheet = calm_sheet(stable, size, |d, a, b| make::bi(bi::DIVIDE, d, a, b));
+            let name = size_name(size, records(&sheet).len() - 1) + " | Divide";
+            assert!(!roots_or_fuses(&playing(rounds, &name, stable, times, &sheet)));
+        }
+    }
+    for (op, name) in [(uni::RECIP, "612 | Recip (MulAdd)"), (uni::ROOT, "612 | Root")] {
+        for stable in [false, true] {
+            let sheet = calm_sheet(stable, Some(612), |d, a, _| make::uni(op, d, a));
+            assert!(roots_or_fuses(&playing(rounds, name, stable, 2, &sheet)));
+        }
+    }
+}

@@ -1,0 +1,17 @@
+//! Lowers document 01's sheet on paper (Mem 4 = 2 * Mem 3) and plays it on Mem 3 = 3 + 4i.
+
+use tulipcricket::sheet::{Bi, Sheet};
+use tulipcricket::{lower, play, Class, Refused, Store, LISTING_LIMIT};
+
+fn main() -> Result<(), Refused> {
+    let mut sheet = Sheet::new(false);
+    let two = sheet.constant(2.0);
+    sheet.load_const(0, two).load(1, Class::Mem, 3).bi(Bi::Times, 0, 0, 1).save(0, Class::Mem, 4);
+    let lowered = lower(&sheet.bytes(), LISTING_LIMIT)?;
+    let mut store = Store::new();
+    store.set_place(Class::Mem, 3, (3.0, 4.0));
+    let answer = play(&lowered.listing, &lowered.constants, &mut store, 0)?;
+    let (real, imaginary) = store.place(Class::Mem, 4);
+    println!("Mem 4 = {real} + {imaginary}i after {} records", answer.played);
+    Ok(())
+}

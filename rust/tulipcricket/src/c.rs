@@ -1,0 +1,63 @@
+//! The C functions over slices.
+
+mod raw {
+    extern "C" {
+        pub fn tulipcricket_lower(
+            sheet: *const u8,
+            sheet_len: usize,
+            listing: *mut u8,
+            listing_len: usize,
+            constants: *mut u8,
+            constants_len: usize,
+            answer: *mut u8,
+            answer_len: usize,
+        ) -> u32;
+
+        pub fn tulipcricket_play(
+            listing: *const u8,
+            listing_len: usize,
+            constants: *const u8,
+            constants_len: usize,
+            store: *mut u8,
+            store_len: usize,
+            start: u64,
+            answer: *mut u8,
+            answer_len: usize,
+        ) -> u32;
+    }
+}
+
+/// `tulipcricket_lower`; the number it returns.
+pub fn lower(sheet: &[u8], listing: &mut [u8], constants: &mut [u8; 2048], answer: &mut [u8; 128]) -> u32 {
+    // SAFETY: each pointer comes with the length of the slice it was taken from, and the function keeps none.
+    unsafe {
+        raw::tulipcricket_lower(
+            sheet.as_ptr(),
+            sheet.len(),
+            listing.as_mut_ptr(),
+            listing.len(),
+            constants.as_mut_ptr(),
+            constants.len(),
+            answer.as_mut_ptr(),
+            answer.len(),
+        )
+    }
+}
+
+/// `tulipcricket_play`; the number it returns.
+pub fn play(listing: &[u8], constants: &[u8], store: &mut [u8], start: u64, answer: &mut [u8; 24]) -> u32 {
+    // SAFETY: each pointer comes with the length of the slice it was taken from, and the function keeps none.
+    unsafe {
+        raw::tulipcricket_play(
+            listing.as_ptr(),
+            listing.len(),
+            constants.as_ptr(),
+            constants.len(),
+            store.as_mut_ptr(),
+            store.len(),
+            start,
+            answer.as_mut_ptr(),
+            answer.len(),
+        )
+    }
+}

@@ -1,0 +1,164 @@
+//! Tulipcricket from Rust: `lower` a sheet to a listing, `play` the listing on a store. The C functions that do the work are proved;
+//! this wrapper, which lends them slices of the right lengths, is not.
+//!
+//! The library is `libinterface.a`, which `rt staticlib interface` makes; see build.rs for where it is looked for.
+
+mod c;
+pub mod sheet;
+
+/// Bytes of the longest listing; the room to ask for where it does not matter.
+pub const LISTING_LIMIT: usize = 65_536;
+const TABLE: usize = 256;
+const WORDS: usize = 1_602;
+
+/// Document 01's refusals, by their numbers.
+#[derive(Clone, Copy, Debug, PartialEq, Eq)]
+pub enum Why {
+    TornRecord = 1,
+    UnknownWork = 2,
+    BadRegister = 3,
+    BadPlace = 4,
+    MissingConstant = 5,
+    BarredOperand = 6,
+    ListingFull = 7,
+    WrongSetup = 8,
+    StrayJump = 9,
+}
+
+/// Why the work was refused, and at which instruction or record.
+#[derive(Clone, Copy, Debug, PartialEq, Eq)]
+pub struct Refused {
+    pub why: Why,
+    pub index: u64,
+}
+
+impl std::fmt::Display for Refused {
+    fn fmt(&self, f: &mut std::fmt::Formatter<'_>) -> std::fmt::Result {
+        write!(f, "refused {} {} ({:?})", self.why as u8, self.index, self.why)
+    }
+}
+
+impl std::error::Error for Refused {}
+
+/// `Ok` for 0, else the refusal of that number.
+fn accepted(number: u32, index: u64) -> Result<(), Refused> {
+    let why = match number {
+        0 => return Ok(()),
+        1 => Why::TornRecord,
+        2 => Why::UnknownWork,
+        3 => Why::BadRegister,
+        4 => Why::BadPlace,
+        5 => Why::MissingConstant,
+        6 => Why::BarredOperand,
+        7 => Why::ListingFull,
+        8 => Why::WrongSetup,
+        _ => Why::StrayJump,
+    };
+    Err(Refused { why, index })
+}
+
+/// What an accepted sheet is lowered to.
+#[derive(Clone, Debug, PartialEq, Eq)]
+pub struct Lowered {
+    pub listing: Vec<u8>,
+    pub constants: Vec<u64>,
+    /// Instructions of the sheet.
+    pub instructions: u64,
+    /// Whether a sheet's register is recorded as real at the end, by its number (30 Ret, 31 Temp).
+    pub real_registers: [bool; 32],
+    /// The places recorded as real at the end, as in a header.
+    pub real_places: [u8; 64],
+}
+
+/// Eight bytes of an answer as a number.
+fn number(bytes: &[u8], at: usize) -> u64 {
+    u64::from_le_bytes(bytes[at..at + 8].try_into().expect("eight bytes"))
+}
+
+fn to_bytes(words: &[u64]) -> Vec<u8> {
+    words.iter().flat_map(|w| w.to_le_bytes()).collect()
+}
+
+/// Lowers a sheet to a listing of at most `room` bytes. What was listed before a refusal is dropped.
+pub fn lower(sheet: &[u8], room: usize) -> Result<Lowered, Refused> {
+    let (mut listing, mut table, mut answer) = (vec![0; room], [0; 8 * TABLE], [0; 128]);
+    let refusal = c::lower(sheet, &mut listing, &mut table, &mut answer);
+    accepted(refusal, number(&answer, 8))?;
+    listing.truncate(number(&answer, 16) as usize);
+    Ok(Lowered {
+        listing,
+        constants: (0..number(&answer, 24) as usize).map(|i| number(&table, 8 * i)).collect(),
+        instructions: number(&answer, 8),
+        real_registers: std::array::from_fn(|i| answer[32 + i] == 1),
+        real_places: answer[64..].try_into().expect("64 bytes"),
+    })
+}
+
+/// What an accepted play gives back.
+#[derive(Clone, Copy, Debug, PartialEq, Eq)]
+pub struct Played {
+    /// Records of the listing.
+    pub records: u64,
+    /// Records played.
+    pub played: u64,
+}
+
+/// Plays a listing with its constants on a store, from the record `start` on. A refused play leaves the store.
+pub fn play(listing: &[u8], constants: &[u64], store: &mut Store, start: u64) -> Result<Played, Refused> {
+    let mut answer = [0; 24];
+    let refusal = c::play(listing, &to_bytes(constants), &mut store.bytes, start, &mut answer);
+    accepted(refusal, number(&answer, 8))?;
+    Ok(Played { records: number(&answer, 8), played: number(&answer, 16) })
+}
+
+/// Classes of places.
+#[derive(Clone, Copy, Debug, PartialEq, Eq)]
+pub enum Class {
+    Stack = 0,
+    Mem = 1,
+    Param = 2,
+}
+
+/// A store: 66 registers and 256 places of each class, all words 0 at first.
+#[derive(Clone, Debug, PartialEq, Eq)]
+pub struct Store {
+    bytes: Vec<u8>,
+}
+
+impl Default for Store {
+    fn default() -> Store {
+        Store::new()
+    }
+}
+
+impl Store {
+    pub fn new() -> Store {
+        Store { bytes: vec![0; 8 * WORDS] }
+    }
+
+    /// The word at an index of the store, below 1,602: registers first, then pairs of Stack, Mem, Param.
+    pub fn word(&self, index: usize) -> u64 {
+        number(&self.bytes, 8 * index)
+    }
+
+    pub fn set_word(&mut self, index: usize, word: u64) {
+        self.bytes[8 * index..8 * index + 8].copy_from_slice(&word.to_le_bytes());
+    }
+
+    /// Real and imaginary part of a place.
+    pub fn place(&self, class: Class, index: u8) -> (f64, f64) {
+        let at = word_of(class, index);
+        (f64::from_bits(self.word(at)), f64::from_bits(self.word(at + 1)))
+    }
+
+    pub fn set_place(&mut self, class: Class, index: u8, (real, imaginary): (f64, f64)) {
+        let at = word_of(class, index);
+        self.set_word(at, real.to_bits());
+        self.set_word(at + 1, imaginary.to_bits());
+    }
+}
+
+/// Where a place's real word stands.
+fn word_of(class: Class, index: u8) -> usize {
+    66 + 512 * class as usize + 2 * index as usize
+}

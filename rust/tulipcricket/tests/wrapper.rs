@@ -1,0 +1,74 @@
+//! The wrapper on document 01's sheet on paper: what it accepts, what it refuses, and what it leaves.
+
+use tulipcricket::sheet::{Bi, Sheet};
+use tulipcricket::{lower, play, Class, Lowered, Refused, Store, Why, LISTING_LIMIT};
+
+fn paper() -> Vec<u8> {
+    let mut sheet = Sheet::new(false);
+    let two = sheet.constant(2.0);
+    sheet.load_const(0, two).load(1, Class::Mem, 3).bi(Bi::Times, 0, 0, 1).save(0, Class::Mem, 4);
+    sheet.bytes()
+}
+
+fn lowered() -> Lowered {
+    lower(&paper(), LISTING_LIMIT).unwrap()
+}
+
+#[test]
+fn the_paper_lists_five_records() {
+    // LoadConst G4 0; LoadComplex G6 G7 Mem 3; Times G5 G4 G7; Times G4 G4 G6; SaveComplex G4 G5 Mem 4.
+    let records: [&[u8]; 5] = [
+        &[7, 0, 6, 0, 4, 0, 0],
+        &[9, 0, 11, 0, 6, 7, 1, 3, 0],
+        &[8, 0, 2, 0, 2, 5, 4, 7],
+        &[8, 0, 2, 0, 2, 4, 4, 6],
+        &[9, 0, 12, 0, 4, 5, 1, 4, 0],
+    ];
+    let found = lowered();
+    assert_eq!(found.listing, records.concat());
+    assert_eq!((found.constants, found.instructions), (vec![0x4000_0000_0000_0000], 4));
+    assert_eq!((found.real_registers, found.real_places), ([false; 32], [0; 64]));
+}
+
+#[test]
+fn forty_bytes_are_refused_by_7_at_3() {
+    assert_eq!(lower(&paper(), 40), Err(Refused { why: Why::ListingFull, index: 3 }));
+    assert_eq!(lower(&paper(), 41).unwrap().listing.len(), 41);
+}
+
+#[test]
+fn wrong_setups_are_refused_by_8() {
+    let setup = Refused { why: Why::WrongSetup, index: 0 };
+    assert_eq!(lower(&[], LISTING_LIMIT), Err(setup));
+    assert_eq!(lower(&paper(), LISTING_LIMIT + 1), Err(setup));
+    assert_eq!(play(&[], &[0; 257], &mut Store::new(), 0), Err(setup));
+}
+
+#[test]
+fn a_real_place_makes_a_real_register() {
+    let mut sheet = Sheet::new(true);
+    sheet.real(Class::Param, 9).load(7, Class::Param, 9).load(8, Class::Param, 8);
+    let found = lower(&sheet.bytes(), LISTING_LIMIT).unwrap();
+    assert_eq!((found.real_registers[7], found.real_registers[8], found.real_places[33]), (true, false, 2));
+}
+
+#[test]
+fn a_play_writes_its_product() {
+    let (found, mut store) = (lowered(), Store::new());
+    store.set_place(Class::Mem, 3, (3.0, 4.0));
+    let answer = play(&found.listing, &found.constants, &mut store, 0).unwrap();
+    assert_eq!((answer.records, answer.played), (5, 5));
+    assert_eq!(store.place(Class::Mem, 4), (6.0, 8.0));
+}
+
+#[test]
+fn a_refused_play_leaves_the_store() {
+    let (found, mut store) = (lowered(), Store::new());
+    store.set_place(Class::Mem, 3, (3.0, 4.0));
+    let before = store.clone();
+    let stray = Refused { why: Why::StrayJump, index: 6 };
+    assert_eq!(play(&found.listing, &found.constants, &mut store, 6), Err(stray));
+    assert_eq!(play(&found.listing, &[], &mut store, 0), Err(Refused { why: Why::MissingConstant, index: 0 }));
+    assert!(store == before);
+    assert_eq!(stray.to_string(), "refused 9 6 (StrayJump)");
+}
