@@ -1,10 +1,9 @@
 -- The instructions that are read from a sheet name registers, places and constants within its limits.
-use Prim.Native.Nat.{ℕ, zero, suc, pred, _+_, _<_}
-use mathlib.Core.Path.{_≡_, refl, ap, subst}
-use mathlib.Core.Bool.{Bool, true, false, cond}
+use Prim.Native.Nat.{ℕ, zero, suc, pred, _<_}
+use mathlib.Core.Path.{_≡_, refl, subst}
+use mathlib.Core.Bool.{false}
 use mathlib.Core.List.{List, [], _∷_}
 use native.Mathlib.Omega.{arith}
-use lib.ListN.{getD}
 use lib.Dec.{ltb, leb, eqb}
 use borrow.Author.Tests.{ltb-false, leb-false}
 use Rattle.mir.specs.declared.records.Loc.{Loc}
@@ -12,7 +11,7 @@ use Rattle.mir.specs.declared.records.Instruction.{Instruction}
 use Rattle.mir.specs.Place.{index}
 use Rattle.mir.specs.Operation.{uniAt, binAt, arithAt, fusedAt, uniTaken, binTaken, arithTaken, fusedTaken}
 use Rattle.mir.specs.Read.{Read, got, refused, registers}
-use Rattle.mir.specs.Field.{byteAt, wordAt, takesKind, headFrom, classed, placeAt, savedTo, savePlace, onStack, condPlace}
+use Rattle.mir.specs.Field.{byteAt, wordAt, takesKind, headFrom, placeAt, savePlace, condPlace}
 use Rattle.mir.specs.Decode.{onto, decodedFrom}
 use Rattle.mir.proofs.Passing.{passed, then, got-same, clash}
 use Rattle.sheet.specs.Takes.{takesUni, takesBin, takesArith, takesFused}
@@ -20,6 +19,7 @@ use Rattle.sheet.specs.Instruction.{uniFrom, biFrom, movFrom, loadFrom, saveFro
 use Rattle.sheet.specs.Instruction.{loadMathFrom, loadConstMathFrom}
 use Rattle.sheet.specs.Instruction.{fieldsFrom, instructionFrom}
 use Rattle.records.proofs.Holding.{Saved, Stacked}
+use Rattle.records.proofs.Held.{by, place-index, save-held, cond-held}
 use Rattle.leftovers.proofs.Held.{All}
 use Rattle.leftovers.proofs.Instructions.{InRange}
 use Rattle.leftovers.proofs.Points.{AllIn}
@@ -37,53 +37,31 @@ lows (x ∷ xs) r a e =
     let h = ltb-false 31 x (p .test) in
     record { low = (omega arith, q .low); rest = q .rest }
 
--- by which branch something was read
-by : {A P : Type 0} (b : Bool) (x y : Read A) (a : A) → cond b x y ≡ got a → (x ≡ got a → P) → (y ≡ got a → P) → P
-by true x y a e f g = f e
-by false x y a e f g = g e
-
 -- places that were not refused
-classed-index : (c w : ℕ) (p : Loc) → classed c w ≡ got p → w ≡ index p
-classed-index c w p e =
-    by (eqb c 0) (got (Loc.Stack w)) _ p e (λ e. ap index (got-same (Loc.Stack w) p e)) (λ e.
-    by (eqb c 1) (got (Loc.Mem w)) _ p e (λ e. ap index (got-same (Loc.Mem w) p e)) (λ e.
-    by (eqb c 2) (got (Loc.Param w)) (refused 4) p e (λ e. ap index (got-same (Loc.Param w) p e)) (λ e. absurd (clash 4 p e))))
-
-place-index : (s : List ℕ) (i : ℕ) (p : Loc) → placeAt s i ≡ got p → index p < 256
-unfolding placeAt
-place-index s i p e =
-    let w = wordAt s (i + 1) in
-    let q = passed (ltb 255 w) 4 (classed (getD s i 0) w) p e in
-    let h = ltb-false 255 w (q .test) in
-    omega (arith, classed-index (getD s i 0) w p (q .rest))
+place-in : (s : List ℕ) (i : ℕ) (p : Loc) → placeAt s i ≡ got p → index p < 256
+place-in s i p e = let h = place-index s i p e in omega arith
 
 abbrev SavedIn : Loc → Type 0
 SavedIn p = (index p < 256) × Saved p
 
-saved-from : (q p : Loc) → index q < 256 → savedTo q ≡ got p → SavedIn p
-saved-from (Loc.Stack n) p h e = subst SavedIn (got-same (Loc.Stack n) p e) (h, omega arith)
-saved-from (Loc.Mem n) p h e = subst SavedIn (got-same (Loc.Mem n) p e) (h, omega arith)
-saved-from (Loc.Param n) p h e = absurd (clash 4 p e)
+saved-in : (p : Loc) → Saved p → SavedIn p
+saved-in (Loc.Stack n) h = (omega arith, h)
+saved-in (Loc.Mem n) h = (omega arith, h)
+saved-in (Loc.Param n) h = absurd h
 
 saved : (s : List ℕ) (i : ℕ) (p : Loc) → savePlace s i ≡ got p → SavedIn p
-unfolding savePlace
-saved s i p e =
-    let t = then (placeAt s i) savedTo p e in
-    saved-from (t .first) p (place-index s i (t .first) (t .found)) (t .rest)
+saved s i p e = saved-in p (save-held s i p e)
 
 abbrev StackedIn : Loc → Type 0
 StackedIn p = (index p < 256) × Stacked p
 
-stacked-from : (q p : Loc) → index q < 256 → onStack q ≡ got p → StackedIn p
-stacked-from (Loc.Stack n) p h e = subst StackedIn (got-same (Loc.Stack n) p e) (h, omega arith)
-stacked-from (Loc.Mem n) p h e = absurd (clash 4 p e)
-stacked-from (Loc.Param n) p h e = absurd (clash 4 p e)
+stacked-in : (p : Loc) → Stacked p → StackedIn p
+stacked-in (Loc.Stack n) h = (omega arith, h)
+stacked-in (Loc.Mem n) h = absurd h
+stacked-in (Loc.Param n) h = absurd h
 
 stacked : (s : List ℕ) (i : ℕ) (p : Loc) → condPlace s i ≡ got p → StackedIn p
-unfolding condPlace
-stacked s i p e =
-    let t = then (placeAt s i) onStack p e in
-    stacked-from (t .first) p (place-index s i (t .first) (t .found)) (t .rest)
+stacked s i p e = stacked-in p (cond-held s i p e)
 
 module _ (count : ℕ) (s : List ℕ) (i : Instruction) where
   range-uni : uniFrom s ≡ got i → InRange count i
@@ -111,7 +89,7 @@ module _ (count : ℕ) (s : List ℕ) (i : Instruction) where
   range-load e =
       let l = lows (byteAt s 4 ∷ []) _ i e in
       let t = then (placeAt s 5) _ i (l .rest) in
-      subst (InRange count) (got-same _ i (t .rest)) (l .low .0, place-index s 5 (t .first) (t .found))
+      subst (InRange count) (got-same _ i (t .rest)) (l .low .0, place-in s 5 (t .first) (t .found))
 
   range-save : saveFrom s ≡ got i → InRange count i
   unfolding saveFrom
@@ -149,7 +127,7 @@ module _ (count : ℕ) (s : List ℕ) (i : Instruction) where
       let u = then (arithTaken takesArith (arithAt (byteAt s 4))) _ i e in
       let l = lows (byteAt s 5 ∷ byteAt s 6 ∷ []) _ i (u .rest) in
       let t = then (placeAt s 7) _ i (l .rest) in
-      subst (InRange count) (got-same _ i (t .rest)) (l .low .0, l .low .1 .0, place-index s 7 (t .first) (t .found))
+      subst (InRange count) (got-same _ i (t .rest)) (l .low .0, l .low .1 .0, place-in s 7 (t .first) (t .found))
 
   range-load-const-math : loadConstMathFrom count s ≡ got i → InRange count i
   unfolding loadConstMathFrom

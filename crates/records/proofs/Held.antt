@@ -60,7 +60,7 @@ fused-taken takes (FoundFused.Op o) op e = let p = passed (not (takes o)) 2 (got
 fused-taken takes FoundFused.Nothing op e = absurd (clash 2 op e)
 
 -- by which branch something was read
-by : {A P : Type 0} (b : Bool) (x y : Read A) (a : A) → cond b x y ≡ got a → (x ≡ got a → P) → (y ≡ got a → P) → P
+pub by : {A P : Type 0} (b : Bool) (x y : Read A) (a : A) → cond b x y ≡ got a → (x ≡ got a → P) → (y ≡ got a → P) → P
 by true x y a e f g = f e
 by false x y a e f g = g e
 
@@ -77,7 +77,7 @@ classed-index c w p e =
     (λ e. ap index (got-same (Loc.Param w) p e))
     (λ e. absurd (clash 4 p e))))
 
-place-index : (s : List ℕ) (i : ℕ) (p : Loc) → placeAt s i ≡ got p → index p ≤ 255
+pub place-index : (s : List ℕ) (i : ℕ) (p : Loc) → placeAt s i ≡ got p → index p ≤ 255
 unfolding placeAt
 place-index s i p e =
     let w = wordAt s (i + 1) in
@@ -90,7 +90,7 @@ saved-from (Loc.Stack n) p h e = subst Saved (got-same (Loc.Stack n) p e) h
 saved-from (Loc.Mem n) p h e = subst Saved (got-same (Loc.Mem n) p e) h
 saved-from (Loc.Param n) p h e = absurd (clash 4 p e)
 
-save-held : (s : List ℕ) (i : ℕ) (p : Loc) → savePlace s i ≡ got p → Saved p
+pub save-held : (s : List ℕ) (i : ℕ) (p : Loc) → savePlace s i ≡ got p → Saved p
 unfolding savePlace
 save-held s i p e =
     let t = then (placeAt s i) savedTo p e in
@@ -101,7 +101,7 @@ stacked-from (Loc.Stack n) p h e = subst Stacked (got-same (Loc.Stack n) p e) h
 stacked-from (Loc.Mem n) p h e = absurd (clash 4 p e)
 stacked-from (Loc.Param n) p h e = absurd (clash 4 p e)
 
-cond-held : (s : List ℕ) (i : ℕ) (p : Loc) → condPlace s i ≡ got p → Stacked p
+pub cond-held : (s : List ℕ) (i : ℕ) (p : Loc) → condPlace s i ≡ got p → Stacked p
 unfolding condPlace
 cond-held s i p e =
     let t = then (placeAt s i) onStack p e in
