@@ -1,13 +1,13 @@
 -- A copying loop, and what a slice holds after a run of elements was stored in it.
 use Prim.Native.Nat.{ℕ, zero, suc, _+_, _-_, _≤_, _<_}
 use mathlib.Core.Path.{_≡_, refl, sym, ap, _∙_}
-use mathlib.Core.List.{List, [], _∷_, _++_, append-assoc}
+use mathlib.Core.List.{List, [], _∷_, _++_}
 use native.Mathlib.Nat.{zero-add, add-zero, add-suc, suc-add}
 use native.Mathlib.Numerals.{add-one}
 use native.Mathlib.Omega.{arith}
 use lib.ListN.{length, take, drop, getD, set, length-append, length-take, drop-of-length-le, take-append-drop}
 use lib.Seq.{sets, sets-eq, length-sets, drop-cons, drop-drop}
-use Rattle.sheet.specs.Setup.{constantAt, constantsFromOn, constantsOf}
+use Rattle.sheet.specs.Setup.{constantAt, constantsFromOn}
 use Rattle.complexify.specs.Taken.{Kept}
 
 -- what is left to store, from i on: the element at i, and then the rest

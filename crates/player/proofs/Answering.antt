@@ -6,9 +6,9 @@ use lib.ListN.{length, drop}
 use lib.Dec.{ltb}
 use borrow.Author.Tests.{le-ltb, eq-eqb}
 use Rattle.records.specs.Record.{records}
-use Rattle.machine.specs.Machine.{Store, End, works, block, play, going}
+use Rattle.machine.specs.Machine.{Store, works, block, play, going}
 use Rattle.machine.specs.Jumps.{breach, breachFrom, nothing}
-use Rattle.machine.specs.Answer.{Answer, accept, answer}
+use Rattle.machine.specs.Answer.{accept, answer}
 use Rattle.player.specs.declared.passes.Seen.{Seen}
 use Rattle.player.specs.Positions.{left, onFrom, Skipped, Begun, Examined, Played}
 

@@ -1,5 +1,5 @@
 -- The run over positions and the machine's play: each law takes what the code knows of the record at a position.
-use Prim.Native.Nat.{ℕ, zero, suc, _+_, _≤_, _<_}
+use Prim.Native.Nat.{ℕ, _+_}
 use native.Mathlib.Omega.{arith}
 use native.Mathlib.Nat.{zero-add, add-zero, add-assoc}
 use mathlib.Core.Path.{_≡_, refl, sym, ap, _∙_, subst}
@@ -13,10 +13,10 @@ use Rattle.mir.specs.Read.{Read}
 use Rattle.mir.proofs.Decoding.{items, Here, Done}
 use Rattle.records.specs.Record.{recordFrom}
 use Rattle.records.proofs.Reading.{here-read}
-use Rattle.machine.specs.Machine.{Store, exec, execs, works, isLabel, seek, going, seeking, End, ticks, play}
+use Rattle.machine.specs.Machine.{Store, exec, execs, works, isLabel, seek, going, End, ticks, play}
 use Rattle.machine.proofs.Seeking.{seek-play}
 use Rattle.player.specs.declared.run.Turn.{Turn}
-use Rattle.player.specs.Positions.{left, fault, isJump, Jumps, blockAt, onFrom, Sought, BlockPlayed, Turned, Played}
+use Rattle.player.specs.Positions.{left, fault, isJump, Jumps, blockAt, onFrom, Sought, BlockPlayed, Turned}
 
 IsTrue : Bool → Type 0
 IsTrue true = Unit {0}

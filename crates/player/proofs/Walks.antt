@@ -1,5 +1,5 @@
 -- The passes over positions and the definitions over records: counts, records passed over, and the jump rules.
-use Prim.Native.Nat.{ℕ, zero, suc, _+_, _≤_, _<_}
+use Prim.Native.Nat.{ℕ, zero, suc, _+_, _≤_}
 use native.Mathlib.Omega.{arith}
 use mathlib.Core.Path.{_≡_, refl, sym, ap, _∙_}
 use mathlib.Core.Bool.{Bool, true, false, cond}
@@ -12,7 +12,6 @@ use Rattle.mir.proofs.Decoding.{items, Here, Done}
 use Rattle.records.specs.Record.{recordFrom}
 use Rattle.machine.specs.Machine.{isLabel, seek}
 use Rattle.machine.specs.Jumps.{isReturn, bit, tally, has, Before, breaks, behind, breachFrom}
-use Rattle.player.specs.declared.passes.Seen.{Seen}
 use Rattle.player.specs.Positions.{left, fault, isJump, Examined}
 
 pub bit-small : (b : Bool) → bit b ≤ 1

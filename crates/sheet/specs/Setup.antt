@@ -4,7 +4,7 @@ use mathlib.Core.Bool.{Bool, not, cond, false, _&&_, _||_}
 use mathlib.Core.List.{List, [], _∷_}
 use lib.ListN.{length, take, drop, getD, replicate}
 use lib.Dec.{ltb, leb, eqb}
-use Rattle.mir.specs.Read.{Read, got, refused, refuse, andThen}
+use Rattle.mir.specs.Read.{Read, got, refused, refuse}
 use Rattle.mir.specs.Field.{byteAt, wordAt}
 use Rattle.sheet.specs.declared.setup.Setup.{Setup}
 use Rattle.sheet.specs.declared.setup.Header.{Header}

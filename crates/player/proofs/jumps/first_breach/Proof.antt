@@ -1,10 +1,10 @@
 -- `player::jumps::first_breach` meets its contract. The invariant: the first breach from here on is the listing's first.
 use borrow.Author.Needs.{needs}
 use native.Mathlib.Omega.{arith}
-use Prim.Native.Nat.{ℕ, suc, _+_, _-_, _*_, _≤_, _<_}
-use mathlib.Core.Path.{_≡_, refl, sym, ap, _∙_}
+use Prim.Native.Nat.{_+_, _-_, _≤_}
+use mathlib.Core.Path.{_≡_, sym, ap, _∙_}
 use native.Mathlib.Nat.{zero-add}
-use lib.ListN.{length, drop}
+use lib.ListN.{length}
 use Rattle.machine.specs.Machine.{isLabel}
 use Rattle.machine.specs.Jumps.{isReturn, bit, tally, breachFrom, nothing}
 use Rattle.player.specs.Values.{asBefore}

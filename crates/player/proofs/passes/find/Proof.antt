@@ -1,10 +1,10 @@
 -- `player::passes::find` meets its contract. The invariant: what is sought from here is what is sought from the start.
 use borrow.Author.Needs.{needs}
 use native.Mathlib.Omega.{arith}
-use Prim.Native.Nat.{ℕ, suc, _+_, _-_, _*_, _≤_, _<_}
-use mathlib.Core.Path.{_≡_, refl, sym, ap, _∙_}
+use Prim.Native.Nat.{_-_, _≤_}
+use mathlib.Core.Path.{_≡_, refl, sym, _∙_}
 use native.Mathlib.Nat.{le-refl}
-use lib.ListN.{length, drop}
+use lib.ListN.{length}
 use Rattle.machine.specs.Machine.{seek}
 use Rattle.player.specs.Positions.{left, fault}
 use Rattle.player.proofs.Steps.{seek-on, seek-here, seek-none}

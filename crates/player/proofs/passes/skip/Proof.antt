@@ -1,7 +1,7 @@
 -- `player::passes::skip` meets its contract. The invariant: what is left to pass over from here ends where it is to end.
 use borrow.Author.Needs.{needs}
 use native.Mathlib.Omega.{arith}
-use Prim.Native.Nat.{ℕ, suc, _+_, _-_, _*_, _≤_, _<_}
+use Prim.Native.Nat.{suc, _-_}
 use mathlib.Core.Path.{_≡_, refl, sym, ap, _∙_}
 use native.Mathlib.Nat.{le-refl}
 use lib.ListN.{length, drop}

@@ -1,9 +1,9 @@
 -- `player::run::run` meets its contract. The invariant: what was played, and the play from here, are the whole play.
 use borrow.Author.Needs.{needs}
 use native.Mathlib.Omega.{arith}
-use Prim.Native.Nat.{ℕ, suc, _+_, _-_, _*_, _≤_, _<_}
-use mathlib.Core.Path.{_≡_, refl, sym, ap, _∙_}
-use lib.ListN.{length, drop}
+use Prim.Native.Nat.{_-_, _*_, _≤_}
+use mathlib.Core.Path.{_≡_, refl, sym, _∙_}
+use lib.ListN.{length}
 use Rattle.machine.specs.Machine.{ticks}
 use Rattle.player.specs.Positions.{onFrom, fault}
 use Rattle.player.proofs.Steps.{run-start, run-turn, run-stop, run-end}

@@ -1,7 +1,7 @@
 -- `player::run::run_jump` meets its contract, one law for each way to go on.
 use borrow.Author.Needs.{needs}
 use native.Mathlib.Omega.{arith}
-use lib.ListN.{length, drop}
+use lib.ListN.{length}
 use Rattle.player.proofs.Steps.{turn-torn, turn-label, turn-end, turn-branch, turn-call, known-here}
 use Rattle.player.proofs.Looks.{no-work}
 use Rattle.records.proofs.Reading.{here-record, torn-record}

@@ -1,6 +1,5 @@
 -- `player::run::run_record` meets its contract: a working record, or else a jump on the store as it was.
 use borrow.Author.Needs.{needs}
-use native.Mathlib.Omega.{arith}
 use lib.ListN.{length}
 use Rattle.player.proofs.Steps.{turn-work, turn-from}
 use Rattle.player.proofs.Looks.{Tried, readable, did, jumps, kept}
