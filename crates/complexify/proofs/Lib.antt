@@ -4,3 +4,4 @@ mod Bounds
 mod Turns
 mod Setups
 mod Answers
+pub mod Within

@@ -28,13 +28,13 @@ fn barred_divide(stable: bool, a: u8, b: u8, real: bool) -> bool
     false
 }
 
-// Abs of a complex Ret.
+// Abs of a complex Ret. The record is asked for a, not for Ret: a flag at a fixed index would be split off each copy of the record.
 fn barred_abs(stable: bool, a: u8, real: Realness) -> bool
     ensures { λ r. ⌜ r ≡ Spec.barredUni stable UniOp.Abs a real ⌝ }
 {
+    let x = real.is_real_reg(a);
     if stable {
         if a == RET {
-            let x = real.is_real_reg(a);
             return !x;
         }
         return false;

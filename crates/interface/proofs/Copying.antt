@@ -23,16 +23,18 @@ unfolding number
 number-none = refl
 
 eight-bytes : (s : List ℕ) → number (take 8 s)
-    ≡ getD s 0 0 + 256 * (getD s 1 0 + 256 * (getD s 2 0 + 256 * (getD s 3 0
-    + 256 * (getD s 4 0 + 256 * (getD s 5 0 + 256 * (getD s 6 0 + 256 * getD s 7 0))))))
+    ≡ getD s 0 0 + 256 * getD s 1 0 + 65536 * getD s 2 0 + 16777216 * getD s 3 0 + 4294967296 * getD s 4 0
+    + 1099511627776 * getD s 5 0 + 281474976710656 * getD s 6 0 + 72057594037927936 * getD s 7 0
 eight-bytes s =
     omega (arith, number-at 7 0 s, number-at 6 1 s, number-at 5 2 s, number-at 4 3 s, number-at 3 4 s, number-at 2 5 s, number-at 1 6 s, number-at 0 7 s, number-none)
 
+-- the word of the first eight bytes, as one flat sum
 pub eight : (s : List ℕ) {a b c d e f g h : ℕ} → a ≡ getD s 0 0 → b ≡ getD s 1 0 → c ≡ getD s 2 0 → d ≡ getD s 3 0
     → e ≡ getD s 4 0 → f ≡ getD s 5 0 → g ≡ getD s 6 0 → h ≡ getD s 7 0
-    → a + 256 * (b + 256 * (c + 256 * (d + 256 * (e + 256 * (f + 256 * (g + 256 * h)))))) ≡ number (take 8 s)
+    → a + 256 * b + 65536 * c + 16777216 * d + 4294967296 * e + 1099511627776 * f + 281474976710656 * g + 72057594037927936 * h
+    ≡ number (take 8 s)
 eight s a b c d e f g h =
-    (λ i. a i + 256 * (b i + 256 * (c i + 256 * (d i + 256 * (e i + 256 * (f i + 256 * (g i + 256 * h i)))))))
+    (λ i. a i + 256 * b i + 65536 * c i + 16777216 * d i + 4294967296 * e i + 1099511627776 * f i + 281474976710656 * g i + 72057594037927936 * h i)
     ∙ sym (eight-bytes s)
 
 -- the part of a slice from a position on begins with the same eight bytes

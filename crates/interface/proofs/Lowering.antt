@@ -1,16 +1,21 @@
 -- Lowering over words and over bytes: the answer's 128 bytes, and the constants' words.
-use Prim.Native.Nat.{ℕ, _+_, _/_, _%_}
-use mathlib.Core.Path.{_≡_, sym, ap, _∙_}
+use Prim.Native.Nat.{ℕ, _+_, _/_, _%_, _≤_, _<_}
+use mathlib.Core.Path.{_≡_, refl, sym, ap, _∙_, subst}
+use mathlib.Core.Bool.{cond}
 use mathlib.Core.List.{List, [], _∷_, _++_, map}
 use native.Mathlib.Omega.{arith}
-use lib.ListN.{length, length-append, length-map}
+use lib.ListN.{length, take, getD, length-append, length-map}
 use lib.Seq.{sets}
 use borrow.Author.Tests.{eq-eqb, ne-eqb}
+use Rattle.mir.proofs.Passing.{either}
+use Rattle.lowering.specs.Lower.{lowerSheet}
 use Rattle.complexify.specs.declared.entry.Answer as Lowered
 use Rattle.complexify.specs.Entry as Lower
+use Rattle.complexify.proofs.Within.{within}
 use Rattle.interface.specs.Bytes.{bytesOf, words, wordsOf}
 use Rattle.interface.specs.Calls.{flag, lowerAnswer, lowerCall}
-use Rattle.interface.proofs.Lengths.{length-bytesOf, length-words, sets-append, sets-whole}
+use Rattle.interface.proofs.Lengths.{length-bytesOf, length-words, sets-append, sets-whole, sets-front, bytesOf-sets}
+use Rattle.interface.proofs.RoundTrip.{bytesOf-words}
 
 -- three runs of stores, one after the other, that fill the slice
 three-runs : (l a b c : List ℕ) {x y z : List ℕ} → length l ≡ 128 → length a ≡ 32 → length b ≡ 32 → length c ≡ 64
@@ -43,25 +48,50 @@ module _ (sheet listing constants lent : List ℕ) (whole-answer : length lent �
       simp (eq-eqb _ _ whole-answer, eq-eqb _ _ whole-constants, ne-eqb _ _ h)
       (ap (λ x. record { number = 8; listing = listing; constants = constants; answer = x }) (e ∙ ap lowerAnswer d))
 
-  -- the words that are loaded are the constants'
-  constant-words : (l : List ℕ) {k : List ℕ} → length constants ≡ 2048 → length l ≡ 256 → k ≡ sets l 0 (words 256 constants)
-      → k ≡ wordsOf constants
-  unfolding wordsOf
-  constant-words l h m e =
-      e ∙ sets-whole l (words 256 constants) (length-words 256 constants ∙ sym m) ∙ sym (ap (λ n. words (n / 8) constants) h)
-
-  pub lowered : (l : List ℕ) (a : Lowered.Answer) {k k′ s c r : List ℕ} → length constants ≡ 2048 → length l ≡ 256
-      → k ≡ sets l 0 (words 256 constants) → a ≡ Lower.answer sheet listing k → s ≡ Lower.listingAfter sheet listing k
-      → k′ ≡ Lower.constantsAfter sheet listing k → length k′ ≡ 256 → c ≡ sets constants 0 (bytesOf k′) → r ≡ lowerAnswer a
-      → record { number = a .number; listing = s; constants = c; answer = r } ≡ lowerCall sheet listing constants lent
+  pub lowered : {a : Lowered.Answer} {s c r : List ℕ} → length constants ≡ 2048 → a ≡ Lower.answer sheet listing (wordsOf constants)
+      → s ≡ Lower.listingAfter sheet listing (wordsOf constants) → c ≡ bytesOf (Lower.constantsAfter sheet listing (wordsOf constants))
+      → r ≡ lowerAnswer a → record { number = a .number; listing = s; constants = c; answer = r } ≡ lowerCall sheet listing constants lent
   unfolding lowerCall
-  lowered l a {k} {k′} {s} {c} {r} h m e p q t n f g =
-      let w = constant-words l h m e in
-      let ea : a ≡ Lower.answer sheet listing (wordsOf constants) = p ∙ ap (Lower.answer sheet listing) w in
-      let es : s ≡ Lower.listingAfter sheet listing (wordsOf constants) = q ∙ ap (Lower.listingAfter sheet listing) w in
-      let ec : c ≡ bytesOf (Lower.constantsAfter sheet listing (wordsOf constants)) =
-      f ∙ sets-whole constants (bytesOf k′) (omega (arith, length-bytesOf k′))
-      ∙ ap bytesOf (t ∙ ap (Lower.constantsAfter sheet listing) w) in
-      let er : r ≡ lowerAnswer (Lower.answer sheet listing (wordsOf constants)) = g ∙ ap lowerAnswer ea in
+  lowered h ea es ec g =
+      let er = g ∙ ap lowerAnswer ea in
       simp (eq-eqb _ _ whole-answer, eq-eqb _ _ whole-constants, eq-eqb _ _ h)
       (λ i. record { number = ea i .number; listing = es i; constants = ec i; answer = er i })
+
+module _ (sheet listing constants zeros : List ℕ) (e : length constants ≡ 2048) (z : length zeros ≡ 256)
+    (below : (i : ℕ) → i < length constants → getD constants i 0 < 256) where
+  -- the constants' words
+  words-long : length (wordsOf constants) ≡ 256
+  unfolding wordsOf
+  words-long = length-words (length constants / 8) constants ∙ ap (λ n. n / 8) e
+
+  words-back : bytesOf (wordsOf constants) ≡ constants
+  unfolding wordsOf
+  words-back = ap (λ n. bytesOf (words (n / 8) constants)) e ∙ bytesOf-words 256 constants e below
+
+  -- lowering reads no word that it has not written: of other words than the constants' it gives the same
+  same-setup : Lower.wrongSetup sheet listing zeros ≡ Lower.wrongSetup sheet listing (wordsOf constants)
+  same-setup = simp (z, words-long)
+
+  pub same-answer : Lower.answer sheet listing zeros ≡ Lower.answer sheet listing (wordsOf constants)
+  same-answer = ap (λ b. cond b Lower.refusedSetup (Lower.answerOf (lowerSheet sheet (length listing)))) same-setup
+
+  pub same-listing : Lower.listingAfter sheet listing zeros ≡ Lower.listingAfter sheet listing (wordsOf constants)
+  same-listing = ap (λ b. cond b listing (sets listing 0 (lowerSheet sheet (length listing) .bytes))) same-setup
+
+  -- and the words that it has written, put over the constants, are the constants after it
+  pub over : {a : Lowered.Answer} {k c : List ℕ} → a ≡ Lower.answer sheet listing zeros → k ≡ Lower.constantsAfter sheet listing zeros
+      → c ≡ sets constants 0 (bytesOf (take (a .count) k)) → c ≡ bytesOf (Lower.constantsAfter sheet listing (wordsOf constants))
+  unfolding bytesOf
+  over {a} {k} p t f =
+      f
+      ∙ ap (λ x. sets constants 0 (bytesOf (take (x .count) k))) p
+      ∙ ap (λ k. sets constants 0 (bytesOf (take (Lower.answer sheet listing zeros .count) k))) t
+      ∙ either (Lower.wrongSetup sheet listing zeros)
+      (λ w. simp (w, sym same-setup ∙ w) (sym words-back))
+      (λ w.
+      let consts = lowerSheet sheet (length listing) .state .consts in
+      let few : length consts ≤ 256 = subst (λ b. cond b Lower.refusedSetup (Lower.answerOf (lowerSheet sheet (length listing))) .count ≤ 256) w (within sheet listing zeros .count) in
+      simp (w, sym same-setup ∙ w)
+      (ap (λ v. sets constants 0 (bytesOf v)) (sets-front zeros consts (length consts) refl (omega (arith, few, z)))
+      ∙ ap (λ l. sets l 0 (bytesOf consts)) (sym words-back)
+      ∙ sym (bytesOf-sets (wordsOf constants) consts (omega (arith, few, words-long)))))

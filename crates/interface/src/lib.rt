@@ -3,8 +3,8 @@ ghost use mathlib.Core.Path.{_≡_};
 ghost use lib.ListN.{length};
 ghost use Rattle.machine.specs.Answer.{answer};
 ghost use Rattle.player.specs.Values.{whole};
-ghost use Rattle.complexify.specs.Entry.{refusedSetup};
-ghost use Rattle.interface.specs.Bytes.{wordsOf};
+ghost use Rattle.complexify.specs.Entry as Entry;
+ghost use Rattle.interface.specs.Bytes.{bytesOf, wordsOf};
 ghost use Rattle.interface.specs.Calls.{PlayCall, LowerCall, playCall, lowerCall, lowerAnswer};
 
 mod words;
@@ -86,7 +86,7 @@ fn put_answer(out: &mut [u8], a: Lowered)
 
 // What constants of another length than 256 words give.
 fn wrong_constants() -> Lowered
-    ensures { λ r. ⌜ r ≡ refusedSetup ⌝ }
+    ensures { λ r. ⌜ r ≡ Entry.refusedSetup ⌝ }
 {
     let places = [0u8; 64];
     Lowered {
@@ -96,6 +96,20 @@ fn wrong_constants() -> Lowered
         count: 0,
         real: Realness::fresh(places),
     }
+}
+
+// Lowers with the constants as bytes. Lowering reads no word that it has not written, so none is read from the bytes.
+fn lower_words(sheet: &[u8], listing: &mut [u8], constants: &mut [u8]) -> Lowered
+    requires { ⌜ length (now constants) ≡ 2048 ⌝ }
+    ensures { λ r. ⌜ (r ≡ Entry.answer (now (sheet .entry)) (now (listing .entry)) (wordsOf (now (constants .entry))))
+        × (now (listing .exit) ≡ Entry.listingAfter (now (sheet .entry)) (now (listing .entry)) (wordsOf (now (constants .entry))))
+        × (now (constants .exit) ≡ bytesOf (Entry.constantsAfter (now (sheet .entry)) (now (listing .entry)) (wordsOf (now (constants .entry))))) ⌝ }
+{
+    let mut words = [0u64; 256];
+    let a = complexify::entry::lower(sheet, listing, &mut words);
+    let count = a.count;
+    save(constants, &words[..count]);
+    a
 }
 
 // Lowers a sheet. The constants are 2,048 bytes; the answer is 128: number, index, bytes written, count of constants, 32 flags of
@@ -119,10 +133,7 @@ pub extern "C" fn tulipcricket_lower(
         put_answer(answer, wrong_constants());
         return 8;
     }
-    let mut words = [0u64; 256];
-    load(&mut words, constants, 256);
-    let a = complexify::entry::lower(sheet, listing, &mut words);
-    save(constants, &words);
+    let a = lower_words(sheet, listing, constants);
     put_answer(answer, a);
     a.number as u32
 }

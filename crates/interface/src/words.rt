@@ -1,26 +1,38 @@
 // Words read from bytes and written to bytes.
 ghost use mathlib.Core.Path.{_≡_};
 ghost use mathlib.Core.List.{map};
-ghost use Prim.Native.Nat.{_+_, _*_, _≤_};
-ghost use lib.ListN.{length, take, drop};
+ghost use Prim.Native.Nat.{_+_, _*_, _≤_, _<_};
+ghost use lib.ListN.{length, getD, take, drop};
 ghost use lib.Seq.{sets};
 ghost use Rattle.interface.specs.Bytes.{bytes, number, bytesOf, words};
 ghost use Rattle.interface.specs.Calls.{flag};
-use mir::fields::byte;
 
-// The first eight bytes as a word.
+fn byte_at(s: &[u8], i: usize) -> u8
+    requires { ⌜ i < length (now s) ⌝ }
+    ensures { λ r. ⌜ r ≡ getD (now (s .entry)) i 0 ⌝ }
+{
+    s[i]
+}
+
+// The first eight bytes as a word: one flat sum with no test in it, which the compiler makes one load of.
 fn first_word(s: &[u8]) -> u64
+    requires { ⌜ 8 ≤ length (now s) ⌝ }
     ensures { λ r. ⌜ r ≡ number (take 8 (now (s .entry))) ⌝ }
 {
-    let a = byte(s, 0) as u64;
-    let b = byte(s, 1) as u64;
-    let c = byte(s, 2) as u64;
-    let d = byte(s, 3) as u64;
-    let e = byte(s, 4) as u64;
-    let f = byte(s, 5) as u64;
-    let g = byte(s, 6) as u64;
-    let h = byte(s, 7) as u64;
-    a + 256 * (b + 256 * (c + 256 * (d + 256 * (e + 256 * (f + 256 * (g + 256 * h))))))
+    let a = byte_at(s, 0) as u64;
+    let b = byte_at(s, 1) as u64;
+    let c = byte_at(s, 2) as u64;
+    let d = byte_at(s, 3) as u64;
+    let e = byte_at(s, 4) as u64;
+    let f = byte_at(s, 5) as u64;
+    let g = byte_at(s, 6) as u64;
+    let h = byte_at(s, 7) as u64;
+    let low = a + 0x100 * b + 0x1_0000 * c + 0x100_0000 * d;
+    low
+        + 0x1_0000_0000 * e
+        + 0x100_0000_0000 * f
+        + 0x1_0000_0000_0000 * g
+        + 0x100_0000_0000_0000 * h
 }
 
 // A word as the eight bytes from at on.

@@ -29,23 +29,8 @@ returns-3 c =
     wrong-constants (a .sheet .now) (a .listing .now) (a .constants .now) (a .answer .now) (c .before .before .before .before .before .before .before .if1 .left) (c .before .before .before .before .before .before .if2 .left) (c .before .before .before .before .before .if3 .taken)
     (c .before .before .before .wrong-constants .ensures) (c .before .before .put-answer .ensures)
 
-slice-aggregate-load : tie.Need-slice-aggregate-load
-slice-aggregate-load c = search needs
-
-load-requires : tie.Need-load-requires
-load-requires c κs = search needs
-
-slice-aggregate-lower : tie.Need-slice-aggregate-lower
-slice-aggregate-lower c = search needs
-
-lower-requires : tie.Need-lower-requires
-lower-requires c κs = search needs
-
-slice-aggregate-save : tie.Need-slice-aggregate-save
-slice-aggregate-save c = search needs
-
-save-requires : tie.Need-save-requires
-save-requires c κs = search needs
+lower-words-requires : tie.Need-lower-words-requires
+lower-words-requires c κs = search needs
 
 put-answer-requires-2 : tie.Need-put-answer-requires-2
 put-answer-requires-2 c κs = search needs
@@ -64,11 +49,10 @@ same-length-4 c = search needs
 
 returns-4 : tie.Need-returns-4
 returns-4 c =
-    let a = c .before .before .before .before .before .before .before .before .before .before .before .before .before .before .before .before .before .before .before .before .before .before .before .before .before .before .before .args in
-    let p = c .before .before .before .before .before .before .before .before .before .before .before .before .before .lower in
-    lowered (a .sheet .now) (a .listing .now) (a .constants .now) (a .answer .now) (c .before .before .before .before .before .before .before .before .before .before .before .before .before .before .before .before .before .before .before .before .before .before .if1 .left) (c .before .before .before .before .before .before .before .before .before .before .before .before .before .before .before .before .before .before .before .before .before .if2 .left)
-    _ (p .result) (c .before .before .before .before .before .before .before .before .before .before .before .before .before .before .before .before .before .before .before .before .if3 .left) (search needs) (c .before .before .before .before .before .before .before .before .before .before .before .before .before .before .before .before .before .load .ensures) (p .ensures .0) (p .ensures .1) (p .ensures .2) (search needs) (c .before .before .before .before .before .before .before .save .ensures)
-    (c .before .before .before .put-answer2 .ensures)
+    let a = c .before .before .before .before .before .before .before .before .before .before .before .before .before .before .before .before .before .before .before .args in
+    let p = c .before .before .before .before .before .before .before .before .before .lower-words .ensures in
+    lowered (a .sheet .now) (a .listing .now) (a .constants .now) (a .answer .now) (c .before .before .before .before .before .before .before .before .before .before .before .before .before .before .if1 .left) (c .before .before .before .before .before .before .before .before .before .before .before .before .before .if2 .left) (c .before .before .before .before .before .before .before .before .before .before .before .before .if3 .left)
+    (p .0) (p .1) (p .2) (c .before .before .before .put-answer2 .ensures)
 
 pub tulipcricket-lower-spec : {M : Type 1} → statement M
 tulipcricket-lower-spec =
@@ -80,12 +64,7 @@ tulipcricket-lower-spec =
     put-answer-requires
     same-length
     returns-3
-    slice-aggregate-load
-    load-requires
-    slice-aggregate-lower
-    lower-requires
-    slice-aggregate-save
-    save-requires
+    lower-words-requires
     put-answer-requires-2
     cast-result
     same-length-2

@@ -9,6 +9,6 @@ barred-abs-spec =
     tie.close
     (tie.spec
     (λ c κs. search needs)
-    (λ c. simp (c .before .before .if1 .taken, eq-eqb _ _ (c .before .if2 .taken), c .is-real-reg .ensures))
+    (λ c. simp (c .before .if1 .taken, eq-eqb _ _ (c .if2 .taken), c .before .before .is-real-reg .ensures))
     (λ c. simp (c .before .if1 .taken, ne-eqb _ _ (c .if2 .left)))
     (λ c. simp (c .if1 .left)))

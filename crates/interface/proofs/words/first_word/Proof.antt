@@ -38,4 +38,4 @@ first-word-spec =
     (λ c. search needs)
     (λ c. search needs)
     (λ c. search needs)
-    (λ c. eight (c .before .before .before .before .before .before .before .before .before .args .s .now) (c .before .before .before .before .before .before .before .byte .ensures) (c .before .before .before .before .before .before .byte2 .ensures) (c .before .before .before .before .before .byte3 .ensures) (c .before .before .before .before .byte4 .ensures) (c .before .before .before .byte5 .ensures) (c .before .before .byte6 .ensures) (c .before .byte7 .ensures) (c .byte8 .ensures)))
+    (λ c. eight (c .before .before .before .before .before .before .before .before .before .args .s .now) (c .before .before .before .before .before .before .before .byte-at .ensures) (c .before .before .before .before .before .before .byte-at2 .ensures) (c .before .before .before .before .before .byte-at3 .ensures) (c .before .before .before .before .byte-at4 .ensures) (c .before .before .before .byte-at5 .ensures) (c .before .before .byte-at6 .ensures) (c .before .byte-at7 .ensures) (c .byte-at8 .ensures)))

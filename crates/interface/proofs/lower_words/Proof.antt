@@ -1,0 +1,70 @@
+-- `interface::lower_words` meets its contract: the words that lowering has written are put over the constants' bytes.
+use borrow.Author.Needs.{needs}
+use Prim.Native.Nat.{ℕ, _≤_, _<_}
+use mathlib.Core.Path.{_≡_, refl, sym, ap, _∙_}
+use mathlib.Core.List.{List}
+use native.Mathlib.Omega.{arith}
+use lib.ListN.{length, getD, replicate}
+use lib.Seq.{length-take-le}
+use Rattle.complexify.specs.declared.entry.Answer.{Answer}
+use Rattle.complexify.specs.Entry.{answer}
+use Rattle.complexify.proofs.Within.{within}
+use Rattle.interface.proofs.Lowering.{same-answer, same-listing, over}
+use Rattle.interface.proofs.lower_words.Statement.{statement}
+use Rattle.interface.proofs.lower_words.Tie as tie
+
+few : (sheet listing words : List ℕ) {a : Answer} → a ≡ answer sheet listing words → a .count ≤ 256
+few sheet listing words e = let k = within sheet listing words .count in let f = ap (λ a. a .count) e in omega (arith, k, f)
+
+slice-aggregate-lower : tie.Need-slice-aggregate-lower
+slice-aggregate-lower c = search needs
+
+lower-requires : tie.Need-lower-requires
+lower-requires c κs = search needs
+
+array-share-prefix-words : tie.Need-array-share-prefix-words
+array-share-prefix-words c =
+    let k = few (c .before .before .before .before .before .before .before .before .before .before .args .sheet .now) (c .before .before .before .before .before .before .before .before .before .before .args .listing .now) (replicate 256 0) (c .before .before .before .before .lower .ensures .0) in
+    search needs
+
+slice-aggregate-save : tie.Need-slice-aggregate-save
+slice-aggregate-save c =
+    let k = few (c .before .before .before .before .before .before .before .before .before .before .before .args .sheet .now) (c .before .before .before .before .before .before .before .before .before .before .before .args .listing .now) (replicate 256 0) (c .before .before .before .before .before .lower .ensures .0) in
+    sym (length-take-le _ _ (search needs))
+
+save-requires : tie.Need-save-requires
+save-requires c κs =
+    let k = few (c .before .before .before .before .before .before .before .before .before .before .before .args .sheet .now) (c .before .before .before .before .before .before .before .before .before .before .before .args .listing .now) (replicate 256 0) (c .before .before .before .before .before .lower .ensures .0) in
+    let p = c .before .before .before .before .before .lower in
+    let m = length-take-le (p .result .count) (p .last .1 .1 .0) (search needs) in
+    search needs
+
+same-length : tie.Need-same-length
+same-length c = search needs
+
+same-length-2 : tie.Need-same-length-2
+same-length-2 c = search needs
+
+returns : tie.Need-returns
+returns c =
+    let a = c .before .before .before .before .before .before .before .before .before .before .before .before .before .before .args in
+    let p = c .before .before .before .before .before .before .before .before .lower .ensures in
+    let e = c .before .before .before .before .before .before .before .before .before .before .before .before .before .before .pre in
+    let below : (i : ℕ) → i < length (a .constants .now) → getD (a .constants .now) i 0 < 256 = λ i h. c .before .before .before .before .before .before .before .before .before .before .before .slice-known2 .given i .fits in (
+      p .0 ∙ same-answer (a .sheet .now) (a .listing .now) (a .constants .now) (replicate 256 0) e refl below,
+      p .1 ∙ same-listing (a .sheet .now) (a .listing .now) (a .constants .now) (replicate 256 0) e refl below,
+      over (a .sheet .now) (a .listing .now) (a .constants .now) (replicate 256 0) e refl below (p .0) (p .2) (c .before .before .save .ensures),
+    )
+
+pub lower-words-spec : {M : Type 1} → statement M
+lower-words-spec =
+    tie.close
+    (tie.spec
+    slice-aggregate-lower
+    lower-requires
+    array-share-prefix-words
+    slice-aggregate-save
+    save-requires
+    same-length
+    same-length-2
+    returns)
