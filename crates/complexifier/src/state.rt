@@ -38,8 +38,10 @@ impl Complexifier {
     {
         let before = self.real;
         let after = before.set_reg(dst, real);
-        self.real = after;
-        self
+        Complexifier {
+            real: after,
+            root_defined: self.root_defined,
+        }
     }
 
     pub fn set_reg_real(mut self, dst: u8) -> Complexifier
@@ -47,8 +49,10 @@ impl Complexifier {
     {
         let before = self.real;
         let after = before.set_reg_real(dst);
-        self.real = after;
-        self
+        Complexifier {
+            real: after,
+            root_defined: self.root_defined,
+        }
     }
 
     pub fn set_reg_complex(mut self, dst: u8) -> Complexifier
@@ -56,8 +60,10 @@ impl Complexifier {
     {
         let before = self.real;
         let after = before.set_reg_complex(dst);
-        self.real = after;
-        self
+        Complexifier {
+            real: after,
+            root_defined: self.root_defined,
+        }
     }
 
     pub fn copy_real(mut self, dst: u8, s1: u8) -> Complexifier
@@ -65,8 +71,10 @@ impl Complexifier {
     {
         let before = self.real;
         let after = before.copy_real(dst, s1);
-        self.real = after;
-        self
+        Complexifier {
+            real: after,
+            root_defined: self.root_defined,
+        }
     }
 
     pub fn promote_real(mut self, dst: u8, s1: u8, s2: u8) -> Complexifier
@@ -74,8 +82,10 @@ impl Complexifier {
     {
         let before = self.real;
         let after = before.promote_real(dst, s1, s2);
-        self.real = after;
-        self
+        Complexifier {
+            real: after,
+            root_defined: self.root_defined,
+        }
     }
 
     // After a save: only a Stack place is recorded, and so removed.

@@ -24,24 +24,26 @@ fn mode(stable: bool) -> &'static str {
     }
 }
 
-/// Seconds of the fastest round of each of two works, which take turns.
-fn fastest(rounds: u64, mut one: impl FnMut(), mut other: impl FnMut()) -> [f64; 2] {
-    let time = |work: &mut dyn FnMut()| {
-        let start = Instant::now();
-        work();
-        start.elapsed().as_secs_f64()
-    };
-    let mut least = [f64::INFINITY; 2];
+/// Seconds of the fastest round of each of N works, which take turns.
+fn fastest<const N: usize>(rounds: u64, mut works: [&mut dyn FnMut(); N]) -> [f64; N] {
+    let mut least = [f64::INFINITY; N];
     for _ in 0..rounds {
-        least = [least[0].min(time(&mut one)), least[1].min(time(&mut other))];
+        for (work, least) in works.iter_mut().zip(&mut least) {
+            let start = Instant::now();
+            work();
+            *least = least.min(start.elapsed().as_secs_f64());
+        }
     }
     least
 }
 
-/// A row: size, mode, and millions per second of both sides for so much work.
-fn row(name: &str, stable: bool, work: usize, [rust, ours]: [f64; 2]) {
-    let millions = |seconds: f64| work as f64 / seconds / 1e6;
-    println!("| {name} | {} | {:.1} | {:.1} | {:.2} |", mode(stable), millions(rust), millions(ours), rust / ours);
+/// A row: size, mode, millions per second for so much work on each side, ours last, and ours to each other side's.
+fn row<const N: usize>(name: &str, stable: bool, work: usize, seconds: [f64; N]) {
+    let ours = seconds[N - 1];
+    let speeds = seconds.iter().map(|s| format!("{:.1}", work as f64 / s / 1e6));
+    let ratios = seconds[..N - 1].iter().map(|s| format!("{:.2}", s / ours));
+    let cells: Vec<_> = speeds.chain(ratios).collect();
+    println!("| {name} | {} | {} |", mode(stable), cells.join(" | "));
 }
 
 fn accepted(sheet: &[u8]) -> bool {
@@ -83,19 +85,19 @@ fn size_name(size: Option<usize>, found: usize) -> String {
 fn lowering(rounds: u64, stable: bool, size: Option<usize>, sheets: &[Decoded]) {
     let work: usize = sheets.iter().map(|d| d.instructions.len()).sum();
     let reals: Vec<_> = sheets.iter().map(|d| real_set(&d.sheet[5..69].try_into().unwrap())).collect();
-    let unchanged = || {
+    let mut unchanged = || {
         for (d, reals) in sheets.iter().zip(&reals) {
             let mut complexifier = Complexifier::new(reals, Config::with_mode(stable));
             black_box(complexify(&mut complexifier, stable, &d.constants, &d.instructions));
         }
     };
     let (mut listing, mut constants, mut answer) = (vec![0; LISTING_LIMIT], vec![0; 8 * TABLE], vec![0; 128]);
-    let ours = || {
+    let mut ours = || {
         for d in sheets {
             black_box(ffi::lower(&d.sheet, &mut listing, &mut constants, &mut answer));
         }
     };
-    row(&size_name(size, work), stable, work, fastest(rounds, unchanged, ours));
+    row(&size_name(size, work), stable, work, fastest(rounds, [&mut unchanged, &mut ours]));
 }
 
 /// Sums, differences and products over the general registers, with fresh loads that keep the values in range, and saves; every tenth
@@ -125,7 +127,20 @@ fn to_bytes(words: &[u64]) -> Vec<u8> {
     words.iter().flat_map(|w| w.to_le_bytes()).collect()
 }
 
-/// Both players on the listing of a sheet, `times` in a round; each play is on a fresh store.
+fn put_words(words: &mut [u64], bytes: &[u8]) {
+    for (word, eight) in words.iter_mut().zip(bytes.chunks_exact(8)) {
+        *word = u64::from_le_bytes(eight.try_into().unwrap());
+    }
+}
+
+fn put_bytes(bytes: &mut [u8], words: &[u64]) {
+    for (eight, word) in bytes.chunks_exact_mut(8).zip(words) {
+        eight.copy_from_slice(&word.to_le_bytes());
+    }
+}
+
+/// Both players on the listing of a sheet, `times` in a round; each play is on a fresh store. `player.rs` is lent words, and then, as ours
+/// is, the store's bytes.
 fn playing(rounds: u64, name: &str, stable: bool, times: usize, sheet: &[u8]) -> Vec<u8> {
     let (mut listing, mut table) = (vec![0; LISTING_LIMIT], vec![0; TABLE]);
     let answer = lower(sheet, &mut listing, &mut table);
@@ -134,22 +149,32 @@ fn playing(rounds: u64, name: &str, stable: bool, times: usize, sheet: &[u8]) ->
     table.truncate(answer.count as usize);
     let words: Vec<u64> = (0..STORE).map(|i| (1.0 + i as f64 / 977.0).to_bits()).collect();
     let (bytes, constants) = (to_bytes(&words), to_bytes(&table));
-    let (mut store, mut lent, mut given) = (words.clone(), bytes.clone(), vec![0; 24]);
+    let (mut store, mut held, mut given) = (words.clone(), words.clone(), vec![0; 24]);
+    let (mut lent, mut taken) = (bytes.clone(), bytes.clone());
     let played = player::play(&listing, &table, &mut store, 0).played as usize;
-    let independent = || {
+    let mut on_words = || {
         for _ in 0..times {
             store.copy_from_slice(&words);
             black_box(player::play(&listing, &table, &mut store, 0));
         }
     };
-    let ours = || {
+    let mut on_bytes = || {
+        for _ in 0..times {
+            taken.copy_from_slice(&bytes);
+            put_words(&mut held, black_box(&taken));
+            black_box(player::play(&listing, &table, &mut held, 0));
+            put_bytes(&mut taken, &held);
+        }
+    };
+    let mut ours = || {
         for _ in 0..times {
             lent.copy_from_slice(&bytes);
             black_box(ffi::play(&listing, &constants, &mut lent, 0, &mut given));
         }
     };
-    let seconds = fastest(rounds, independent, ours);
+    let seconds = fastest(rounds, [&mut on_words, &mut on_bytes, &mut ours]);
     row(&format!("{name} | {played}"), stable, played * times, seconds);
+    assert_eq!(taken, lent);
     listing
 }
 
@@ -177,9 +202,9 @@ fn main() {
 
     println!("\nPlaying: every tenth instruction as named, millions of records per second\n");
     println!(
-        "| Instructions | Every tenth | Records | Mode | `player.rs` | `tulipcricket_play` | Ours to `player.rs` |"
+        "| Instructions | Every tenth | Records | Mode | `player.rs` on words | on bytes | `tulipcricket_play` | Ours to words | to bytes |"
     );
-    println!("|---|---|---|---|---|---|---|");
+    println!("|---|---|---|---|---|---|---|---|---|");
     for (size, times) in SIZES {
         for stable in [false, true] {
             let sheet = calm_sheet(stable, size, |d, a, b| make::bi(bi::DIVIDE, d, a, b));
