@@ -1,12 +1,12 @@
 -- How long words and their bytes are, and lists that replace the beginning of another.
-use Prim.Native.Nat.{ℕ, zero, suc, _+_, _*_, _≤_}
+use Prim.Native.Nat.{ℕ, zero, suc, _+_, _*_, _/_, _≤_}
 use mathlib.Core.Path.{_≡_, refl, sym, ap, _∙_}
 use mathlib.Core.List.{List, [], _∷_, _++_, append-nil, append-assoc}
 use native.Mathlib.Nat.{add-zero}
 use native.Mathlib.Omega.{arith}
 use lib.ListN.{length, take, drop, set, length-append, drop-of-length-le}
 use lib.Seq.{sets, sets-eq, take-at, drop-nil, drop-append-add}
-use Rattle.interface.specs.Bytes.{bytes, bytesOf, words}
+use Rattle.interface.specs.Bytes.{bytes, bytesOf, words, wordsOf}
 
 pub length-bytes : (n w : ℕ) → length (bytes n w) ≡ n
 unfolding bytes
@@ -22,6 +22,10 @@ pub length-words : (n : ℕ) (s : List ℕ) → length (words n s) ≡ n
 unfolding words
 length-words zero s = refl
 length-words (suc n) s = ap suc (length-words n _)
+
+pub length-wordsOf : (s : List ℕ) → length (wordsOf s) ≡ length s / 8
+unfolding wordsOf
+length-wordsOf s = length-words (length s / 8) s
 
 pub sets-append : (l a b : List ℕ) (i : ℕ) → sets l i (a ++ b) ≡ sets (sets l i a) (i + length a) b
 sets-append l [] b i = ap (λ k. sets l k b) (sym (add-zero i))

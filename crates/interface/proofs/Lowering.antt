@@ -1,7 +1,7 @@
 -- Lowering over words and over bytes: the answer's 128 bytes, and the constants' words.
 use Prim.Native.Nat.{ℕ, _+_, _/_, _%_, _≤_, _<_}
 use mathlib.Core.Path.{_≡_, refl, sym, ap, _∙_, subst}
-use mathlib.Core.Bool.{cond}
+use mathlib.Core.Bool.{true, cond}
 use mathlib.Core.List.{List, [], _∷_, _++_, map}
 use native.Mathlib.Omega.{arith}
 use lib.ListN.{length, take, getD, length-append, length-map}
@@ -11,10 +11,10 @@ use Rattle.mir.proofs.Passing.{either}
 use Rattle.lowering.specs.Lower.{lowerSheet}
 use Rattle.complexify.specs.declared.entry.Answer as Lowered
 use Rattle.complexify.specs.Entry as Lower
-use Rattle.complexify.proofs.Within.{within}
-use Rattle.interface.specs.Bytes.{bytesOf, words, wordsOf}
+use Rattle.complexify.proofs.Within.{other-length, within}
+use Rattle.interface.specs.Bytes.{bytesOf, wordsOf}
 use Rattle.interface.specs.Calls.{flag, lowerAnswer, lowerCall}
-use Rattle.interface.proofs.Lengths.{length-bytesOf, length-words, sets-append, sets-whole, sets-front, bytesOf-sets}
+use Rattle.interface.proofs.Lengths.{length-bytesOf, length-wordsOf, sets-append, sets-whole, sets-front, bytesOf-sets}
 use Rattle.interface.proofs.RoundTrip.{bytesOf-words}
 
 -- three runs of stores, one after the other, that fill the slice
@@ -40,33 +40,42 @@ told a l hl hr hp =
     three-runs l (bytesOf (a .number ∷ a .index ∷ a .written ∷ a .count ∷ [])) (map flag (a .real .regs)) (a .real .places) hl
     (length-bytesOf (a .number ∷ a .index ∷ a .written ∷ a .count ∷ [])) (length-map (a .real .regs) flag ∙ hr) hp
 
+-- bytes that are whole words are their words' bytes
+back : (s : List ℕ) → length s % 8 ≡ 0 → ((i : ℕ) → i < length s → getD s i 0 < 256) → bytesOf (wordsOf s) ≡ s
+unfolding wordsOf
+back s h below = bytesOf-words (length s / 8) s (omega (arith, h)) below
+
 module _ (sheet listing constants lent : List ℕ) (whole-answer : length lent ≡ 128) (whole-constants : length constants % 8 ≡ 0) where
-  pub wrong-constants : {a : Lowered.Answer} {r : List ℕ} → (length constants ≡ 2048 → ⊥) → a ≡ Lower.refusedSetup → r ≡ lowerAnswer a
+  -- the entry refuses constants of another length
+  pub wrong-constants : {a : Lowered.Answer} {r : List ℕ} → ((i : ℕ) → i < length constants → getD constants i 0 < 256)
+      → (length constants ≡ 2048 → ⊥) → a ≡ Lower.refusedSetup → r ≡ lowerAnswer a
       → record { number = 8; listing = listing; constants = constants; answer = r } ≡ lowerCall sheet listing constants lent
   unfolding lowerCall
-  wrong-constants h d e =
-      simp (eq-eqb _ _ whole-answer, eq-eqb _ _ whole-constants, ne-eqb _ _ h)
-      (ap (λ x. record { number = 8; listing = listing; constants = constants; answer = x }) (e ∙ ap lowerAnswer d))
+  wrong-constants below h d e =
+      let n = length-wordsOf constants in
+      let w : Lower.wrongSetup sheet listing (wordsOf constants) ≡ true =
+      other-length sheet listing (wordsOf constants) (λ q. h (omega (arith, q, n, whole-constants))) in
+      let ec = sym (back constants whole-constants below) in
+      let er = e ∙ ap lowerAnswer d in
+      simp (eq-eqb _ _ whole-answer, eq-eqb _ _ whole-constants, w)
+      (λ i. record { number = 8; listing = listing; constants = ec i; answer = er i })
 
-  pub lowered : {a : Lowered.Answer} {s c r : List ℕ} → length constants ≡ 2048 → a ≡ Lower.answer sheet listing (wordsOf constants)
+  pub lowered : {a : Lowered.Answer} {s c r : List ℕ} → a ≡ Lower.answer sheet listing (wordsOf constants)
       → s ≡ Lower.listingAfter sheet listing (wordsOf constants) → c ≡ bytesOf (Lower.constantsAfter sheet listing (wordsOf constants))
       → r ≡ lowerAnswer a → record { number = a .number; listing = s; constants = c; answer = r } ≡ lowerCall sheet listing constants lent
   unfolding lowerCall
-  lowered h ea es ec g =
+  lowered ea es ec g =
       let er = g ∙ ap lowerAnswer ea in
-      simp (eq-eqb _ _ whole-answer, eq-eqb _ _ whole-constants, eq-eqb _ _ h)
+      simp (eq-eqb _ _ whole-answer, eq-eqb _ _ whole-constants)
       (λ i. record { number = ea i .number; listing = es i; constants = ec i; answer = er i })
 
 module _ (sheet listing constants zeros : List ℕ) (e : length constants ≡ 2048) (z : length zeros ≡ 256)
     (below : (i : ℕ) → i < length constants → getD constants i 0 < 256) where
-  -- the constants' words
   words-long : length (wordsOf constants) ≡ 256
-  unfolding wordsOf
-  words-long = length-words (length constants / 8) constants ∙ ap (λ n. n / 8) e
+  words-long = length-wordsOf constants ∙ ap (λ n. n / 8) e
 
   words-back : bytesOf (wordsOf constants) ≡ constants
-  unfolding wordsOf
-  words-back = ap (λ n. bytesOf (words (n / 8) constants)) e ∙ bytesOf-words 256 constants e below
+  words-back = back constants (omega (arith, e)) below
 
   -- lowering reads no word that it has not written: of other words than the constants' it gives the same
   same-setup : Lower.wrongSetup sheet listing zeros ≡ Lower.wrongSetup sheet listing (wordsOf constants)

@@ -14,11 +14,7 @@ use Rattle.player.specs.declared.Answer as player
 use Rattle.player.specs.Values.{whole}
 use Rattle.interface.specs.Bytes.{bytesOf, words, wordsOf}
 use Rattle.interface.specs.Calls.{given, playCall}
-use Rattle.interface.proofs.Lengths.{length-bytesOf, length-words, sets-whole, sets-front}
-
-length-wordsOf : (s : List ℕ) → length (wordsOf s) ≡ length s / 8
-unfolding wordsOf
-length-wordsOf s = length-words (length s / 8) s
+use Rattle.interface.proofs.Lengths.{length-bytesOf, length-words, length-wordsOf, sets-whole, sets-front}
 
 either : (b : Bool) (σ : Store)
     → record { number = 8; index = 0; played = 0; store = σ } ≡ refuse b 8 0 σ (record { number = 8; index = 0; played = 0; store = σ })

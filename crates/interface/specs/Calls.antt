@@ -49,18 +49,15 @@ lowerAnswer a =
     bytesOf (a .number ∷ a .index ∷ a .written ∷ a .count ∷ []) ++ (map flag (a .real .regs) ++ a .real .places)
 
 -- An answer of another length than 128 bytes, and constants that are no whole number of words, are refused by 8 with nothing written.
--- Constants of another length than 256 words are refused by 8 as the entry refuses them. Otherwise the call gives what the entry gives for
--- the words.
+-- Otherwise the call gives what the entry gives for the words.
 unfoldable pub lowerCall : List ℕ → List ℕ → List ℕ → List ℕ → LowerCall
 unfolding bytesOf wordsOf
 lowerCall sheet listing constants lent =
     cond (not (eqb (length lent) 128)) (record { number = 8; listing = listing; constants = constants; answer = lent })
     (cond (not (eqb (length constants % 8) 0)) (record { number = 8; listing = listing; constants = constants; answer = lent })
-    (cond (not (eqb (length constants) 2048))
-    (record { number = 8; listing = listing; constants = constants; answer = lowerAnswer Lower.refusedSetup })
     (record {
       number = Lower.answer sheet listing (wordsOf constants) .number;
       listing = Lower.listingAfter sheet listing (wordsOf constants);
       constants = bytesOf (Lower.constantsAfter sheet listing (wordsOf constants));
       answer = lowerAnswer (Lower.answer sheet listing (wordsOf constants));
-    })))
+    }))

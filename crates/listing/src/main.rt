@@ -1,8 +1,6 @@
 // Reads a sheet from standard input, lowers it, and prints its constants and its listing, or the refusal.
 ghost use Prim.Native.Nat.{_+_, _*_, _≤_};
 ghost use mathlib.Core.Path.{_≡_};
-ghost use mathlib.Core.Bool.{cond};
-ghost use lib.Dec.{ltb};
 ghost use lib.ListN.{length, take};
 ghost use Rattle.listing.specs.Puts.{Puts};
 ghost use Rattle.listing.specs.Printed.{textOf, printed};
@@ -17,22 +15,17 @@ use page::put_line;
 use page::put_page;
 use text::lines::refused_line;
 
-fn least(a: usize, b: usize) -> usize
-    ensures { λ r. ⌜ r ≡ cond (ltb a b) a b ⌝ }
-{
-    if a < b { a } else { b }
-}
-
 // The text for what lowering gave back: of the first `count` words and the first `written` bytes.
 fn put_text(out: &mut [u8], a: Answer, constants: &[u64], listing: &[u8]) -> usize
     requires { ⌜ 80 * length (now constants) + 5 * length (now listing) + 160 ≤ length (now out) ⌝ }
+    requires { ⌜ (a .count ≤ length (now constants)) × (a .written ≤ length (now listing)) ⌝ }
     ensures { λ r. ⌜ Puts (now (out .entry)) 0 (textOf a (now (constants .entry)) (now (listing .entry))) (now (out .exit)) r ⌝ }
 {
     if a.number != 0 {
         return put_line(out, 0, refused_line(a.number as u64, a.index as u64));
     }
-    let count = least(a.count, constants.len());
-    let written = least(a.written, listing.len());
+    let count = a.count;
+    let written = a.written;
     put_page(out, &constants[0..count], &listing[0..written])
 }
 

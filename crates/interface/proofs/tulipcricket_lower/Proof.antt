@@ -26,7 +26,7 @@ same-length c = search needs
 returns-3 : tie.Need-returns-3
 returns-3 c =
     let a = c .before .before .before .before .before .before .before .before .before .before .before .before .args in
-    wrong-constants (a .sheet .now) (a .listing .now) (a .constants .now) (a .answer .now) (c .before .before .before .before .before .before .before .if1 .left) (c .before .before .before .before .before .before .if2 .left) (c .before .before .before .before .before .if3 .taken)
+    wrong-constants (a .sheet .now) (a .listing .now) (a .constants .now) (a .answer .now) (c .before .before .before .before .before .before .before .if1 .left) (c .before .before .before .before .before .before .if2 .left) (λ i h. c .before .before .before .before .before .before .before .before .before .slice-known2 .given i .fits) (c .before .before .before .before .before .if3 .taken)
     (c .before .before .before .wrong-constants .ensures) (c .before .before .put-answer .ensures)
 
 lower-words-requires : tie.Need-lower-words-requires
@@ -51,7 +51,7 @@ returns-4 : tie.Need-returns-4
 returns-4 c =
     let a = c .before .before .before .before .before .before .before .before .before .before .before .before .before .before .before .before .before .before .before .args in
     let p = c .before .before .before .before .before .before .before .before .before .lower-words .ensures in
-    lowered (a .sheet .now) (a .listing .now) (a .constants .now) (a .answer .now) (c .before .before .before .before .before .before .before .before .before .before .before .before .before .before .if1 .left) (c .before .before .before .before .before .before .before .before .before .before .before .before .before .if2 .left) (c .before .before .before .before .before .before .before .before .before .before .before .before .if3 .left)
+    lowered (a .sheet .now) (a .listing .now) (a .constants .now) (a .answer .now) (c .before .before .before .before .before .before .before .before .before .before .before .before .before .before .if1 .left) (c .before .before .before .before .before .before .before .before .before .before .before .before .before .if2 .left)
     (p .0) (p .1) (p .2) (c .before .before .before .put-answer2 .ensures)
 
 pub tulipcricket-lower-spec : {M : Type 1} → statement M

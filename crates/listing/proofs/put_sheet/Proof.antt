@@ -4,7 +4,7 @@ use native.Mathlib.Omega.{arith}
 use Prim.Native.Nat.{ℕ}
 use mathlib.Core.Path.{_∙_}
 use lib.ListN.{length-replicate}
-use Rattle.listing.proofs.Answering.{all-printed}
+use Rattle.listing.proofs.Answering.{given-within, all-printed}
 use Rattle.listing.proofs.put_sheet.Statement.{statement}
 use Rattle.listing.proofs.put_sheet.Tie as tie
 
@@ -18,9 +18,11 @@ put-sheet-spec =
     (λ c. search needs)
     (λ c. search needs)
     (λ c κs.
-    let h = c .before .before .before .before .before .lower .kept .1 .0 ∙ length-replicate {A = ℕ} 65536 0 in
-    let k = c .before .before .before .before .before .lower .kept .1 .1 .0 ∙ length-replicate {A = ℕ} 256 0 in
-    omega (arith, h, k))
+    let l = c .before .before .before .before .before .lower in
+    let h = l .kept .1 .0 ∙ length-replicate {A = ℕ} 65536 0 in
+    let k = l .kept .1 .1 .0 ∙ length-replicate {A = ℕ} 256 0 in
+    let w = given-within (c .before .before .before .before .before .before .before .before .before .before .args .sheet .now) (l .ensures .0) in
+    omega (arith, h, k, w .0, w .1))
     (λ c. search needs)
     (λ c.
     let e = c .before .before .before .before .before .before .before .before .lower .ensures in
