@@ -33,7 +33,7 @@ impl Complexifier {
     }
 
     // A register recorded as real, or as complex.
-    pub fn set_reg(mut self, dst: u8, real: bool) -> Complexifier
+    pub fn set_reg(self, dst: u8, real: bool) -> Complexifier
         ensures { λ c. ⌜ c ≡ recorded self (Spec.setReg (self .real) dst real) ⌝ }
     {
         let before = self.real;
@@ -44,7 +44,7 @@ impl Complexifier {
         }
     }
 
-    pub fn set_reg_real(mut self, dst: u8) -> Complexifier
+    pub fn set_reg_real(self, dst: u8) -> Complexifier
         ensures { λ c. ⌜ c ≡ recorded self (Spec.setRegReal (self .real) dst) ⌝ }
     {
         let before = self.real;
@@ -55,7 +55,7 @@ impl Complexifier {
         }
     }
 
-    pub fn set_reg_complex(mut self, dst: u8) -> Complexifier
+    pub fn set_reg_complex(self, dst: u8) -> Complexifier
         ensures { λ c. ⌜ c ≡ recorded self (Spec.setRegComplex (self .real) dst) ⌝ }
     {
         let before = self.real;
@@ -66,7 +66,7 @@ impl Complexifier {
         }
     }
 
-    pub fn copy_real(mut self, dst: u8, s1: u8) -> Complexifier
+    pub fn copy_real(self, dst: u8, s1: u8) -> Complexifier
         ensures { λ c. ⌜ c ≡ recorded self (Spec.copyReal (self .real) dst s1) ⌝ }
     {
         let before = self.real;
@@ -77,7 +77,7 @@ impl Complexifier {
         }
     }
 
-    pub fn promote_real(mut self, dst: u8, s1: u8, s2: u8) -> Complexifier
+    pub fn promote_real(self, dst: u8, s1: u8, s2: u8) -> Complexifier
         ensures { λ c. ⌜ c ≡ recorded self (Spec.promoteReal (self .real) dst s1 s2) ⌝ }
     {
         let before = self.real;

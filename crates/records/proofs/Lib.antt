@@ -1,4 +1,4 @@
-mod Taken
+pub mod Taken
 mod Registers
 pub mod Reading
 pub mod Holding
