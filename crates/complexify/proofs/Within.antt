@@ -1,7 +1,7 @@
 -- Lowering and the lent slices: constants of another length than 256 words are refused, and what is given back lies within the slices, no
 -- more bytes than the listing has room for and at most 256 constants.
 use Prim.Native.Nat.{ℕ, suc, _+_, _≤_}
-use mathlib.Core.Path.{_≡_, refl}
+use mathlib.Core.Path.{_≡_, refl, sym, subst}
 use mathlib.Core.Bool.{Bool, true, false, not, _||_}
 use mathlib.Core.List.{List, [], _∷_, _++_}
 use native.Mathlib.Omega.{arith}
@@ -17,6 +17,7 @@ use Rattle.sheet.proofs.Setting.{length-constants}
 use Rattle.lowering.specs.Complexifier.{State}
 use Rattle.lowering.specs.Lower.{Ended, barred, lowerFrom, startState, lowerSheet}
 use Rattle.lowering.specs.Rerun.{rerun}
+use Rattle.complexify.specs.declared.entry.Answer.{Answer}
 use Rattle.complexify.specs.Entry.{wrongSetup, answer}
 use Rattle.complexify.specs.Taken.{space}
 use Rattle.complexify.proofs.Grown.{space-start}
@@ -61,15 +62,15 @@ held-sheet sheet room e =
     let n = length-constants sheet (x .count) 0 in
     held (x .stable) room (d .items) (d .fault) 0 [] (startState (x .places) own) (omega arith) (space-start own (omega (arith, c, n)))
 
-pub record Within (sheet listing constants : List ℕ) : Type 0 where
-  pub written : answer sheet listing constants .written ≤ length listing
-  pub count : answer sheet listing constants .count ≤ 256
+pub record Within (listing : List ℕ) (a : Answer) : Type 0 where
+  pub written : a .written ≤ length listing
+  pub count : a .count ≤ 256
 
-refused : (sheet listing constants : List ℕ) → wrongSetup sheet listing constants ≡ true → Within sheet listing constants
+refused : (sheet listing constants : List ℕ) → wrongSetup sheet listing constants ≡ true → Within listing (answer sheet listing constants)
 refused sheet listing constants w = record { written = simp w (omega arith); count = simp w (omega arith) }
 
-pub within : (sheet listing constants : List ℕ) → Within sheet listing constants
-within sheet listing constants =
+answered : (sheet listing constants : List ℕ) → Within listing (answer sheet listing constants)
+answered sheet listing constants =
     either (eqb (setup sheet .number) 0)
     (λ e.
     let h = held-sheet sheet (length listing) (eqb-true _ _ e) in
@@ -77,3 +78,6 @@ within sheet listing constants =
     either (wrongSetup sheet listing constants) (refused sheet listing constants)
     (λ w. record { written = simp w (h .bytes); count = simp w (omega (arith, k)) }))
     (λ e. refused sheet listing constants (simp e))
+
+pub within : (sheet listing constants : List ℕ) {a : Answer} → a ≡ answer sheet listing constants → Within listing a
+within sheet listing constants e = subst (Within listing) (sym e) (answered sheet listing constants)

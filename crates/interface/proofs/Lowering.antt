@@ -15,7 +15,7 @@ use Rattle.complexify.proofs.Within.{other-length, within}
 use Rattle.interface.specs.Bytes.{bytesOf, wordsOf}
 use Rattle.interface.specs.Calls.{flag, lowerAnswer, lowerCall}
 use Rattle.interface.proofs.Lengths.{length-bytesOf, length-wordsOf, sets-append, sets-whole, sets-front, bytesOf-sets}
-use Rattle.interface.proofs.RoundTrip.{bytesOf-words}
+use Rattle.interface.proofs.RoundTrip.{bytesOf-wordsOf}
 
 -- three runs of stores, one after the other, that fill the slice
 three-runs : (l a b c : List ℕ) {x y z : List ℕ} → length l ≡ 128 → length a ≡ 32 → length b ≡ 32 → length c ≡ 64
@@ -40,11 +40,6 @@ told a l hl hr hp =
     three-runs l (bytesOf (a .number ∷ a .index ∷ a .written ∷ a .count ∷ [])) (map flag (a .real .regs)) (a .real .places) hl
     (length-bytesOf (a .number ∷ a .index ∷ a .written ∷ a .count ∷ [])) (length-map (a .real .regs) flag ∙ hr) hp
 
--- bytes that are whole words are their words' bytes
-back : (s : List ℕ) → length s % 8 ≡ 0 → ((i : ℕ) → i < length s → getD s i 0 < 256) → bytesOf (wordsOf s) ≡ s
-unfolding wordsOf
-back s h below = bytesOf-words (length s / 8) s (omega (arith, h)) below
-
 module _ (sheet listing constants lent : List ℕ) (whole-answer : length lent ≡ 128) (whole-constants : length constants % 8 ≡ 0) where
   -- the entry refuses constants of another length
   pub wrong-constants : {a : Lowered.Answer} {r : List ℕ} → ((i : ℕ) → i < length constants → getD constants i 0 < 256)
@@ -55,7 +50,7 @@ module _ (sheet listing constants lent : List ℕ) (whole-answer : length lent �
       let n = length-wordsOf constants in
       let w : Lower.wrongSetup sheet listing (wordsOf constants) ≡ true =
       other-length sheet listing (wordsOf constants) (λ q. h (omega (arith, q, n, whole-constants))) in
-      let ec = sym (back constants whole-constants below) in
+      let ec = sym (bytesOf-wordsOf constants whole-constants below) in
       let er = e ∙ ap lowerAnswer d in
       simp (eq-eqb _ _ whole-answer, eq-eqb _ _ whole-constants, w)
       (λ i. record { number = 8; listing = listing; constants = ec i; answer = er i })
@@ -75,7 +70,7 @@ module _ (sheet listing constants zeros : List ℕ) (e : length constants ≡ 20
   words-long = length-wordsOf constants ∙ ap (λ n. n / 8) e
 
   words-back : bytesOf (wordsOf constants) ≡ constants
-  words-back = back constants (omega (arith, e)) below
+  words-back = bytesOf-wordsOf constants (omega (arith, e)) below
 
   -- lowering reads no word that it has not written: of other words than the constants' it gives the same
   same-setup : Lower.wrongSetup sheet listing zeros ≡ Lower.wrongSetup sheet listing (wordsOf constants)
@@ -99,7 +94,7 @@ module _ (sheet listing constants zeros : List ℕ) (e : length constants ≡ 20
       (λ w. simp (w, sym same-setup ∙ w) (sym words-back))
       (λ w.
       let consts = lowerSheet sheet (length listing) .state .consts in
-      let few : length consts ≤ 256 = subst (λ b. cond b Lower.refusedSetup (Lower.answerOf (lowerSheet sheet (length listing))) .count ≤ 256) w (within sheet listing zeros .count) in
+      let few : length consts ≤ 256 = subst (λ b. cond b Lower.refusedSetup (Lower.answerOf (lowerSheet sheet (length listing))) .count ≤ 256) w (within sheet listing zeros refl .count) in
       simp (w, sym same-setup ∙ w)
       (ap (λ v. sets constants 0 (bytesOf v)) (sets-front zeros consts (length consts) refl (omega (arith, few, z)))
       ∙ ap (λ l. sets l 0 (bytesOf consts)) (sym words-back)

@@ -1,17 +1,18 @@
 -- A call that is refused leaves the store's bytes as they were.
-use Prim.Native.Nat.{ℕ, _/_, _%_, _<_}
+use Prim.Native.Nat.{ℕ, _%_, _<_}
 use mathlib.Core.Path.{_≡_, refl, ap, _∙_}
 use mathlib.Core.Bool.{Bool, true, false, not, cond}
 use mathlib.Core.List.{List, [], _∷_}
+use native.Mathlib.Omega.{arith}
 use lib.ListN.{length, drop, getD}
 use lib.Dec.{T, ltb, eqb, eqb→eq}
 use Rattle.records.specs.Record.{records}
 use Rattle.machine.specs.Machine.{Store, block, play, going}
 use Rattle.machine.specs.Jumps.{breach}
 use Rattle.machine.specs.Answer.{Answer, refuse, accept, answer}
-use Rattle.interface.specs.Bytes.{bytesOf, words, wordsOf}
+use Rattle.interface.specs.Bytes.{bytesOf, wordsOf}
 use Rattle.interface.specs.Calls.{PlayCall, given, playCall}
-use Rattle.interface.proofs.RoundTrip.{bytesOf-words}
+use Rattle.interface.proofs.RoundTrip.{bytesOf-wordsOf}
 
 -- a play that is refused leaves the store as it was
 refuse-keeps : (b : Bool) (n i : ℕ) (σ : Store) (a : Answer) → ((a .number ≡ 0 → ⊥) → a .store ≡ σ)
@@ -40,9 +41,7 @@ answer-keeps listing constants start σ =
 -- its words as bytes are the bytes that were lent
 given-keeps : (store : List ℕ) (a : Answer) → length store ≡ 12816 → ((i : ℕ) → i < length store → getD store i 0 < 256)
     → ((a .number ≡ 0 → ⊥) → a .store ≡ wordsOf store) → (given a .number ≡ 0 → ⊥) → given a .store ≡ store
-unfolding wordsOf
-given-keeps store a e h k r =
-    ap bytesOf (k r ∙ ap (λ n. words (n / 8) store) e) ∙ bytesOf-words 1602 store e h
+given-keeps store a e h k r = ap bytesOf (k r) ∙ bytesOf-wordsOf store (omega (arith, e)) h
 
 by-test : (m n : ℕ) (a b : PlayCall) {s : List ℕ} → a .store ≡ s → (m ≡ n → (b .number ≡ 0 → ⊥) → b .store ≡ s)
     → (cond (not (eqb m n)) a b .number ≡ 0 → ⊥) → cond (not (eqb m n)) a b .store ≡ s

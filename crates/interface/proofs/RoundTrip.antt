@@ -6,7 +6,7 @@ use native.Mathlib.Nat.{pow-suc}
 use native.Mathlib.Omega.{arith}
 use lib.ListN.{length, take, drop, getD, length-drop, take-append-drop}
 use lib.Seq.{getD-take, getD-drop, length-take-le}
-use Rattle.interface.specs.Bytes.{bytes, number, bytesOf, words}
+use Rattle.interface.specs.Bytes.{bytes, number, bytesOf, words, wordsOf}
 
 pub number-bytes : (n w : ℕ) → w < 256 ^ n → number (bytes n w) ≡ w
 unfolding number bytes
@@ -31,7 +31,7 @@ words-bytesOf [] h = refl
 words-bytesOf (w ∷ ws) h =
     λ i. number-bytes 8 w (h 0 (omega arith)) i ∷ words-bytesOf ws (λ j l. h (suc j) (omega arith)) i
 
-pub bytesOf-words : (n : ℕ) (s : List ℕ) → length s ≡ 8 * n → ((i : ℕ) → i < length s → getD s i 0 < 256) → bytesOf (words n s) ≡ s
+bytesOf-words : (n : ℕ) (s : List ℕ) → length s ≡ 8 * n → ((i : ℕ) → i < length s → getD s i 0 < 256) → bytesOf (words n s) ≡ s
 unfolding words bytesOf
 bytesOf-words zero [] e h = refl
 bytesOf-words zero (b ∷ s) e h = absurd (omega arith)
@@ -44,3 +44,8 @@ bytesOf-words (suc n) s e h =
     let rest : bytesOf (words n (drop 8 s)) ≡ drop 8 s =
     bytesOf-words n (drop 8 s) (omega arith) (λ i l. rw (getD-drop 8 s i 0) (h (8 + i) (omega arith))) in
     (λ i. front i ++ rest i) ∙ take-append-drop 8 s
+
+-- bytes that are whole words are their words' bytes
+pub bytesOf-wordsOf : (s : List ℕ) → length s % 8 ≡ 0 → ((i : ℕ) → i < length s → getD s i 0 < 256) → bytesOf (wordsOf s) ≡ s
+unfolding wordsOf
+bytesOf-wordsOf s h below = bytesOf-words (length s / 8) s (omega (arith, h)) below

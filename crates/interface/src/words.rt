@@ -7,6 +7,7 @@ ghost use lib.Seq.{sets};
 ghost use Rattle.interface.specs.Bytes.{bytes, number, bytesOf, words};
 ghost use Rattle.interface.specs.Calls.{flag};
 
+// The byte at a position.
 fn byte_at(s: &[u8], i: usize) -> u8
     requires { ⌜ i < length (now s) ⌝ }
     ensures { λ r. ⌜ r ≡ getD (now (s .entry)) i 0 ⌝ }

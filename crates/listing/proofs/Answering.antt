@@ -1,14 +1,12 @@
 -- The text for an answer of lowering, and for a sheet.
-use Prim.Native.Nat.{ℕ, _-_, _≤_}
+use Prim.Native.Nat.{ℕ, _-_}
 use mathlib.Core.Path.{_≡_, ap, _∙_}
 use mathlib.Core.List.{List}
 use native.Mathlib.Nat.{sub-zero}
-use native.Mathlib.Omega.{arith}
 use borrow.Author.Tests.{eq-eqb, ne-eqb}
-use lib.ListN.{length, take, replicate, length-replicate}
+use lib.ListN.{length, take, replicate}
 use Rattle.complexify.specs.declared.entry.Answer.{Answer}
 use Rattle.complexify.specs.Entry.{answer, listingAfter, constantsAfter}
-use Rattle.complexify.proofs.Within.{within}
 use Rattle.text.specs.Text.{refusedLine}
 use Rattle.listing.specs.Printed.{pageOf, textOf, printed}
 
@@ -18,16 +16,6 @@ module _ (a : Answer) (constants listing : List ℕ) where
 
   pub accepted-text : a .number ≡ 0 → pageOf (take (a .count - 0) constants) (take (a .written - 0) listing) ≡ textOf a constants listing
   accepted-text h = simp (sub-zero, eq-eqb _ _ h)
-
--- what lowering gives back lies within the slices that are lent to it
-pub given-within : (sheet : List ℕ) {a : Answer} → a ≡ answer sheet (replicate 65536 0) (replicate 256 0)
-    → (a .written ≤ 65536) × (a .count ≤ 256)
-given-within sheet e =
-    let w = within sheet (replicate 65536 0) (replicate 256 0) in
-    let n = length-replicate {A = ℕ} 65536 0 in
-    let b = ap (λ a. a .written) e in
-    let k = ap (λ a. a .count) e in
-    (omega (arith, w .written, n, b), omega (arith, w .count, k))
 
 pub all-printed : (sheet : List ℕ) {a : Answer} {constants listing : List ℕ} → a ≡ answer sheet (replicate 65536 0) (replicate 256 0)
     → listing ≡ listingAfter sheet (replicate 65536 0) (replicate 256 0) → constants ≡ constantsAfter sheet (replicate 65536 0) (replicate 256 0)

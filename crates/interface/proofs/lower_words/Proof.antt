@@ -1,20 +1,13 @@
 -- `interface::lower_words` meets its contract: the words that lowering has written are put over the constants' bytes.
 use borrow.Author.Needs.{needs}
-use Prim.Native.Nat.{ℕ, _≤_, _<_}
-use mathlib.Core.Path.{_≡_, refl, sym, ap, _∙_}
-use mathlib.Core.List.{List}
-use native.Mathlib.Omega.{arith}
+use Prim.Native.Nat.{ℕ, _<_}
+use mathlib.Core.Path.{refl, sym, _∙_}
 use lib.ListN.{length, getD, replicate}
 use lib.Seq.{length-take-le}
-use Rattle.complexify.specs.declared.entry.Answer.{Answer}
-use Rattle.complexify.specs.Entry.{answer}
 use Rattle.complexify.proofs.Within.{within}
 use Rattle.interface.proofs.Lowering.{same-answer, same-listing, over}
 use Rattle.interface.proofs.lower_words.Statement.{statement}
 use Rattle.interface.proofs.lower_words.Tie as tie
-
-few : (sheet listing words : List ℕ) {a : Answer} → a ≡ answer sheet listing words → a .count ≤ 256
-few sheet listing words e = let k = within sheet listing words .count in let f = ap (λ a. a .count) e in omega (arith, k, f)
 
 slice-aggregate-lower : tie.Need-slice-aggregate-lower
 slice-aggregate-lower c = search needs
@@ -24,17 +17,17 @@ lower-requires c κs = search needs
 
 array-share-prefix-words : tie.Need-array-share-prefix-words
 array-share-prefix-words c =
-    let k = few (c .before .before .before .before .before .before .before .before .before .before .args .sheet .now) (c .before .before .before .before .before .before .before .before .before .before .args .listing .now) (replicate 256 0) (c .before .before .before .before .lower .ensures .0) in
+    let k = within (c .before .before .before .before .before .before .before .before .before .before .args .sheet .now) (c .before .before .before .before .before .before .before .before .before .before .args .listing .now) (replicate 256 0) (c .before .before .before .before .lower .ensures .0) .count in
     search needs
 
 slice-aggregate-save : tie.Need-slice-aggregate-save
 slice-aggregate-save c =
-    let k = few (c .before .before .before .before .before .before .before .before .before .before .before .args .sheet .now) (c .before .before .before .before .before .before .before .before .before .before .before .args .listing .now) (replicate 256 0) (c .before .before .before .before .before .lower .ensures .0) in
+    let k = within (c .before .before .before .before .before .before .before .before .before .before .before .args .sheet .now) (c .before .before .before .before .before .before .before .before .before .before .before .args .listing .now) (replicate 256 0) (c .before .before .before .before .before .lower .ensures .0) .count in
     sym (length-take-le _ _ (search needs))
 
 save-requires : tie.Need-save-requires
 save-requires c κs =
-    let k = few (c .before .before .before .before .before .before .before .before .before .before .before .args .sheet .now) (c .before .before .before .before .before .before .before .before .before .before .before .args .listing .now) (replicate 256 0) (c .before .before .before .before .before .lower .ensures .0) in
+    let k = within (c .before .before .before .before .before .before .before .before .before .before .before .args .sheet .now) (c .before .before .before .before .before .before .before .before .before .before .before .args .listing .now) (replicate 256 0) (c .before .before .before .before .before .lower .ensures .0) .count in
     let p = c .before .before .before .before .before .lower in
     let m = length-take-le (p .result .count) (p .last .1 .1 .0) (search needs) in
     search needs

@@ -3,8 +3,9 @@ use borrow.Author.Needs.{needs}
 use native.Mathlib.Omega.{arith}
 use Prim.Native.Nat.{ℕ}
 use mathlib.Core.Path.{_∙_}
-use lib.ListN.{length-replicate}
-use Rattle.listing.proofs.Answering.{given-within, all-printed}
+use lib.ListN.{replicate, length-replicate}
+use Rattle.complexify.proofs.Within.{within}
+use Rattle.listing.proofs.Answering.{all-printed}
 use Rattle.listing.proofs.put_sheet.Statement.{statement}
 use Rattle.listing.proofs.put_sheet.Tie as tie
 
@@ -21,8 +22,9 @@ put-sheet-spec =
     let l = c .before .before .before .before .before .lower in
     let h = l .kept .1 .0 ∙ length-replicate {A = ℕ} 65536 0 in
     let k = l .kept .1 .1 .0 ∙ length-replicate {A = ℕ} 256 0 in
-    let w = given-within (c .before .before .before .before .before .before .before .before .before .before .args .sheet .now) (l .ensures .0) in
-    omega (arith, h, k, w .0, w .1))
+    let w = within (c .before .before .before .before .before .before .before .before .before .before .args .sheet .now) (replicate 65536 0) (replicate 256 0) (l .ensures .0) in
+    let n = length-replicate {A = ℕ} 65536 0 in
+    omega (arith, h, k, n, w .written, w .count))
     (λ c. search needs)
     (λ c.
     let e = c .before .before .before .before .before .before .before .before .lower .ensures in
