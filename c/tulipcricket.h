@@ -1,13 +1,19 @@
-/* Tulipcricket's two entries as C functions: link target/staticlib/libinterface.a, which `rt staticlib interface` makes.
+/* Tulipcricket's two entries as C functions: link target/staticlib/libtulipcricket.a, which c/library makes.
  *
- * Every slice is a pointer, which is not null even where the slice is empty, and a count of bytes. A slice that is written may not overlap
+ * Every slice is a pointer and a count of bytes; an empty one may have any pointer, NULL too. A slice that is written may not overlap
  * another. The functions keep no pointer, hold nothing between calls, take no memory but the stack's, and call only memcpy and memset.
  * Words are eight bytes, the lowest first; so are the numbers of an answer.
+ *
+ * Every answer has the same bits in whatever floating-point environment its caller runs (rounding, flushing to zero, traps, flags), and the
+ * environment is afterwards as it was. guard.c sees to that and to NULL; what the proved functions below it ask, unguarded.h says.
  *
  * Both return document 01's number, which is also the first number of the answer:
  *   0 accepted          1 torn record     2 unknown work      3 bad register    4 bad place
  *   5 missing constant  6 barred operand  7 listing full      8 wrong setup     9 stray jump
  * Lowering never gives 9; playing never gives 6 or 7.
+ *
+ * Lowering lists what the Rust lists, faults too. In plain mode a LoadMath Divide of a real register by a complex place gives a wrong
+ * quotient: 6 / (1 + i) plays as 6 - 3i. Load the place into a general register and Divide by that. docs/DIFFERENCES.md has more.
  */
 #ifndef TULIPCRICKET_H
 #define TULIPCRICKET_H

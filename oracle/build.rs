@@ -72,6 +72,6 @@ fn link(here: &Path) {
         Err(_) => here.join("../target/staticlib"),
     };
     println!("cargo:rustc-link-search=native={}", folder.display());
-    println!("cargo:rerun-if-changed={}", folder.join("libinterface.a").display());
-    println!("cargo:rustc-link-lib=static=interface");
+    println!("cargo:rerun-if-changed={}", folder.join("libtulipcricket.a").display());
+    println!("cargo:rustc-link-lib=static=tulipcricket");
 }

@@ -1,4 +1,4 @@
-//! Links libinterface.a, from ../../target/staticlib or from the folder named by INTERFACE.
+//! Links libtulipcricket.a, from ../../target/staticlib or from the folder named by INTERFACE.
 
 use std::env;
 use std::path::PathBuf;
@@ -9,7 +9,7 @@ fn main() {
         Err(_) => PathBuf::from(env::var("CARGO_MANIFEST_DIR").unwrap()).join("../../target/staticlib"),
     };
     println!("cargo:rerun-if-env-changed=INTERFACE");
-    println!("cargo:rerun-if-changed={}", folder.join("libinterface.a").display());
+    println!("cargo:rerun-if-changed={}", folder.join("libtulipcricket.a").display());
     println!("cargo:rustc-link-search=native={}", folder.display());
-    println!("cargo:rustc-link-lib=static=interface");
+    println!("cargo:rustc-link-lib=static=tulipcricket");
 }

@@ -9,7 +9,7 @@ use Rattle.complexify.specs.declared.entry.Answer as Lowered
 use Rattle.complexify.specs.Entry as Lower
 use Rattle.interface.specs.Bytes.{bytesOf, wordsOf}
 
--- what a call of `tulipcricket_play` returns, and the bytes that it leaves in the store and in the answer
+-- what a call of `tulipcricket_play_unguarded` returns, and the bytes that it leaves in the store and in the answer
 pub record PlayCall : Type 0 where
   pub number : ℕ
   pub store : List ℕ
@@ -31,7 +31,7 @@ playCall listing constants store start lent =
     (cond (not (eqb (length store) 12816)) (record { number = 8; store = store; answer = bytesOf (8 ∷ 0 ∷ 0 ∷ []) })
     (given (answer listing (wordsOf constants) start (wordsOf store)))))
 
--- what a call of `tulipcricket_lower` returns, and the bytes that it leaves in the listing, the constants and the answer
+-- what a call of `tulipcricket_lower_unguarded` returns, and the bytes that it leaves in the listing, the constants and the answer
 pub record LowerCall : Type 0 where
   pub number : ℕ
   pub listing : List ℕ

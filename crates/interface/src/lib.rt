@@ -36,7 +36,7 @@ fn play_words(listing: &[u8], constants: &[u8], store: &mut [u64], start: usize)
 
 // Plays a listing from a record on. The store is 12,816 bytes; the answer is 24: number, index, records played. Returns the number.
 #[no_mangle]
-pub extern "C" fn tulipcricket_play(
+pub extern "C" fn tulipcricket_play_unguarded(
     listing: &[u8],
     constants: &[u8],
     store: &mut [u8],
@@ -115,7 +115,7 @@ fn lower_words(sheet: &[u8], listing: &mut [u8], constants: &mut [u8]) -> Lowere
 // Lowers a sheet. The constants are 2,048 bytes; the answer is 128: number, index, bytes written, count of constants, 32 flags of
 // registers, 64 bytes of places. Returns the number.
 #[no_mangle]
-pub extern "C" fn tulipcricket_lower(
+pub extern "C" fn tulipcricket_lower_unguarded(
     sheet: &[u8],
     listing: &mut [u8],
     constants: &mut [u8],

@@ -1,7 +1,11 @@
 //! Tulipcricket from Rust: `lower` a sheet to a listing, `play` the listing on a store. The C functions that do the work are proved;
 //! this wrapper, which lends them slices of the right lengths, is not.
 //!
-//! The library is `libinterface.a`, which `rt staticlib interface` makes; see build.rs for where it is looked for.
+//! The library is `libtulipcricket.a`, which `c/library` makes; see build.rs for where it is looked for. Its answers do not depend on the
+//! thread's floating-point environment.
+//!
+//! Lowering lists what the Rust that it is a port of lists, faults too. In plain mode a LoadMath Divide of a real register by a complex place
+//! gives a wrong quotient: 6 / (1 + i) plays as 6 - 3i. Load the place into a general register and Divide by that.
 
 mod c;
 pub mod sheet;

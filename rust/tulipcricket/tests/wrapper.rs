@@ -72,3 +72,22 @@ fn a_refused_play_leaves_the_store() {
     assert!(store == before);
     assert_eq!(stray.to_string(), "refused 9 6 (StrayJump)");
 }
+
+/// 6 / (1 + i), by instructions that divide register 0, recorded as real, by Mem 3 into register 2.
+fn quotient(divide: impl Fn(&mut Sheet) -> &mut Sheet) -> (f64, f64) {
+    let mut sheet = Sheet::new(false);
+    let six = sheet.constant(6.0);
+    divide(sheet.load_const(0, six)).save(2, Class::Mem, 4);
+    let found = lower(&sheet.bytes(), LISTING_LIMIT).unwrap();
+    let mut store = Store::new();
+    store.set_place(Class::Mem, 3, (1.0, 1.0));
+    play(&found.listing, &found.constants, &mut store, 0).unwrap();
+    store.place(Class::Mem, 4)
+}
+
+#[test]
+fn a_plain_load_math_divide_is_wrong_as_in_the_rust() {
+    // LoadMath Divide 2, 0, Mem 3; and Load 1, Mem 3 with Divide 2, 0, 1.
+    assert_eq!(quotient(|sheet| sheet.instruction(9, &[Bi::Divide as u8, 2, 0, Class::Mem as u8, 3, 0])), (6.0, -3.0));
+    assert_eq!(quotient(|sheet| sheet.load(1, Class::Mem, 3).bi(Bi::Divide, 2, 0, 1)), (3.0, -3.0));
+}

@@ -1,10 +1,10 @@
--- `interface::tulipcricket_play` meets its contract: each refusal by its tests, and the play by one law.
+-- `interface::tulipcricket_play_unguarded` meets its contract: each refusal by its tests, and the play by one law.
 use borrow.Author.Needs.{needs}
 use borrow.Author.Tests.{eq-eqb, ne-eqb}
 use Rattle.interface.specs.Calls.{playCall}
 use Rattle.interface.proofs.Playing.{wrong-store, played}
-use Rattle.interface.proofs.tulipcricket_play.Statement.{statement}
-use Rattle.interface.proofs.tulipcricket_play.Tie as tie
+use Rattle.interface.proofs.tulipcricket_play_unguarded.Statement.{statement}
+use Rattle.interface.proofs.tulipcricket_play_unguarded.Tie as tie
 
 returns : tie.Need-returns
 unfolding playCall
@@ -72,8 +72,8 @@ returns-4 c =
     played (a .listing .now) (a .constants .now) (a .store .now) (a .start) (a .answer .now) (c .before .before .before .before .before .before .before .before .before .before .before .before .before .before .before .before .before .before .before .before .before .if1 .left) (c .before .before .before .before .before .before .before .before .before .before .before .before .before .before .before .before .before .before .before .before .if2 .left)
     _ (p .result) (c .before .before .before .before .before .before .before .before .before .before .before .before .before .before .before .before .before .before .before .if3 .left) (search needs) (c .before .before .before .before .before .before .before .before .before .before .before .before .before .before .before .before .load .ensures) (p .ensures) (search needs) (c .before .before .before .before .before .before .before .before .before .save2 .ensures) (c .before .before .before .save3 .ensures)
 
-pub tulipcricket-play-spec : {M : Type 1} → statement M
-tulipcricket-play-spec =
+pub tulipcricket-play-unguarded-spec : {M : Type 1} → statement M
+tulipcricket-play-unguarded-spec =
     tie.close
     (tie.spec
     returns

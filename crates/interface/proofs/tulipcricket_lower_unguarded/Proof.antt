@@ -1,10 +1,10 @@
--- `interface::tulipcricket_lower` meets its contract: each refusal by its tests, and the lowering by one law.
+-- `interface::tulipcricket_lower_unguarded` meets its contract: each refusal by its tests, and the lowering by one law.
 use borrow.Author.Needs.{needs}
 use borrow.Author.Tests.{eq-eqb, ne-eqb}
 use Rattle.interface.specs.Calls.{lowerCall}
 use Rattle.interface.proofs.Lowering.{wrong-constants, lowered}
-use Rattle.interface.proofs.tulipcricket_lower.Statement.{statement}
-use Rattle.interface.proofs.tulipcricket_lower.Tie as tie
+use Rattle.interface.proofs.tulipcricket_lower_unguarded.Statement.{statement}
+use Rattle.interface.proofs.tulipcricket_lower_unguarded.Tie as tie
 
 returns : tie.Need-returns
 unfolding lowerCall
@@ -54,8 +54,8 @@ returns-4 c =
     lowered (a .sheet .now) (a .listing .now) (a .constants .now) (a .answer .now) (c .before .before .before .before .before .before .before .before .before .before .before .before .before .before .if1 .left) (c .before .before .before .before .before .before .before .before .before .before .before .before .before .if2 .left)
     (p .0) (p .1) (p .2) (c .before .before .before .put-answer2 .ensures)
 
-pub tulipcricket-lower-spec : {M : Type 1} → statement M
-tulipcricket-lower-spec =
+pub tulipcricket-lower-unguarded-spec : {M : Type 1} → statement M
+tulipcricket-lower-unguarded-spec =
     tie.close
     (tie.spec
     returns

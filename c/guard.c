@@ -1,0 +1,60 @@
+/* The functions of tulipcricket.h: each calls the proved function below it with what unguarded.h asks, and leaves the caller's floating-point
+ * environment as it was, its flags too. No floating-point operation stands in this file. */
+#include "tulipcricket.h"
+#include "unguarded.h"
+
+#if defined(__x86_64__) && !defined(TULIPCRICKET_FENV) /* the gate compiles the other half on x86-64 too */
+
+#include <xmmintrin.h>
+
+/* MXCSR: all that the library's instructions obey. */
+typedef unsigned int Environment;
+
+static Environment enter(void) {
+    Environment callers = _mm_getcsr();
+    _mm_setcsr(0x1f80); /* to nearest, no flushing, every exception masked, no flag */
+    return callers;
+}
+
+static void leave(Environment callers) { _mm_setcsr(callers); }
+
+#else
+
+#include <fenv.h>
+#include <stdlib.h>
+
+typedef fenv_t Environment;
+
+static Environment enter(void) {
+    Environment callers;
+    if (fegetenv(&callers) != 0 || fesetenv(FE_DFL_ENV) != 0) abort();
+    return callers;
+}
+
+static void leave(Environment callers) {
+    if (fesetenv(&callers) != 0) abort();
+}
+
+#endif
+
+/* Where a slice is empty, whatever pointer it came with; never written. */
+static uint8_t nothing;
+
+#define SLICE(name) (name##_len == 0 ? &nothing : name), name##_len
+
+/* The body of a function: a call in the usual environment. */
+#define GUARDED(call)                                                                                                   \
+    Environment callers = enter();                                                                                      \
+    uint32_t number = call;                                                                                             \
+    leave(callers);                                                                                                     \
+    return number
+
+uint32_t tulipcricket_lower(const uint8_t *sheet, size_t sheet_len, uint8_t *listing, size_t listing_len,
+                            uint8_t *constants, size_t constants_len, uint8_t *answer, size_t answer_len) {
+    GUARDED(tulipcricket_lower_unguarded(SLICE(sheet), SLICE(listing), SLICE(constants), SLICE(answer)));
+}
+
+uint32_t tulipcricket_play(const uint8_t *listing, size_t listing_len, const uint8_t *constants, size_t constants_len,
+                           uint8_t *store, size_t store_len, uint64_t start, uint8_t *answer, size_t answer_len) {
+    GUARDED(tulipcricket_play_unguarded(SLICE(listing), SLICE(constants), SLICE(store), start, SLICE(answer)));
+}
