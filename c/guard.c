@@ -7,16 +7,20 @@
 
 #include <xmmintrin.h>
 
-/* MXCSR: all that the library's instructions obey. */
+/* MXCSR: all that the library's instructions obey. It is written only where it must be, which takes longer than reading it. */
 typedef unsigned int Environment;
+
+enum { USUAL = 0x1f80, FLAGS = 0x3f }; /* to nearest, no flushing, every exception masked; flags have no say in a result */
 
 static Environment enter(void) {
     Environment callers = _mm_getcsr();
-    _mm_setcsr(0x1f80); /* to nearest, no flushing, every exception masked, no flag */
+    if ((callers & ~(Environment)FLAGS) != USUAL) _mm_setcsr(USUAL);
     return callers;
 }
 
-static void leave(Environment callers) { _mm_setcsr(callers); }
+static void leave(Environment callers) {
+    if (_mm_getcsr() != callers) _mm_setcsr(callers);
+}
 
 #else
 

@@ -189,7 +189,7 @@ static Shape shape_of(const uint8_t *listing, size_t length) {
         shape.records++;
         shape.calls += kind == 16;
         inside |= kind == 14 && listing[at + 4] == 1 && !ended;
-        shape.block += inside;
+        shape.block += (uint64_t)inside;
         if (inside && kind == 15 && listing[at + 4] == 0) inside = 0, ended = 1;
     }
     return shape;

@@ -1,4 +1,4 @@
-//! The C functions of the crate `interface`, behind the same entries as the reference.
+//! The C functions of libtulipcricket.a, behind the same entries as the reference.
 
 use crate::format::{word, SETUP};
 use crate::lists::LENT;

@@ -331,7 +331,7 @@ fn cancelling(rng: &mut Rng) -> Operands {
 /// The exact product is the middle between two neighbours, and a small c decides.
 fn middle_product(rng: &mut Rng) -> Operands {
     let a = 1 << 26 | rng.below(1 << 26) | 1;
-    let b = (1 << 53) / a + 1 + rng.below(1 << 25) | 1;
+    let b = ((1 << 53) / a + 1 + rng.below(1 << 25)) | 1;
     let e = rng.between(-1000, 900);
     let split = rng.between(-60, 60);
     let c_place = e - rng.between(0, 120);
@@ -382,7 +382,7 @@ fn at_the_top(rng: &mut Rng) -> Operands {
         1 => {
             let a = word(negative, 1, 512);
             let b = near(word(false, 1, 512), rng);
-            let c = f64::MAX.to_bits() - rng.below(3) | sign ^ SIGN;
+            let c = (f64::MAX.to_bits() - rng.below(3)) | (sign ^ SIGN);
             [a, b, c, 0]
         }
         _ => {

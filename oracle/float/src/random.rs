@@ -13,7 +13,7 @@ impl Rng {
 
     /// A number below `limit`, which is small.
     pub fn below(&mut self, limit: u64) -> u64 {
-        (u128::from(self.bits()) * u128::from(limit) >> 64) as u64
+        ((u128::from(self.bits()) * u128::from(limit)) >> 64) as u64
     }
 
     /// A whole number from `low` to `high`.
