@@ -1,5 +1,7 @@
 /* The functions of tulipcricket.h: each calls the proved function below it with what unguarded.h asks, and leaves the caller's floating-point
- * environment as it was, its flags too. No floating-point operation stands in this file. */
+ * environment as it was, its flags too. No floating-point operation stands in this file.
+ *
+ * A further function has three lines here, its declarations in both headers, its crate in c/library, and cases in environment.c. */
 #include "tulipcricket.h"
 #include "unguarded.h"
 
