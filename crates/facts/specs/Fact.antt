@@ -1,16 +1,17 @@
 -- A row of the table of facts: a sheet and what the entry `lower` gives for it, or an operation of the machine on words and what it gives.
-use Prim.Native.Nat.{ℕ, _+_, _-_, _*_}
+use Prim.Native.Nat.{ℕ, _+_, _-_}
 use mathlib.Core.Bool.{Bool, true, false, cond}
 use mathlib.Core.List.{List, [], _∷_, _++_}
-use lib.ListN.{length, replicate, getD, set}
+use lib.ListN.{length, replicate, drop, set}
 use lib.Dec.{eqb}
 use Rattle.mir.specs.declared.ops.UniOp.{UniOp}
 use Rattle.mir.specs.declared.ops.BinOp.{BinOp}
 use Rattle.mir.specs.declared.ops.ArithOp.{ArithOp}
 use Rattle.mir.specs.declared.ops.FusedOp.{FusedOp}
+use Rattle.mir.specs.declared.records.Loc.{Loc}
+use Rattle.mir.specs.declared.records.Work.{Work}
 use Rattle.mir.specs.Operation.{uniNumber, binNumber, arithNumber, fusedNumber}
-use Rattle.float.specs.Word.{ifElse}
-use Rattle.machine.specs.Machine.{uniWord, binWord, fusedWord, complexWords}
+use Rattle.machine.specs.Machine.{Store, Write, _≔_, writes}
 use Rattle.complexify.specs.declared.entry.Answer.{Answer}
 use Rattle.complexify.specs.Entry.{answer, listingAfter, constantsAfter}
 
@@ -37,7 +38,7 @@ pub data Operation : Type 0 where
   ifelse : Operation
   complexBi : ArithOp → Operation
 
--- an operation, the words that it reads in the order of its record's fields, and the words that it gives
+-- an operation, the words that it reads in the order of its record's fields, and those that it gives
 pub record Computed : Type 0 where
   pub operation : Operation
   pub words : List ℕ
@@ -59,22 +60,33 @@ lentWord = 0xaaaa_aaaa_aaaa_aaaa
 -- what comes of a row: the entry's answer with both lent slices after it, or words
 pub data Outcome : Type 0 where
   left : Answer → List ℕ → List ℕ → Outcome
-  words : List ℕ → Outcome
+  wrote : List ℕ → Outcome
 
 abbrev pub lower : List ℕ → List ℕ → List ℕ → Outcome
 lower sheet listing constants =
     left (answer sheet listing constants) (listingAfter sheet listing constants) (constantsAfter sheet listing constants)
 
-abbrev pub compute : Operation → (ℕ → ℕ) → List ℕ
-compute (uni op) w = uniWord op (w 0) ∷ []
-compute (bi op) w = binWord op (w 0) (w 1) ∷ []
-compute (fused op) w = fusedWord op (w 0) (w 1) (w 2) ∷ []
-compute ifelse w = ifElse (w 2) (w 0) (w 1) ∷ []
-compute (complexBi op) w = complexWords op (w 0) (w 1) (w 2) (w 3) .0 ∷ complexWords op (w 0) (w 1) (w 2) (w 3) .1 ∷ []
+-- an operation's record: its operands are registers 0, 1, 2 and 3, in order, and of IfElse the real word of Stack 0 is the third; what it
+-- gives goes to registers 4 and 5
+abbrev pub asWork : Operation → Work
+asWork (uni op) = Work.Uni op 4 0
+asWork (bi op) = Work.Bi op 4 0 1
+asWork (fused op) = Work.Fused op 4 0 1 2
+asWork ifelse = Work.IfElse 4 0 1 (Loc.Stack 0)
+asWork (complexBi op) = Work.ComplexBi op 4 5 0 1 2 3
+
+-- a store that holds the operands: Stack 0 stands behind the 66 registers
+abbrev pub holding : List ℕ → Store
+holding words = words ++ (replicate (66 - length words) 0 ++ drop 2 words)
+
+-- the words that a record writes, in order
+abbrev pub values : List Write → List ℕ
+values [] = []
+values (i ≔ v ∷ ws) = v ∷ values ws
 
 abbrev pub given : Fact → Outcome
 given (lowered x) = lower (x .sheet) (replicate (x .room) lentByte) (replicate 256 lentWord)
-given (computed x) = words (compute (x .operation) (λ i. getD (x .words) i 0))
+given (computed x) = wrote (values (writes [] (holding (x .words)) (asWork (x .operation))))
 
 -- ---- what the row says
 
@@ -96,7 +108,7 @@ stated (lowered x) =
     })
     (x .bytes ++ replicate (x .room - length (x .bytes)) lentByte)
     (x .constants ++ replicate (256 - length (x .constants)) lentWord)
-stated (computed x) = words (x .gives)
+stated (computed x) = wrote (x .gives)
 
 -- ---- which operations have a row
 

@@ -12,8 +12,7 @@ use Rattle.mir.specs.declared.ops.ArithOp.{ArithOp}
 use Rattle.mir.specs.declared.ops.FusedOp.{FusedOp}
 use Rattle.mir.specs.Register.{re, im}
 use Rattle.mir.specs.Operation.{uniOps, binOps, fusedOps}
-use Rattle.mir.specs.Length.{lengthOf}
-use Rattle.mir.specs.Field.{wordAt, takesKind, placeAt, savePlace}
+use Rattle.mir.specs.Field.{takesKind, placeAt, savePlace}
 use Rattle.mir.specs.Decode.{decoded}
 use Rattle.mir.specs.Encode.{recordOf}
 use Rattle.sheet.specs.Setup.{setup, constantAt}
@@ -21,12 +20,10 @@ use Rattle.sheet.specs.Instruction.{instructionFrom}
 use Rattle.float.specs.Root.{squareRoot}
 use Rattle.float.specs.Fused.{fusedMultiplyAdd}
 use Rattle.float.specs.Integral.{roundToIntegral}
-use Rattle.machine.specs.Machine.{uniWord, binWord, fusedWord, complexWords}
-use Rattle.lowering.specs.Realness.{isRealLoc}
-use Rattle.lowering.specs.Lines as lines
+use Rattle.machine.specs.Machine.{uniWord, binWord, fusedWord, complexWords, writes}
 use Rattle.lowering.specs.Complexifier as c
-use Rattle.lowering.specs.Rerun.{rerun, rerunUni, rerunBin, rerunFused}
-use Rattle.lowering.specs.Lower.{lowerFrom, lowerSheet}
+use Rattle.lowering.specs.Rerun.{rerun, rerunUni, rerunBin}
+use Rattle.lowering.specs.Lower.{lowerSheet}
 use Rattle.facts.specs.Fact.{Fact, lowered, computed, Operation, uni, bi, fused, ifelse, complexBi, given, stated, computes}
 
 -- "a header: kind 32, mode byte (0 plain, 1 stable), 64 bytes of realness"
@@ -78,7 +75,7 @@ gives operation words result = computed (record { operation = operation; words =
 abbrev pub table : List Fact
 table =
     -- ---- document 01
-    -- the sheet on paper: the listing ends with SaveComplex G4 G5 Mem 4; G0 was real and is complex, since G1 is
+    -- the sheet on paper: its listing ends with SaveComplex G4 G5 Mem 4; general 0 was real, and is complex since general 1 is
     lowered
     (record {
       sheet = paper;
@@ -332,7 +329,7 @@ table =
 
 -- in each row what the definitions give is what the row says
 pub facts : map given table ≡ map stated table
-unfolding lowerSheet setup constantAt wordAt decoded instructionFrom takesKind placeAt savePlace lengthOf uniOps binOps fusedOps lowerFrom rerun rerunUni rerunBin rerunFused c.then c.unlisted c.emit c.byOne c.byTwo c.ensureComplex c.loadConst c.loadFrom c.saveTo c.times c.minus c.half c.abs c.stableAbs c.withThree c.stableConst c.position lines.loadLines lines.saveLines lines.eachLines lines.timesLines lines.minusLines lines.halfLines lines.stableAbsLines lines.stableExponent lines.ensureLines isRealLoc re im recordOf uniWord binWord fusedWord complexWords ofBits toBits add sub mul div lt eq ne squareRoot fusedMultiplyAdd roundToIntegral
+unfolding lowerSheet setup constantAt decoded instructionFrom takesKind placeAt savePlace uniOps binOps fusedOps rerun rerunUni rerunBin c.unlisted c.loadConst c.loadFrom c.saveTo c.times c.minus c.half c.abs re im recordOf writes uniWord binWord fusedWord complexWords ofBits toBits add sub mul div lt eq ne squareRoot fusedMultiplyAdd roundToIntegral
 facts = refl
 
 -- what a listing's records compute with (document 01, Sheet): "Uni Neg, Not, Abs, Root, Recip, Round, Half, Sign; Bi Plus, Minus, Times,
