@@ -1,10 +1,9 @@
--- The definitions of the crate. A reader begins with Word, which names Root, Fused and Integral, and then looks at Facts and Laws;
+-- The definitions of the crate. A reader begins with Word, which names Root, Fused and Integral, and then looks at Laws;
 -- Unpacked, Biased and Near are only what inner functions promise one another. Assumes nothing.
 pub mod Word
 pub mod Root
 pub mod Fused
 pub mod Integral
-pub mod Facts
 pub mod Laws
 pub mod Unpacked
 pub mod Biased

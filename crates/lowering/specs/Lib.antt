@@ -4,4 +4,3 @@ pub mod Lines
 pub mod Complexifier
 pub mod Rerun
 pub mod Lower
-pub mod Paper

@@ -1,0 +1,368 @@
+-- Document 01's facts ("One sheet on paper"), and worked cases of every operation of the machine, over one table. Sheets, listings and words
+-- are typed from document 01's record format and from IEEE 754, and none is computed by a definition.
+use Prim.Native.Nat.{ℕ}
+use mathlib.Core.Path.{_≡_, refl}
+use mathlib.Core.Bool.{true}
+use mathlib.Core.List.{List, [], _∷_, _++_, map}
+use lib.ListN.{replicate}
+use lib.Ieee.{ofBits, toBits, add, sub, mul, div, lt, eq, ne}
+use Rattle.mir.specs.declared.ops.UniOp.{UniOp}
+use Rattle.mir.specs.declared.ops.BinOp.{BinOp}
+use Rattle.mir.specs.declared.ops.ArithOp.{ArithOp}
+use Rattle.mir.specs.declared.ops.FusedOp.{FusedOp}
+use Rattle.mir.specs.Register.{re, im}
+use Rattle.mir.specs.Operation.{uniOps, binOps, fusedOps}
+use Rattle.mir.specs.Field.{takesKind, placeAt, savePlace}
+use Rattle.mir.specs.Decode.{decoded}
+use Rattle.mir.specs.Encode.{recordOf}
+use Rattle.sheet.specs.Setup.{setup, constantAt}
+use Rattle.sheet.specs.Instruction.{instructionFrom}
+use Rattle.float.specs.Root.{squareRoot}
+use Rattle.float.specs.Fused.{fusedMultiplyAdd}
+use Rattle.float.specs.Integral.{roundToIntegral}
+use Rattle.machine.specs.Machine.{uniWord, binWord, fusedWord, complexWords, writes}
+use Rattle.lowering.specs.Complexifier as c
+use Rattle.lowering.specs.Rerun.{rerun, rerunUni, rerunBin}
+use Rattle.lowering.specs.Lower.{lowerSheet}
+use Rattle.facts.specs.Fact.{Fact, lowered, computed, Operation, uni, bi, fused, ifelse, complexBi, given, stated, computes}
+
+-- "a header: kind 32, mode byte (0 plain, 1 stable), 64 bytes of realness"
+abbrev pub header : ℕ → List ℕ → List ℕ
+header mode places = 69 ∷ 0 ∷ 32 ∷ 0 ∷ mode ∷ places
+
+abbrev pub noPlaces : List ℕ
+noPlaces = replicate 64 0
+
+-- Param 9 alone: bit 1 of byte 1 of "the next 32 bytes"
+abbrev pub paramNine : List ℕ
+paramNine = replicate 33 0 ++ 2 ∷ replicate 30 0
+
+-- "constants: kind 33, eight bytes each": 4000000000000000
+abbrev pub two : List ℕ
+two = 12 ∷ 0 ∷ 33 ∷ 0 ∷ 0 ∷ 0 ∷ 0 ∷ 0 ∷ 0 ∷ 0 ∷ 0 ∷ 64 ∷ []
+
+-- "Plain mode, no real places, constant 4000000000000000; LoadConst general 0, constant 0; Load general 1, Mem 3; Times 0, 0, 1; Save 0,
+-- Mem 4."
+abbrev pub paper : List ℕ
+paper =
+    header 0 noPlaces
+    ++ two
+    ++ (7 ∷ 0 ∷ 6 ∷ 0 ∷ 0 ∷ 0 ∷ 0 ∷ [])
+    ++ (8 ∷ 0 ∷ 4 ∷ 0 ∷ 1 ∷ 1 ∷ 3 ∷ 0 ∷ [])
+    ++ (8 ∷ 0 ∷ 2 ∷ 0 ∷ 2 ∷ 0 ∷ 0 ∷ 1 ∷ [])
+    ++ (8 ∷ 0 ∷ 5 ∷ 0 ∷ 0 ∷ 1 ∷ 4 ∷ 0 ∷ [])
+
+-- LoadConst G4 0, LoadComplex G6 G7 Mem 3, Times G5 G4 G7, Times G4 G4 G6
+abbrev pub firstFour : List ℕ
+firstFour =
+    (7 ∷ 0 ∷ 6 ∷ 0 ∷ 4 ∷ 0 ∷ 0 ∷ [])
+    ++ (9 ∷ 0 ∷ 11 ∷ 0 ∷ 6 ∷ 7 ∷ 1 ∷ 3 ∷ 0 ∷ [])
+    ++ (8 ∷ 0 ∷ 2 ∷ 0 ∷ 2 ∷ 5 ∷ 4 ∷ 7 ∷ [])
+    ++ (8 ∷ 0 ∷ 2 ∷ 0 ∷ 2 ∷ 4 ∷ 4 ∷ 6 ∷ [])
+
+-- all ones
+abbrev pub ones : ℕ
+ones = 0xffff_ffff_ffff_ffff
+
+-- 1, 2, 3 and 5
+abbrev pub oneTwoThreeFive : List ℕ
+oneTwoThreeFive = 0x3ff0_0000_0000_0000 ∷ 0x4000_0000_0000_0000 ∷ 0x4008_0000_0000_0000 ∷ 0x4014_0000_0000_0000 ∷ []
+
+-- an operation on words, and the words that it gives
+abbrev pub gives : Operation → List ℕ → List ℕ → Fact
+gives operation words result = computed (record { operation = operation; words = words; gives = result })
+
+abbrev pub table : List Fact
+table =
+    -- ---- document 01
+    -- the sheet on paper: its listing ends with SaveComplex G4 G5 Mem 4; general 0 was real, and is complex since general 1 is
+    lowered
+    (record {
+      sheet = paper;
+      room = 41;
+      number = 0;
+      index = 4;
+      written = 41;
+      bytes = firstFour ++ (9 ∷ 0 ∷ 12 ∷ 0 ∷ 4 ∷ 5 ∷ 1 ∷ 4 ∷ 0 ∷ []);
+      count = 1;
+      constants = 0x4000_0000_0000_0000 ∷ [];
+      registers = [];
+      places = noPlaces;
+    })
+    -- "With 40 bytes this is 7 at index 3, 32 bytes written."
+    ∷ lowered
+    (record {
+      sheet = paper;
+      room = 40;
+      number = 7;
+      index = 3;
+      written = 32;
+      bytes = firstFour;
+      count = 1;
+      constants = 0x4000_0000_0000_0000 ∷ [];
+      registers = [];
+      places = noPlaces;
+    })
+    -- "general 29 becomes 62 and 63": Load general 29, Mem 0 is LoadComplex G62 G63 Mem 0
+    ∷ lowered
+    (record {
+      sheet = header 0 noPlaces ++ (8 ∷ 0 ∷ 4 ∷ 0 ∷ 29 ∷ 1 ∷ 0 ∷ 0 ∷ []);
+      room = 9;
+      number = 0;
+      index = 1;
+      written = 9;
+      bytes = 9 ∷ 0 ∷ 11 ∷ 0 ∷ 62 ∷ 63 ∷ 1 ∷ 0 ∷ 0 ∷ [];
+      count = 0;
+      constants = [];
+      registers = [];
+      places = noPlaces;
+    })
+    -- "Mov of 3 to 3 lists nothing"
+    ∷ lowered
+    (record {
+      sheet = header 0 noPlaces ++ (6 ∷ 0 ∷ 3 ∷ 0 ∷ 3 ∷ 3 ∷ []);
+      room = 0;
+      number = 0;
+      index = 1;
+      written = 0;
+      bytes = [];
+      count = 0;
+      constants = [];
+      registers = [];
+      places = noPlaces;
+    })
+    -- "real 0 minus complex 1 into 2 is Minus G8 G4 G6, Neg G9 G7": 0 is real by Load general 0, Param 9, listed as Load G4 Param 9
+    ∷ lowered
+    (record {
+      sheet = header 0 paramNine ++ (8 ∷ 0 ∷ 4 ∷ 0 ∷ 0 ∷ 2 ∷ 9 ∷ 0 ∷ []) ++ (8 ∷ 0 ∷ 2 ∷ 0 ∷ 1 ∷ 2 ∷ 0 ∷ 1 ∷ []);
+      room = 30;
+      number = 0;
+      index = 2;
+      written = 23;
+      bytes = (8 ∷ 0 ∷ 4 ∷ 0 ∷ 4 ∷ 2 ∷ 9 ∷ 0 ∷ []) ++ (8 ∷ 0 ∷ 2 ∷ 0 ∷ 1 ∷ 8 ∷ 4 ∷ 6 ∷ []) ++ (7 ∷ 0 ∷ 1 ∷ 0 ∷ 0 ∷ 9 ∷ 7 ∷ []);
+      count = 0;
+      constants = [];
+      registers = 0 ∷ [];
+      places = paramNine;
+    })
+    -- "Half of real 0 into complex 1 is Half G7 G5, Half G6 G4": 0 is real by LoadConst general 0, constant 0, listed as LoadConst G4 0
+    ∷ lowered
+    (record {
+      sheet = header 0 noPlaces ++ two ++ (7 ∷ 0 ∷ 6 ∷ 0 ∷ 0 ∷ 0 ∷ 0 ∷ []) ++ (7 ∷ 0 ∷ 1 ∷ 0 ∷ 13 ∷ 1 ∷ 0 ∷ []);
+      room = 30;
+      number = 0;
+      index = 2;
+      written = 21;
+      bytes = (7 ∷ 0 ∷ 6 ∷ 0 ∷ 4 ∷ 0 ∷ 0 ∷ []) ++ (7 ∷ 0 ∷ 1 ∷ 0 ∷ 13 ∷ 7 ∷ 5 ∷ []) ++ (7 ∷ 0 ∷ 1 ∷ 0 ∷ 13 ∷ 6 ∷ 4 ∷ []);
+      count = 1;
+      constants = 0x4000_0000_0000_0000 ∷ [];
+      registers = 0 ∷ [];
+      places = noPlaces;
+    })
+    -- "Fused with c Ret gives 6": MulAdd 0, 1, 2, Ret
+    ∷ lowered
+    (record {
+      sheet = header 0 noPlaces ++ (9 ∷ 0 ∷ 7 ∷ 0 ∷ 0 ∷ 0 ∷ 1 ∷ 2 ∷ 30 ∷ []);
+      room = 30;
+      number = 6;
+      index = 0;
+      written = 0;
+      bytes = [];
+      count = 0;
+      constants = [];
+      registers = [];
+      places = noPlaces;
+    })
+    -- "stable Abs on empty constants adds 0020000000000000, 7fe0000000000000, 7ff0000000000000": Abs 1, 0, listed line by line as
+    -- complexify.rs's `stable_exponent` and `stable_abs` have it
+    ∷ lowered
+    (record {
+      sheet = header 1 noPlaces ++ (7 ∷ 0 ∷ 1 ∷ 0 ∷ 2 ∷ 1 ∷ 0 ∷ []);
+      room = 151;
+      number = 0;
+      index = 1;
+      written = 151;
+      bytes =
+          -- Abs G2 G4, Half G2 G2, Abs G3 G5, Half G3 G3, Plus G2 G2 G3
+          (7 ∷ 0 ∷ 1 ∷ 0 ∷ 2 ∷ 2 ∷ 4 ∷ [])
+          ++ (7 ∷ 0 ∷ 1 ∷ 0 ∷ 13 ∷ 2 ∷ 2 ∷ [])
+          ++ (7 ∷ 0 ∷ 1 ∷ 0 ∷ 2 ∷ 3 ∷ 5 ∷ [])
+          ++ (7 ∷ 0 ∷ 1 ∷ 0 ∷ 13 ∷ 3 ∷ 3 ∷ [])
+          ++ (8 ∷ 0 ∷ 2 ∷ 0 ∷ 0 ∷ 2 ∷ 2 ∷ 3 ∷ [])
+          -- LoadConst G3 0, Plus G2 G2 G3, LoadConst G3 1, And G2 G2 G3
+          ++ (7 ∷ 0 ∷ 6 ∷ 0 ∷ 3 ∷ 0 ∷ 0 ∷ [])
+          ++ (8 ∷ 0 ∷ 2 ∷ 0 ∷ 0 ∷ 2 ∷ 2 ∷ 3 ∷ [])
+          ++ (7 ∷ 0 ∷ 6 ∷ 0 ∷ 3 ∷ 1 ∷ 0 ∷ [])
+          ++ (8 ∷ 0 ∷ 2 ∷ 0 ∷ 10 ∷ 2 ∷ 2 ∷ 3 ∷ [])
+          -- LoadConst G3 2, Xor G3 G2 G3, Half G3 G3
+          ++ (7 ∷ 0 ∷ 6 ∷ 0 ∷ 3 ∷ 2 ∷ 0 ∷ [])
+          ++ (8 ∷ 0 ∷ 2 ∷ 0 ∷ 13 ∷ 3 ∷ 2 ∷ 3 ∷ [])
+          ++ (7 ∷ 0 ∷ 1 ∷ 0 ∷ 13 ∷ 3 ∷ 3 ∷ [])
+          -- Times Ret G4 G3, Times G3 G5 G3, Times Ret Ret Ret, Times G3 G3 G3, Plus Ret Ret G3, Root Ret Ret
+          ++ (8 ∷ 0 ∷ 2 ∷ 0 ∷ 2 ∷ 64 ∷ 4 ∷ 3 ∷ [])
+          ++ (8 ∷ 0 ∷ 2 ∷ 0 ∷ 2 ∷ 3 ∷ 5 ∷ 3 ∷ [])
+          ++ (8 ∷ 0 ∷ 2 ∷ 0 ∷ 2 ∷ 64 ∷ 64 ∷ 64 ∷ [])
+          ++ (8 ∷ 0 ∷ 2 ∷ 0 ∷ 2 ∷ 3 ∷ 3 ∷ 3 ∷ [])
+          ++ (8 ∷ 0 ∷ 2 ∷ 0 ∷ 0 ∷ 64 ∷ 64 ∷ 3 ∷ [])
+          ++ (7 ∷ 0 ∷ 1 ∷ 0 ∷ 3 ∷ 64 ∷ 64 ∷ [])
+          -- Times G6 Ret G2, Xor G7 G7 G7
+          ++ (8 ∷ 0 ∷ 2 ∷ 0 ∷ 2 ∷ 6 ∷ 64 ∷ 2 ∷ [])
+          ++ (8 ∷ 0 ∷ 2 ∷ 0 ∷ 13 ∷ 7 ∷ 7 ∷ 7 ∷ []);
+      count = 3;
+      constants = 0x0020_0000_0000_0000 ∷ 0x7fe0_0000_0000_0000 ∷ 0x7ff0_0000_0000_0000 ∷ [];
+      registers = [];
+      places = noPlaces;
+    })
+    -- "no instructions list nothing"
+    ∷ lowered
+    (record {
+      sheet = header 0 noPlaces ++ two;
+      room = 4;
+      number = 0;
+      index = 0;
+      written = 0;
+      bytes = [];
+      count = 1;
+      constants = 0x4000_0000_0000_0000 ∷ [];
+      registers = [];
+      places = noPlaces;
+    })
+    -- "Half of 0000000000000003 is 0000000000000002": 3 units of 2 ^ -1074 by 2 is a tie, and 2 units are even
+    ∷ gives (uni UniOp.Half) (0x0000_0000_0000_0003 ∷ []) (0x0000_0000_0000_0002 ∷ [])
+    -- "Root of -0 is -0" (6.3)
+    ∷ gives (uni UniOp.Root) (0x8000_0000_0000_0000 ∷ []) (0x8000_0000_0000_0000 ∷ [])
+    -- "MulAdd of 3ff0000000000001 twice and bff0000000000002 is 3970000000000000": with u = 2 ^ -52, (1 + u) * (1 + u) - (1 + 2 * u) is u * u
+    ∷ gives (fused FusedOp.MulAdd)
+    (0x3ff0_0000_0000_0001 ∷ 0x3ff0_0000_0000_0001 ∷ 0xbff0_0000_0000_0002 ∷ [])
+    (0x3970_0000_0000_0000 ∷ [])
+    -- ---- "Arithmetic rounds once, ties to even" (4.3.1); the clauses are IEEE 754's, and u is 2 ^ -52
+    -- 4.3.1: 1 + u / 2 is a tie between 1 and 1 + u, and 1 is even
+    ∷ gives (bi BinOp.Plus) (0x3ff0_0000_0000_0000 ∷ 0x3ca0_0000_0000_0000 ∷ []) (0x3ff0_0000_0000_0000 ∷ [])
+    -- 4.3.1: 1 + u + u / 2 is a tie too, and 1 + 2 * u is even
+    ∷ gives (bi BinOp.Plus) (0x3ff0_0000_0000_0001 ∷ 0x3ca0_0000_0000_0000 ∷ []) (0x3ff0_0000_0000_0002 ∷ [])
+    -- 7.4: twice the largest value overflows to infinity
+    ∷ gives (bi BinOp.Plus) (0x7fef_ffff_ffff_ffff ∷ 0x7fef_ffff_ffff_ffff ∷ []) (0x7ff0_0000_0000_0000 ∷ [])
+    -- 6.3: -0 and -0 sum to -0
+    ∷ gives (bi BinOp.Plus) (0x8000_0000_0000_0000 ∷ 0x8000_0000_0000_0000 ∷ []) (0x8000_0000_0000_0000 ∷ [])
+    -- "a NaN from it [..] is 7ff8000000000000": a NaN's sign and mark are not kept
+    ∷ gives (bi BinOp.Plus) (0xfff0_0000_0000_0001 ∷ 0x3ff0_0000_0000_0000 ∷ []) (0x7ff8_0000_0000_0000 ∷ [])
+    -- 5.4.1: 1 - 3 is -2
+    ∷ gives (bi BinOp.Minus) (0x3ff0_0000_0000_0000 ∷ 0x4008_0000_0000_0000 ∷ []) (0xc000_0000_0000_0000 ∷ [])
+    -- 6.3: a difference that is exactly zero is +0
+    ∷ gives (bi BinOp.Minus) (0x3ff0_0000_0000_0000 ∷ 0x3ff0_0000_0000_0000 ∷ []) (0x0000_0000_0000_0000 ∷ [])
+    -- 4.3.1: (1 + u) * 2 ^ -1023 is a tie between two subnormals
+    ∷ gives (bi BinOp.Times) (0x0010_0000_0000_0001 ∷ 0x3fe0_0000_0000_0000 ∷ []) (0x0008_0000_0000_0000 ∷ [])
+    -- 7.2: infinity times 0 is a NaN
+    ∷ gives (bi BinOp.Times) (0x7ff0_0000_0000_0000 ∷ 0x0000_0000_0000_0000 ∷ []) (0x7ff8_0000_0000_0000 ∷ [])
+    -- 4.3.1: 2 ^ 54 by 3 is a third above 6004799503160661, so that 1 by 3 goes down
+    ∷ gives (bi BinOp.Divide) (0x3ff0_0000_0000_0000 ∷ 0x4008_0000_0000_0000 ∷ []) (0x3fd5_5555_5555_5555 ∷ [])
+    -- 7.2: 0 by 0 is a NaN
+    ∷ gives (bi BinOp.Divide) (0x0000_0000_0000_0000 ∷ 0x0000_0000_0000_0000 ∷ []) (0x7ff8_0000_0000_0000 ∷ [])
+    -- 7.3: "Recip divides 1 by its operand", and 1 by -0 is -infinity
+    ∷ gives (uni UniOp.Recip) (0x8000_0000_0000_0000 ∷ []) (0xfff0_0000_0000_0000 ∷ [])
+    -- the smallest value, 2 ^ -1074, is the square of 2 ^ -537
+    ∷ gives (uni UniOp.Root) (0x0000_0000_0000_0001 ∷ []) (0x1e60_0000_0000_0000 ∷ [])
+    -- 4.3.1: the root of 1 - u / 2 is below 1 - u / 4, the middle between 1 - u / 2 and 1
+    ∷ gives (uni UniOp.Root) (0x3fef_ffff_ffff_ffff ∷ []) (0x3fef_ffff_ffff_ffff ∷ [])
+    -- 4.3.1: the root of 2 * 2 ^ 104 lies between 6369051672525772 and 6369051672525773, nearer to the second
+    ∷ gives (uni UniOp.Root) (0x4000_0000_0000_0000 ∷ []) (0x3ff6_a09e_667f_3bcd ∷ [])
+    -- 7.2: the root of -1 is a NaN
+    ∷ gives (uni UniOp.Root) (0xbff0_0000_0000_0000 ∷ []) (0x7ff8_0000_0000_0000 ∷ [])
+    -- 3 * 3002399751580331 is 2 ^ 53 + 1, a tie between 2 ^ 53 and 2 ^ 53 + 2; adding 2 ^ -1074 decides it
+    ∷ gives (fused FusedOp.MulAdd)
+    (0x4008_0000_0000_0000 ∷ 0x4325_5555_5555_5556 ∷ 0x0000_0000_0000_0001 ∷ [])
+    (0x4340_0000_0000_0001 ∷ [])
+    -- 6.3: a fused sum that is exactly zero is +0
+    ∷ gives (fused FusedOp.MulAdd)
+    (0x3ff0_0000_0000_0000 ∷ 0x3ff0_0000_0000_0000 ∷ 0xbff0_0000_0000_0000 ∷ [])
+    (0x0000_0000_0000_0000 ∷ [])
+    -- 5.3.1: 2.5 is a tie between 2 and 3
+    ∷ gives (uni UniOp.Round) (0x4004_0000_0000_0000 ∷ []) (0x4000_0000_0000_0000 ∷ [])
+    -- 6.3: -0.5 goes to a zero of its own sign
+    ∷ gives (uni UniOp.Round) (0xbfe0_0000_0000_0000 ∷ []) (0x8000_0000_0000_0000 ∷ [])
+    -- ---- "comparisons give all ones or zero, and with a NaN only NotEqual holds" (5.11)
+    -- -1 is above -2, and infinity is not above a NaN
+    ∷ gives (bi BinOp.GreaterThan) (0xbff0_0000_0000_0000 ∷ 0xc000_0000_0000_0000 ∷ []) (ones ∷ [])
+    ∷ gives (bi BinOp.GreaterThan) (0x7ff0_0000_0000_0000 ∷ 0x7ff8_0000_0000_0000 ∷ []) (0 ∷ [])
+    -- -2 is below -1, and a NaN is not below infinity
+    ∷ gives (bi BinOp.LittleThan) (0xc000_0000_0000_0000 ∷ 0xbff0_0000_0000_0000 ∷ []) (ones ∷ [])
+    ∷ gives (bi BinOp.LittleThan) (0x7ff8_0000_0000_0000 ∷ 0x7ff0_0000_0000_0000 ∷ []) (0 ∷ [])
+    -- -0 equals +0, and a NaN, here with a mark, does not equal itself
+    ∷ gives (bi BinOp.Equal) (0x8000_0000_0000_0000 ∷ 0x0000_0000_0000_0000 ∷ []) (ones ∷ [])
+    ∷ gives (bi BinOp.Equal) (0x7ff0_0000_0000_0001 ∷ 0x7ff0_0000_0000_0001 ∷ []) (0 ∷ [])
+    ∷ gives (bi BinOp.NotEqual) (0x8000_0000_0000_0000 ∷ 0x0000_0000_0000_0000 ∷ []) (0 ∷ [])
+    ∷ gives (bi BinOp.NotEqual) (0x7ff0_0000_0000_0001 ∷ 0x7ff0_0000_0000_0001 ∷ []) (ones ∷ [])
+    -- ---- "Neg, Abs, Not, And, Or, Xor act on bits": a NaN's mark stays
+    -- 5.5.1: the sign's bit is turned, or cleared
+    ∷ gives (uni UniOp.Neg) (0x3ff0_0000_0000_0000 ∷ []) (0xbff0_0000_0000_0000 ∷ [])
+    ∷ gives (uni UniOp.Neg) (0xfff0_0000_0000_0001 ∷ []) (0x7ff0_0000_0000_0001 ∷ [])
+    ∷ gives (uni UniOp.Abs) (0xfff0_0000_0000_0001 ∷ []) (0x7ff0_0000_0000_0001 ∷ [])
+    ∷ gives (uni UniOp.Abs) (0x3ff0_0000_0000_0000 ∷ []) (0x3ff0_0000_0000_0000 ∷ [])
+    ∷ gives (uni UniOp.Not) (0x0123_4567_89ab_cdef ∷ []) (0xfedc_ba98_7654_3210 ∷ [])
+    -- f and f, f and 0, 0 and f, 0 and 0 in turn
+    ∷ gives (bi BinOp.And) (0xff00_ff00_ff00_ff00 ∷ 0xf0f0_f0f0_f0f0_f0f0 ∷ []) (0xf000_f000_f000_f000 ∷ [])
+    ∷ gives (bi BinOp.Or) (0xff00_ff00_ff00_ff00 ∷ 0xf0f0_f0f0_f0f0_f0f0 ∷ []) (0xfff0_fff0_fff0_fff0 ∷ [])
+    ∷ gives (bi BinOp.Xor) (0xff00_ff00_ff00_ff00 ∷ 0xf0f0_f0f0_f0f0_f0f0 ∷ []) (0x0ff0_0ff0_0ff0_0ff0 ∷ [])
+    -- "Sign keeps the sign bit alone"
+    ∷ gives (uni UniOp.Sign) (0xc008_0000_0000_0001 ∷ []) (0x8000_0000_0000_0000 ∷ [])
+    ∷ gives (uni UniOp.Sign) (0x4008_0000_0000_0001 ∷ []) (0x0000_0000_0000_0000 ∷ [])
+    -- "IfElse takes a bit from true where the place's real word has a one, else from false"
+    ∷ gives ifelse (0x1111_1111_1111_1111 ∷ 0x2222_2222_2222_2222 ∷ 0x00ff_00ff_00ff_00ff ∷ []) (0x2211_2211_2211_2211 ∷ [])
+    -- ---- ComplexBi, of 1 + 2i and 3 + 5i
+    -- "Plus and Minus work half by half": 4 + 7i, and -2 - 3i
+    ∷ gives (complexBi ArithOp.Plus) oneTwoThreeFive (0x4010_0000_0000_0000 ∷ 0x401c_0000_0000_0000 ∷ [])
+    ∷ gives (complexBi ArithOp.Minus) oneTwoThreeFive (0xc000_0000_0000_0000 ∷ 0xc008_0000_0000_0000 ∷ [])
+    -- "x1 times x2 minus y1 times y2, and y1 times x2 plus x1 times y2": 3 - 10, and 6 + 5
+    ∷ gives (complexBi ArithOp.Times) oneTwoThreeFive (0xc01c_0000_0000_0000 ∷ 0x4026_0000_0000_0000 ∷ [])
+    -- "x1 times x2 plus y1 times y2, and y1 times x2 minus x1 times y2, each divided by x2 squared plus y2 squared": 13 by 34, and 1 by 34
+    ∷ gives (complexBi ArithOp.Divide) oneTwoThreeFive (0x3fd8_7878_7878_7878 ∷ 0x3f9e_1e1e_1e1e_1e1e ∷ [])
+    -- "rounding each operation": (1 + u) * (1 + u) is rounded to 1 + 2 * u and (1 + u) * (1 + 2 * u) to 1 + 3 * u; the product's halves are then
+    -- 1 + 2 * u minus 1 + 2 * u, and 1 + u plus 1 + 3 * u
+    ∷ gives (complexBi ArithOp.Times)
+    (0x3ff0_0000_0000_0001 ∷ 0x3ff0_0000_0000_0000 ∷ 0x3ff0_0000_0000_0001 ∷ 0x3ff0_0000_0000_0002 ∷ [])
+    (0x0000_0000_0000_0000 ∷ 0x4000_0000_0000_0002 ∷ [])
+    -- likewise 0 by 2 + 6 * u, and 2 + 4 * u by 2 + 6 * u, which lies just above 1 - u
+    ∷ gives (complexBi ArithOp.Divide)
+    (0x3ff0_0000_0000_0001 ∷ 0x3ff0_0000_0000_0000 ∷ 0x3ff0_0000_0000_0001 ∷ 0xbff0_0000_0000_0002 ∷ [])
+    (0x0000_0000_0000_0000 ∷ 0x3fef_ffff_ffff_fffe ∷ [])
+    ∷ []
+
+-- in each row what the definitions give is what the row says
+pub facts : map given table ≡ map stated table
+unfolding lowerSheet setup constantAt decoded instructionFrom takesKind placeAt savePlace uniOps binOps fusedOps rerun rerunUni rerunBin c.unlisted c.loadConst c.loadFrom c.saveTo c.times c.minus c.half c.abs re im recordOf writes uniWord binWord fusedWord complexWords ofBits toBits add sub mul div lt eq ne squareRoot fusedMultiplyAdd roundToIntegral
+facts = refl
+
+-- what a listing's records compute with (document 01, Sheet): "Uni Neg, Not, Abs, Root, Recip, Round, Half, Sign; Bi Plus, Minus, Times,
+-- Divide, GreaterThan, LittleThan, Equal, NotEqual, And, Or, Xor; ArithOp Plus, Minus, Times, Divide; Fused MulAdd"; and IfElse
+abbrev pub operations : List Operation
+operations =
+    uni UniOp.Neg
+    ∷ uni UniOp.Not
+    ∷ uni UniOp.Abs
+    ∷ uni UniOp.Root
+    ∷ uni UniOp.Recip
+    ∷ uni UniOp.Round
+    ∷ uni UniOp.Half
+    ∷ uni UniOp.Sign
+    ∷ bi BinOp.Plus
+    ∷ bi BinOp.Minus
+    ∷ bi BinOp.Times
+    ∷ bi BinOp.Divide
+    ∷ bi BinOp.GreaterThan
+    ∷ bi BinOp.LittleThan
+    ∷ bi BinOp.Equal
+    ∷ bi BinOp.NotEqual
+    ∷ bi BinOp.And
+    ∷ bi BinOp.Or
+    ∷ bi BinOp.Xor
+    ∷ complexBi ArithOp.Plus
+    ∷ complexBi ArithOp.Minus
+    ∷ complexBi ArithOp.Times
+    ∷ complexBi ArithOp.Divide
+    ∷ fused FusedOp.MulAdd
+    ∷ ifelse
+    ∷ []
+
+-- each has a row
+pub covered : map (λ o. computes o table) operations ≡ map (λ o. true) operations
+covered = refl
