@@ -10,9 +10,9 @@ use Rattle.records.specs.Record.{records}
 use Rattle.machine.specs.Machine.{Store, block, play, going}
 use Rattle.machine.specs.Jumps.{breach}
 use Rattle.machine.specs.Answer.{Answer, refuse, accept, answer}
-use Rattle.interface.specs.Bytes.{bytesOf, wordsOf}
+use Rattle.words.specs.Bytes.{bytesOf, wordsOf}
+use Rattle.words.proofs.RoundTrip.{bytesOf-wordsOf}
 use Rattle.interface.specs.Calls.{PlayCall, given, playCall}
-use Rattle.interface.proofs.RoundTrip.{bytesOf-wordsOf}
 
 -- a play that is refused leaves the store as it was
 refuse-keeps : (b : Bool) (n i : ℕ) (σ : Store) (a : Answer) → ((a .number ≡ 0 → ⊥) → a .store ≡ σ)

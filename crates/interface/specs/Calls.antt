@@ -7,7 +7,7 @@ use lib.Dec.{eqb}
 use Rattle.machine.specs.Answer.{Answer, answer}
 use Rattle.complexify.specs.declared.entry.Answer as Lowered
 use Rattle.complexify.specs.Entry as Lower
-use Rattle.interface.specs.Bytes.{bytesOf, wordsOf}
+use Rattle.words.specs.Bytes.{bytesOf, wordsOf}
 
 -- what a call of `tulipcricket_play` returns, and the bytes that it leaves in the store and in the answer
 pub record PlayCall : Type 0 where

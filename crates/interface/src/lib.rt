@@ -4,17 +4,17 @@ ghost use lib.ListN.{length};
 ghost use Rattle.machine.specs.Answer.{answer};
 ghost use Rattle.player.specs.Values.{whole};
 ghost use Rattle.complexify.specs.Entry as Entry;
-ghost use Rattle.interface.specs.Bytes.{bytesOf, wordsOf};
+ghost use Rattle.words.specs.Bytes.{bytesOf, wordsOf};
 ghost use Rattle.interface.specs.Calls.{PlayCall, LowerCall, playCall, lowerCall, lowerAnswer};
 
-mod words;
+mod flags;
 
 use complexify::entry::Answer as Lowered;
+use flags::put_flags;
 use lowering::realness::Realness;
 use player::Answer;
 use words::load;
 use words::put_bytes;
-use words::put_flags;
 use words::save;
 
 // Plays on words, with constants as bytes.
@@ -30,7 +30,7 @@ fn play_words(listing: &[u8], constants: &[u8], store: &mut [u64], start: usize)
         };
     }
     let mut table = [0u64; 256];
-    load(&mut table, constants, n);
+    load(&mut table, constants);
     player::play(listing, &table[..n], store, start)
 }
 
@@ -57,7 +57,7 @@ pub extern "C" fn tulipcricket_play(
         return 8;
     }
     let mut words = [0u64; 1602];
-    load(&mut words, store, 1602);
+    load(&mut words, store);
     let a = play_words(listing, constants, &mut words, start as usize);
     save(store, &words);
     let numbers = [a.number as u64, a.index as u64, a.played as u64];
