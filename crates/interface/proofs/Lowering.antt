@@ -1,7 +1,7 @@
 -- Lowering over words and over bytes: the answer's 128 bytes, and the constants' words.
 use Prim.Native.Nat.{ℕ, _+_, _/_, _%_, _≤_, _<_}
 use mathlib.Core.Path.{_≡_, refl, sym, ap, _∙_, subst}
-use mathlib.Core.Bool.{true, cond}
+use mathlib.Core.Bool.{cond}
 use mathlib.Core.List.{List, [], _∷_, _++_, map}
 use native.Mathlib.Nat.{min-le-left}
 use native.Mathlib.Omega.{arith}
@@ -12,7 +12,7 @@ use Rattle.mir.proofs.Passing.{either}
 use Rattle.lowering.specs.Lower.{lowerSheet}
 use Rattle.complexify.specs.declared.entry.Answer as Lowered
 use Rattle.complexify.specs.Entry as Lower
-use Rattle.complexify.proofs.Within.{other-length, within}
+use Rattle.complexify.proofs.Within.{within}
 use Rattle.words.specs.Bytes.{bytesOf, wordsOf, stored}
 use Rattle.words.proofs.Lengths.{length-bytesOf, length-wordsOf, sets-append, sets-whole, sets-front, bytesOf-sets}
 use Rattle.words.proofs.RoundTrip.{bytesOf-wordsOf}
@@ -44,28 +44,21 @@ told a l hl hr hp =
     three-runs l (bytesOf (a .number ∷ a .index ∷ a .written ∷ a .count ∷ [])) (map flag (a .real .regs)) (a .real .places) hl
     (length-bytesOf (a .number ∷ a .index ∷ a .written ∷ a .count ∷ [])) (length-map (a .real .regs) flag ∙ hr) hp
 
-module _ (sheet listing constants lent : List ℕ) (whole-answer : length lent ≡ 128) (whole-constants : length constants % 8 ≡ 0) where
-  -- the entry refuses constants of another length
-  pub wrong-constants : {a : Lowered.Answer} {r : List ℕ} → ((i : ℕ) → i < length constants → getD constants i 0 < 256)
-      → (length constants ≡ 2048 → ⊥) → a ≡ Lower.refusedSetup → r ≡ lowerAnswer a
+module _ (sheet listing constants lent : List ℕ) (whole-answer : length lent ≡ 128) where
+  pub wrong-constants : {a : Lowered.Answer} {r : List ℕ} → (length constants ≡ 2048 → ⊥) → a ≡ Lower.refusedSetup → r ≡ lowerAnswer a
       → record { number = 8; listing = listing; constants = constants; answer = r } ≡ lowerCall sheet listing constants lent
   unfolding lowerCall
-  wrong-constants below h d e =
-      let n = length-wordsOf constants in
-      let w : Lower.wrongSetup sheet listing (wordsOf constants) ≡ true =
-      other-length sheet listing (wordsOf constants) (λ q. h (omega (arith, q, n, whole-constants))) in
-      let ec = sym (bytesOf-wordsOf constants whole-constants below) in
+  wrong-constants h d e =
       let er = e ∙ ap lowerAnswer d in
-      simp (eq-eqb _ _ whole-answer, eq-eqb _ _ whole-constants, w)
-      (λ i. record { number = 8; listing = listing; constants = ec i; answer = er i })
+      simp (eq-eqb _ _ whole-answer, ne-eqb _ _ h) (λ i. record { number = 8; listing = listing; constants = constants; answer = er i })
 
-  pub lowered : {a : Lowered.Answer} {s c r : List ℕ} → a ≡ Lower.answer sheet listing (wordsOf constants)
+  pub lowered : {a : Lowered.Answer} {s c r : List ℕ} → length constants ≡ 2048 → a ≡ Lower.answer sheet listing (wordsOf constants)
       → s ≡ Lower.listingAfter sheet listing (wordsOf constants) → c ≡ bytesOf (Lower.constantsAfter sheet listing (wordsOf constants))
       → r ≡ lowerAnswer a → record { number = a .number; listing = s; constants = c; answer = r } ≡ lowerCall sheet listing constants lent
   unfolding lowerCall
-  lowered ea es ec g =
+  lowered h ea es ec g =
       let er = g ∙ ap lowerAnswer ea in
-      simp (eq-eqb _ _ whole-answer, eq-eqb _ _ whole-constants)
+      simp (eq-eqb _ _ whole-answer, eq-eqb _ _ h)
       (λ i. record { number = ea i .number; listing = es i; constants = ec i; answer = er i })
 
 module _ (sheet listing constants zeros : List ℕ) (e : length constants ≡ 2048) (z : length zeros ≡ 256)

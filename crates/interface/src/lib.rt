@@ -1,10 +1,11 @@
 // The two entries as C functions. Words go in and out as eight bytes each, the lowest first.
 ghost use mathlib.Core.Path.{_≡_};
+ghost use mathlib.Core.List.{[], _∷_};
 ghost use lib.ListN.{length};
 ghost use Rattle.machine.specs.Answer.{answer};
 ghost use Rattle.player.specs.Values.{whole};
 ghost use Rattle.complexify.specs.Entry as Entry;
-ghost use Rattle.words.specs.Bytes.{bytesOf, wordsOf};
+ghost use Rattle.words.specs.Bytes.{bytesOf, wordsOf, stored};
 ghost use Rattle.interface.specs.Calls.{PlayCall, LowerCall, playCall, lowerCall, lowerAnswer};
 
 mod flags;
@@ -34,6 +35,15 @@ fn play_words(listing: &[u8], constants: &[u8], store: &mut [u64], start: usize)
     player::play(listing, &table[..n], store, start)
 }
 
+// The answer of a play that is refused by 8, and 8.
+fn refuse_play(answer: &mut [u8]) -> u32
+    ensures { λ r. ⌜ (r ≡ 8) × (now (answer .exit) ≡ stored (now (answer .entry)) 0 (bytesOf (8 ∷ 0 ∷ 0 ∷ []))) ⌝ }
+{
+    let refused = [8u64, 0, 0];
+    save(answer, &refused);
+    8
+}
+
 // Plays a listing from a record on. The store is 12,816 bytes; the answer is 24: number, index, records played. Returns the number.
 #[no_mangle]
 pub extern "C" fn tulipcricket_play(
@@ -49,12 +59,10 @@ pub extern "C" fn tulipcricket_play(
         return 8;
     }
     if constants.len() % 8 != 0 {
-        return 8;
+        return refuse_play(answer);
     }
     if store.len() != 12816 {
-        let refused = [8u64, 0, 0];
-        save(answer, &refused);
-        return 8;
+        return refuse_play(answer);
     }
     let mut words = [0u64; 1602];
     load(&mut words, store);
@@ -124,9 +132,6 @@ pub extern "C" fn tulipcricket_lower(
     ensures { λ r. ⌜ record { number = r; listing = now (listing .exit); constants = now (constants .exit); answer = now (answer .exit) } ≡ lowerCall (now (sheet .entry)) (now (listing .entry)) (now (constants .entry)) (now (answer .entry)) ⌝ }
 {
     if answer.len() != 128 {
-        return 8;
-    }
-    if constants.len() % 8 != 0 {
         return 8;
     }
     if constants.len() != 2048 {
