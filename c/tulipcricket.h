@@ -49,8 +49,8 @@ enum {
  *
  * Refused by 1 to 7: the listing and the constants of the instructions before the refused one are written, and the answer is theirs.
  * Bytes of the listing past those written, and constants past those counted, are always as lent.
- * Refused by 8: listing and constants are as lent, and the answer is 8 and zeros; but where the answer is not 128 bytes, or the
- * constants are no whole number of words, the answer is as lent too. */
+ * Refused by 8: listing and constants are as lent, and the answer is 8 and zeros; but where the answer is not 128 bytes, it is as lent
+ * too. */
 uint32_t tulipcricket_lower(const uint8_t *sheet, size_t sheet_len, uint8_t *listing, size_t listing_len,
                             uint8_t *constants, size_t constants_len, uint8_t *answer, size_t answer_len);
 
@@ -65,8 +65,8 @@ uint32_t tulipcricket_lower(const uint8_t *sheet, size_t sheet_len, uint8_t *lis
  *              8  index: of the refused record; accepted, the count of records
  *             16  records played
  *
- * Refused: the store is as lent and 0 records are played. By 8 the index is 0; but where the answer is not 24 bytes, or the constants
- * are no whole number of words, the answer is as lent too. */
+ * Refused: the store is as lent and 0 records are played. By 8 the index is 0; but where the answer is not 24 bytes, it is as lent
+ * too. */
 uint32_t tulipcricket_play(const uint8_t *listing, size_t listing_len, const uint8_t *constants, size_t constants_len,
                            uint8_t *store, size_t store_len, uint64_t start, uint8_t *answer, size_t answer_len);
 

@@ -106,7 +106,7 @@ static void refused_setup(const Lowering *l, uint8_t fill) {
     HOLDS(l->number == 8);
     HOLDS(filled(l->listing.at, l->listing.length, fill));
     HOLDS(filled(l->constants.at, l->constants.length, fill));
-    if (l->answer.length != TULIPCRICKET_LOWER_ANSWER || l->constants.length % 8 != 0) {
+    if (l->answer.length != TULIPCRICKET_LOWER_ANSWER) {
         HOLDS(filled(l->answer.at, l->answer.length, fill));
     } else {
         HOLDS(word_at(l->answer.at) == 8);
@@ -168,7 +168,7 @@ static void play(Play *p, const uint8_t *slices[3], const size_t lengths[4], uin
 static void refused_play(const Play *p, const uint8_t *store, uint8_t fill, int setup) {
     HOLDS(p->number != 0 && (p->number == 8) == setup);
     HOLDS(same(&p->store, store));
-    if (p->answer.length != TULIPCRICKET_PLAY_ANSWER || p->constants.length % 8 != 0) {
+    if (p->answer.length != TULIPCRICKET_PLAY_ANSWER) {
         HOLDS(filled(p->answer.at, p->answer.length, fill));
         return;
     }

@@ -1,11 +1,10 @@
--- Lowering and the lent slices: constants of another length than 256 words are refused, and what is given back lies within the slices, no
--- more bytes than the listing has room for and at most 256 constants.
+-- Lowering and the lent slices: what is given back lies within them, no more bytes than the listing has room for and at most 256 constants.
 use Prim.Native.Nat.{ℕ, suc, _+_, _≤_}
-use mathlib.Core.Path.{_≡_, refl, sym, subst}
-use mathlib.Core.Bool.{Bool, true, false, not, _||_}
+use mathlib.Core.Path.{_≡_, sym, subst}
+use mathlib.Core.Bool.{Bool, true}
 use mathlib.Core.List.{List, [], _∷_, _++_}
 use native.Mathlib.Omega.{arith}
-use borrow.Author.Tests.{eqb-true, ltb-false, ne-eqb}
+use borrow.Author.Tests.{eqb-true, ltb-false}
 use lib.Dec.{ltb, eqb}
 use lib.ListN.{length, drop, length-append}
 use Rattle.mir.specs.declared.records.Instruction.{Instruction}
@@ -23,14 +22,6 @@ use Rattle.complexify.specs.Taken.{space}
 use Rattle.complexify.proofs.Grown.{space-start}
 use Rattle.complexify.proofs.Bounds.{spaced}
 use Rattle.complexify.proofs.Setups.{right}
-
-pub other-length : (sheet listing constants : List ℕ) → (length constants ≡ 256 → ⊥) → wrongSetup sheet listing constants ≡ true
-other-length sheet listing constants h = simp (ne-eqb _ _ h) (last (not (eqb (setup sheet .number) 0)) (ltb 65536 (length listing)))
-  where
-    last : (a b : Bool) → a || (b || true) ≡ true
-    last true b = refl
-    last false true = refl
-    last false false = refl
 
 record Held (room : ℕ) (e : Ended) : Type 0 where
   bytes : length (e .bytes) ≤ room

@@ -1,32 +1,36 @@
 -- Lowering over words and over bytes: the answer's 128 bytes, and the constants' words.
 use Prim.Native.Nat.{ℕ, _+_, _/_, _%_, _≤_, _<_}
 use mathlib.Core.Path.{_≡_, refl, sym, ap, _∙_, subst}
-use mathlib.Core.Bool.{true, cond}
+use mathlib.Core.Bool.{cond}
 use mathlib.Core.List.{List, [], _∷_, _++_, map}
+use native.Mathlib.Nat.{min-le-left}
 use native.Mathlib.Omega.{arith}
-use lib.ListN.{length, take, getD, length-append, length-map}
-use lib.Seq.{sets}
+use lib.ListN.{length, take, getD, length-append, length-map, length-take}
+use lib.Seq.{sets, length-sets}
 use borrow.Author.Tests.{eq-eqb, ne-eqb}
 use Rattle.mir.proofs.Passing.{either}
 use Rattle.lowering.specs.Lower.{lowerSheet}
 use Rattle.complexify.specs.declared.entry.Answer as Lowered
 use Rattle.complexify.specs.Entry as Lower
-use Rattle.complexify.proofs.Within.{other-length, within}
-use Rattle.interface.specs.Bytes.{bytesOf, wordsOf}
+use Rattle.complexify.proofs.Within.{within}
+use Rattle.words.specs.Bytes.{bytesOf, wordsOf, stored}
+use Rattle.words.proofs.Lengths.{length-bytesOf, length-wordsOf, sets-append, sets-whole, sets-front, bytesOf-sets}
+use Rattle.words.proofs.RoundTrip.{bytesOf-wordsOf}
+use Rattle.words.proofs.Stored.{stored-fits}
 use Rattle.interface.specs.Calls.{flag, lowerAnswer, lowerCall}
-use Rattle.interface.proofs.Lengths.{length-bytesOf, length-wordsOf, sets-append, sets-whole, sets-front, bytesOf-sets}
-use Rattle.interface.proofs.RoundTrip.{bytesOf-wordsOf}
 
 -- three runs of stores, one after the other, that fill the slice
 three-runs : (l a b c : List ℕ) {x y z : List ℕ} → length l ≡ 128 → length a ≡ 32 → length b ≡ 32 → length c ≡ 64
-    → x ≡ sets l 0 a → y ≡ sets x 32 b → z ≡ sets y 64 c → z ≡ a ++ (b ++ c)
+    → x ≡ stored l 0 a → y ≡ sets x 32 b → z ≡ stored y 64 c → z ≡ a ++ (b ++ c)
 three-runs l a b c {x} {y} {z} hl ha hb hc e f g =
     let m = length-append a (b ++ c) in
     let n = length-append b c in
     let whole = sets-whole l (a ++ (b ++ c)) (omega arith) in
     let first = sets-append l a (b ++ c) 0 in
     let second = sets-append (sets l 0 a) b c 32 in
-    g ∙ ap (λ v. sets v 64 c) (f ∙ ap (λ v. sets v 32 b) e)
+    let p : y ≡ sets (sets l 0 a) 32 b = f ∙ ap (λ v. sets v 32 b) (e ∙ stored-fits l 0 a (omega arith)) in
+    let long : length y ≡ length l = ap length p ∙ length-sets (sets l 0 a) 32 b ∙ length-sets l 0 a in
+    g ∙ stored-fits y 64 c (omega (arith, long)) ∙ ap (λ v. sets v 64 c) p
     ∙ sym (ap (λ k. sets (sets (sets l 0 a) 32 b) (32 + k) c) hb)
     ∙ sym second
     ∙ sym (ap (λ k. sets (sets l 0 a) (0 + k) (b ++ c)) ha)
@@ -34,34 +38,27 @@ three-runs l a b c {x} {y} {z} hl ha hb hc e f g =
     ∙ whole
 
 pub told : (a : Lowered.Answer) (l : List ℕ) {x y z : List ℕ} → length l ≡ 128 → length (a .real .regs) ≡ 32 → length (a .real .places) ≡ 64
-    → x ≡ sets l 0 (bytesOf (a .number ∷ a .index ∷ a .written ∷ a .count ∷ [])) → y ≡ sets x 32 (map flag (a .real .regs))
-    → z ≡ sets y 64 (a .real .places) → z ≡ lowerAnswer a
+    → x ≡ stored l 0 (bytesOf (a .number ∷ a .index ∷ a .written ∷ a .count ∷ [])) → y ≡ sets x 32 (map flag (a .real .regs))
+    → z ≡ stored y 64 (a .real .places) → z ≡ lowerAnswer a
 told a l hl hr hp =
     three-runs l (bytesOf (a .number ∷ a .index ∷ a .written ∷ a .count ∷ [])) (map flag (a .real .regs)) (a .real .places) hl
     (length-bytesOf (a .number ∷ a .index ∷ a .written ∷ a .count ∷ [])) (length-map (a .real .regs) flag ∙ hr) hp
 
-module _ (sheet listing constants lent : List ℕ) (whole-answer : length lent ≡ 128) (whole-constants : length constants % 8 ≡ 0) where
-  -- the entry refuses constants of another length
-  pub wrong-constants : {a : Lowered.Answer} {r : List ℕ} → ((i : ℕ) → i < length constants → getD constants i 0 < 256)
-      → (length constants ≡ 2048 → ⊥) → a ≡ Lower.refusedSetup → r ≡ lowerAnswer a
+module _ (sheet listing constants lent : List ℕ) (whole-answer : length lent ≡ 128) where
+  pub wrong-constants : {a : Lowered.Answer} {r : List ℕ} → (length constants ≡ 2048 → ⊥) → a ≡ Lower.refusedSetup → r ≡ lowerAnswer a
       → record { number = 8; listing = listing; constants = constants; answer = r } ≡ lowerCall sheet listing constants lent
   unfolding lowerCall
-  wrong-constants below h d e =
-      let n = length-wordsOf constants in
-      let w : Lower.wrongSetup sheet listing (wordsOf constants) ≡ true =
-      other-length sheet listing (wordsOf constants) (λ q. h (omega (arith, q, n, whole-constants))) in
-      let ec = sym (bytesOf-wordsOf constants whole-constants below) in
+  wrong-constants h d e =
       let er = e ∙ ap lowerAnswer d in
-      simp (eq-eqb _ _ whole-answer, eq-eqb _ _ whole-constants, w)
-      (λ i. record { number = 8; listing = listing; constants = ec i; answer = er i })
+      simp (eq-eqb _ _ whole-answer, ne-eqb _ _ h) (λ i. record { number = 8; listing = listing; constants = constants; answer = er i })
 
-  pub lowered : {a : Lowered.Answer} {s c r : List ℕ} → a ≡ Lower.answer sheet listing (wordsOf constants)
+  pub lowered : {a : Lowered.Answer} {s c r : List ℕ} → length constants ≡ 2048 → a ≡ Lower.answer sheet listing (wordsOf constants)
       → s ≡ Lower.listingAfter sheet listing (wordsOf constants) → c ≡ bytesOf (Lower.constantsAfter sheet listing (wordsOf constants))
       → r ≡ lowerAnswer a → record { number = a .number; listing = s; constants = c; answer = r } ≡ lowerCall sheet listing constants lent
   unfolding lowerCall
-  lowered ea es ec g =
+  lowered h ea es ec g =
       let er = g ∙ ap lowerAnswer ea in
-      simp (eq-eqb _ _ whole-answer, eq-eqb _ _ whole-constants)
+      simp (eq-eqb _ _ whole-answer, eq-eqb _ _ h)
       (λ i. record { number = ea i .number; listing = es i; constants = ec i; answer = er i })
 
 module _ (sheet listing constants zeros : List ℕ) (e : length constants ≡ 2048) (z : length zeros ≡ 256)
@@ -82,12 +79,17 @@ module _ (sheet listing constants zeros : List ℕ) (e : length constants ≡ 20
   pub same-listing : Lower.listingAfter sheet listing zeros ≡ Lower.listingAfter sheet listing (wordsOf constants)
   same-listing = ap (λ b. cond b listing (sets listing 0 (lowerSheet sheet (length listing) .bytes))) same-setup
 
+  -- as many words have room in the constants
+  room : (a : Lowered.Answer) (k : List ℕ) → a .count ≤ 256 → 0 + length (bytesOf (take (a .count) k)) ≤ length constants
+  room a k h = omega (arith, length-bytesOf (take (a .count) k), length-take (a .count) k, min-le-left (a .count) (length k), h, e)
+
   -- and the words that it has written, put over the constants, are the constants after it
   pub over : {a : Lowered.Answer} {k c : List ℕ} → a ≡ Lower.answer sheet listing zeros → k ≡ Lower.constantsAfter sheet listing zeros
-      → c ≡ sets constants 0 (bytesOf (take (a .count) k)) → c ≡ bytesOf (Lower.constantsAfter sheet listing (wordsOf constants))
+      → c ≡ stored constants 0 (bytesOf (take (a .count) k)) → c ≡ bytesOf (Lower.constantsAfter sheet listing (wordsOf constants))
   unfolding bytesOf
   over {a} {k} p t f =
       f
+      ∙ stored-fits constants 0 (bytesOf (take (a .count) k)) (room a k (within sheet listing zeros p .count))
       ∙ ap (λ x. sets constants 0 (bytesOf (take (x .count) k))) p
       ∙ ap (λ k. sets constants 0 (bytesOf (take (Lower.answer sheet listing zeros .count) k))) t
       ∙ either (Lower.wrongSetup sheet listing zeros)

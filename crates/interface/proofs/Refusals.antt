@@ -1,18 +1,19 @@
 -- A call that is refused leaves the store's bytes as they were.
 use Prim.Native.Nat.{ℕ, _%_, _<_}
 use mathlib.Core.Path.{_≡_, refl, ap, _∙_}
-use mathlib.Core.Bool.{Bool, true, false, not, cond}
+use mathlib.Core.Bool.{Bool, true, false, not, cond, _||_, true≢false}
 use mathlib.Core.List.{List, [], _∷_}
 use native.Mathlib.Omega.{arith}
+use borrow.Author.Tests.{eqb-true, not-false}
 use lib.ListN.{length, drop, getD}
-use lib.Dec.{T, ltb, eqb, eqb→eq}
+use lib.Dec.{ltb, eqb}
 use Rattle.records.specs.Record.{records}
 use Rattle.machine.specs.Machine.{Store, block, play, going}
 use Rattle.machine.specs.Jumps.{breach}
 use Rattle.machine.specs.Answer.{Answer, refuse, accept, answer}
-use Rattle.interface.specs.Bytes.{bytesOf, wordsOf}
+use Rattle.words.specs.Bytes.{bytesOf, wordsOf}
+use Rattle.words.proofs.RoundTrip.{bytesOf-wordsOf}
 use Rattle.interface.specs.Calls.{PlayCall, given, playCall}
-use Rattle.interface.proofs.RoundTrip.{bytesOf-wordsOf}
 
 -- a play that is refused leaves the store as it was
 refuse-keeps : (b : Bool) (n i : ℕ) (σ : Store) (a : Answer) → ((a .number ≡ 0 → ⊥) → a .store ≡ σ)
@@ -43,13 +44,15 @@ given-keeps : (store : List ℕ) (a : Answer) → length store ≡ 12816 → ((i
     → ((a .number ≡ 0 → ⊥) → a .store ≡ wordsOf store) → (given a .number ≡ 0 → ⊥) → given a .store ≡ store
 given-keeps store a e h k r = ap bytesOf (k r) ∙ bytesOf-wordsOf store (omega (arith, e)) h
 
-by-test : (m n : ℕ) (a b : PlayCall) {s : List ℕ} → a .store ≡ s → (m ≡ n → (b .number ≡ 0 → ⊥) → b .store ≡ s)
-    → (cond (not (eqb m n)) a b .number ≡ 0 → ⊥) → cond (not (eqb m n)) a b .store ≡ s
-by-test m n a b {s} p q = go (eqb m n) (eqb→eq m n)
-  where
-    go : (t : Bool) → (T t → m ≡ n) → (cond (not t) a b .number ≡ 0 → ⊥) → cond (not t) a b .store ≡ s
-    go true e = q (e tt)
-    go false e = λ _. p
+by-test : (t : Bool) (a b : PlayCall) {s : List ℕ} → a .store ≡ s → (t ≡ false → (b .number ≡ 0 → ⊥) → b .store ≡ s)
+    → (cond t a b .number ≡ 0 → ⊥) → cond t a b .store ≡ s
+by-test true a b p q = λ _. p
+by-test false a b p q = q refl
+
+-- neither test holds: the second does not
+second : (a b : Bool) → a || not b ≡ false → b ≡ true
+second true b h = absurd (true≢false h)
+second false b h = not-false b h
 
 pub call-keeps : (listing constants store : List ℕ) (start : ℕ) (lent : List ℕ) → ((i : ℕ) → i < length store → getD store i 0 < 256)
     → (playCall listing constants store start lent .number ≡ 0 → ⊥) → playCall listing constants store start lent .store ≡ store
@@ -58,7 +61,7 @@ call-keeps listing constants store start lent h =
     let played = given (answer listing (wordsOf constants) start (wordsOf store)) in
     let wrong : PlayCall = record { number = 8; store = store; answer = bytesOf (8 ∷ 0 ∷ 0 ∷ []) } in
     let untouched : PlayCall = record { number = 8; store = store; answer = lent } in
-    by-test (length lent) 24 untouched (cond (not (eqb (length constants % 8) 0)) untouched (cond (not (eqb (length store) 12816)) wrong played)) refl
-    (λ _. by-test (length constants % 8) 0 untouched (cond (not (eqb (length store) 12816)) wrong played) refl
-    (λ _. by-test (length store) 12816 wrong played refl
-    (λ e. given-keeps store (answer listing (wordsOf constants) start (wordsOf store)) e h (answer-keeps listing (wordsOf constants) start (wordsOf store)))))
+    let other = not (eqb (length constants % 8) 0) || not (eqb (length store) 12816) in
+    by-test (not (eqb (length lent) 24)) untouched (cond other wrong played) refl
+    (λ _. by-test other wrong played refl
+    (λ e. given-keeps store (answer listing (wordsOf constants) start (wordsOf store)) (eqb-true (length store) 12816 (second (not (eqb (length constants % 8) 0)) (eqb (length store) 12816) e)) h (answer-keeps listing (wordsOf constants) start (wordsOf store))))

@@ -1,13 +1,13 @@
 -- What the C functions give, over the bytes that a caller lends.
 use Prim.Native.Nat.{ℕ, _%_}
-use mathlib.Core.Bool.{Bool, not, cond}
+use mathlib.Core.Bool.{Bool, not, cond, _||_}
 use mathlib.Core.List.{List, [], _∷_, _++_, map}
 use lib.ListN.{length}
 use lib.Dec.{eqb}
 use Rattle.machine.specs.Answer.{Answer, answer}
 use Rattle.complexify.specs.declared.entry.Answer as Lowered
 use Rattle.complexify.specs.Entry as Lower
-use Rattle.interface.specs.Bytes.{bytesOf, wordsOf}
+use Rattle.words.specs.Bytes.{bytesOf, wordsOf}
 
 -- what a call of `tulipcricket_play_unguarded` returns, and the bytes that it leaves in the store and in the answer
 pub record PlayCall : Type 0 where
@@ -20,16 +20,16 @@ abbrev pub given : Answer → PlayCall
 given a =
     record { number = a .number; store = bytesOf (a .store); answer = bytesOf (a .number ∷ a .index ∷ a .played ∷ []) }
 
--- An answer of another length than 24 bytes, and constants that are no whole number of words, are refused by 8 with nothing written. A store
--- of another length than 1,602 words of eight bytes is refused by 8 as the entry refuses it: index 0, none played, the store unchanged.
--- Otherwise the call gives what the entry gives for the words.
+-- An answer of another length than 24 bytes is refused by 8 with nothing written. Constants that are no whole number of words, and a store
+-- of another length than 1,602 words of eight bytes, are refused by 8 as the entry refuses a wrong setup: index 0, none played, the store
+-- unchanged. Otherwise the call gives what the entry gives for the words.
 unfoldable pub playCall : List ℕ → List ℕ → List ℕ → ℕ → List ℕ → PlayCall
 unfolding bytesOf wordsOf
 playCall listing constants store start lent =
     cond (not (eqb (length lent) 24)) (record { number = 8; store = store; answer = lent })
-    (cond (not (eqb (length constants % 8) 0)) (record { number = 8; store = store; answer = lent })
-    (cond (not (eqb (length store) 12816)) (record { number = 8; store = store; answer = bytesOf (8 ∷ 0 ∷ 0 ∷ []) })
-    (given (answer listing (wordsOf constants) start (wordsOf store)))))
+    (cond (not (eqb (length constants % 8) 0) || not (eqb (length store) 12816))
+    (record { number = 8; store = store; answer = bytesOf (8 ∷ 0 ∷ 0 ∷ []) })
+    (given (answer listing (wordsOf constants) start (wordsOf store))))
 
 -- what a call of `tulipcricket_lower_unguarded` returns, and the bytes that it leaves in the listing, the constants and the answer
 pub record LowerCall : Type 0 where
@@ -48,13 +48,15 @@ abbrev pub lowerAnswer : Lowered.Answer → List ℕ
 lowerAnswer a =
     bytesOf (a .number ∷ a .index ∷ a .written ∷ a .count ∷ []) ++ (map flag (a .real .regs) ++ a .real .places)
 
--- An answer of another length than 128 bytes, and constants that are no whole number of words, are refused by 8 with nothing written.
--- Otherwise the call gives what the entry gives for the words.
+-- An answer of another length than 128 bytes is refused by 8 with nothing written. Constants of another length than 256 words of eight
+-- bytes are refused by 8 as the entry refuses a wrong setup: listing and constants unchanged. Otherwise the call gives what the entry gives
+-- for the words.
 unfoldable pub lowerCall : List ℕ → List ℕ → List ℕ → List ℕ → LowerCall
 unfolding bytesOf wordsOf
 lowerCall sheet listing constants lent =
     cond (not (eqb (length lent) 128)) (record { number = 8; listing = listing; constants = constants; answer = lent })
-    (cond (not (eqb (length constants % 8) 0)) (record { number = 8; listing = listing; constants = constants; answer = lent })
+    (cond (not (eqb (length constants) 2048))
+    (record { number = 8; listing = listing; constants = constants; answer = lowerAnswer Lower.refusedSetup })
     (record {
       number = Lower.answer sheet listing (wordsOf constants) .number;
       listing = Lower.listingAfter sheet listing (wordsOf constants);

@@ -1,20 +1,21 @@
 // The two entries as C functions. Words go in and out as eight bytes each, the lowest first.
 ghost use mathlib.Core.Path.{_≡_};
+ghost use mathlib.Core.List.{[], _∷_};
 ghost use lib.ListN.{length};
 ghost use Rattle.machine.specs.Answer.{answer};
 ghost use Rattle.player.specs.Values.{whole};
 ghost use Rattle.complexify.specs.Entry as Entry;
-ghost use Rattle.interface.specs.Bytes.{bytesOf, wordsOf};
+ghost use Rattle.words.specs.Bytes.{bytesOf, wordsOf, stored};
 ghost use Rattle.interface.specs.Calls.{PlayCall, LowerCall, playCall, lowerCall, lowerAnswer};
 
-mod words;
+mod flags;
 
 use complexify::entry::Answer as Lowered;
+use flags::put_flags;
 use lowering::realness::Realness;
 use player::Answer;
 use words::load;
 use words::put_bytes;
-use words::put_flags;
 use words::save;
 
 // Plays on words, with constants as bytes.
@@ -30,8 +31,17 @@ fn play_words(listing: &[u8], constants: &[u8], store: &mut [u64], start: usize)
         };
     }
     let mut table = [0u64; 256];
-    load(&mut table, constants, n);
+    load(&mut table, constants);
     player::play(listing, &table[..n], store, start)
+}
+
+// The answer of a play that is refused by 8, and 8.
+fn refuse_play(answer: &mut [u8]) -> u32
+    ensures { λ r. ⌜ (r ≡ 8) × (now (answer .exit) ≡ stored (now (answer .entry)) 0 (bytesOf (8 ∷ 0 ∷ 0 ∷ []))) ⌝ }
+{
+    let refused = [8u64, 0, 0];
+    save(answer, &refused);
+    8
 }
 
 // Plays a listing from a record on. The store is 12,816 bytes; the answer is 24: number, index, records played. Returns the number.
@@ -49,15 +59,13 @@ pub extern "C" fn tulipcricket_play_unguarded(
         return 8;
     }
     if constants.len() % 8 != 0 {
-        return 8;
+        return refuse_play(answer);
     }
     if store.len() != 12816 {
-        let refused = [8u64, 0, 0];
-        save(answer, &refused);
-        return 8;
+        return refuse_play(answer);
     }
     let mut words = [0u64; 1602];
-    load(&mut words, store, 1602);
+    load(&mut words, store);
     let a = play_words(listing, constants, &mut words, start as usize);
     save(store, &words);
     let numbers = [a.number as u64, a.index as u64, a.played as u64];
@@ -124,9 +132,6 @@ pub extern "C" fn tulipcricket_lower_unguarded(
     ensures { λ r. ⌜ record { number = r; listing = now (listing .exit); constants = now (constants .exit); answer = now (answer .exit) } ≡ lowerCall (now (sheet .entry)) (now (listing .entry)) (now (constants .entry)) (now (answer .entry)) ⌝ }
 {
     if answer.len() != 128 {
-        return 8;
-    }
-    if constants.len() % 8 != 0 {
         return 8;
     }
     if constants.len() != 2048 {

@@ -1,5 +1,5 @@
 -- The position of a word in a list, and a constant sought in two lists one after the other.
-use Prim.Native.Nat.{ℕ, zero, suc, _+_, _≤_, _<_}
+use Prim.Native.Nat.{ℕ, zero, suc, _+_, _-_, _≤_, _<_}
 use mathlib.Core.Path.{_≡_, refl, sym, ap, _∙_}
 use mathlib.Core.Bool.{Bool, true, false, cond}
 use mathlib.Core.List.{List, [], _∷_, _++_, append-assoc, append-nil}
@@ -7,8 +7,8 @@ use native.Mathlib.Nat.{zero-add, add-zero}
 use native.Mathlib.Numerals.{add-one}
 use native.Mathlib.Omega.{arith}
 use borrow.Author.Tests.{eq-eqb, ne-eqb, lt-ltb, le-ltb}
-use lib.ListN.{length, take, drop, getD, set, length-append, length-take, drop-of-length-le}
-use lib.Seq.{drop-cons, take-suc-set}
+use lib.ListN.{length, take, drop, replicate, getD, set, length-append, length-take, drop-of-length-le}
+use lib.Seq.{drop-cons, drop-drop, drop-set-lt, take-suc-set}
 use lib.Dec.{eqb}
 use Rattle.lowering.specs.Complexifier.{position, stableConst}
 use Rattle.rerun.specs.declared.turn.Added.{Added}
@@ -71,6 +71,14 @@ module _ (v : ℕ) where
   unfolding position
   at-end t h = in-second t (v ∷ []) h ∙ simp (eq-eqb v v refl, add-zero)
 
+-- one word more, and one zero fewer behind it
+one-less : (l : List ℕ) (c v : ℕ) → drop c l ≡ replicate (3 - c) 0 → c < 3 → drop (c + 1) (set l c v) ≡ replicate (3 - (c + 1)) 0
+one-less l c v z h =
+    let e : 3 - c ≡ suc (3 - (c + 1)) = omega arith in
+    drop-set-lt (c + 1) l c v (omega arith)
+    ∙ sym (drop-drop 1 c l)
+    ∙ ap (drop 1) (z ∙ ap (λ n. replicate n 0) e)
+
 -- the three answers of `stable_const`
 module _ {k : List ℕ} {a : Added} {v : ℕ} where
   pub found : {p : ℕ} → p ≡ position v k → p < length k → Sought k a v (record { at = p; added = a })
@@ -79,7 +87,7 @@ module _ {k : List ℕ} {a : Added} {v : ℕ} where
       let f = in-first v k (take (a .count) (a .words)) (omega (arith, e)) in
       let n : length t ≡ length k + length (take (a .count) (a .words)) = simp length-append in
       let s = stays v t (omega (arith, e, f, n)) in
-      record { at = e ∙ sym f ∙ ap (position v) (sym s); kept = sym s; few = omega arith }
+      record { at = e ∙ sym f ∙ ap (position v) (sym s); kept = sym s; few = omega arith; zeros = λ z. z }
 
   pub found-added : {q : ℕ} → length k ≤ position v k → q ≡ position v (take (a .count) (a .words)) → q < length (take (a .count) (a .words))
       → Sought k a v (record { at = length k + q; added = a })
@@ -88,12 +96,12 @@ module _ {k : List ℕ} {a : Added} {v : ℕ} where
       let f = in-second v k (take (a .count) (a .words)) h in
       let n : length t ≡ length k + length (take (a .count) (a .words)) = simp length-append in
       let s = stays v t (omega (arith, e, f, n, m)) in
-      record { at = ap (λ q. length k + q) e ∙ sym f ∙ ap (position v) (sym s); kept = sym s; few = omega arith }
+      record { at = ap (λ q. length k + q) e ∙ sym f ∙ ap (position v) (sym s); kept = sym s; few = omega arith; zeros = λ z. z }
 
   pub newly : length k ≤ position v k → length (take (a .count) (a .words)) ≤ position v (take (a .count) (a .words))
-      → a .count < length (a .words)
+      → a .count < length (a .words) → length (a .words) ≡ 3
       → Sought k a v (record { at = length k + a .count; added = record { words = set (a .words) (a .count) v; count = a .count + 1 } })
-  newly h m c =
+  newly h m c three =
       let t = table k a in
       let f = in-second v k (take (a .count) (a .words)) h in
       let n : length t ≡ length k + length (take (a .count) (a .words)) = simp length-append in
@@ -108,6 +116,7 @@ module _ {k : List ℕ} {a : Added} {v : ℕ} where
             ∙ sym (append-assoc k (take (a .count) (a .words)) (v ∷ []))
             ∙ sym s;
         few = omega arith;
+        zeros = λ z. one-less (a .words) (a .count) v z (omega arith);
       }
 
 -- three constants, one after the other
@@ -124,4 +133,5 @@ thrice {k} {a} {u} {v} {w} {f} {g} {h} e p q r =
       third = r .at ∙ ap (λ t. position w (stableConst w t)) z;
       kept = r .kept ∙ ap (stableConst w) z;
       few = omega (arith, n, p .few, q .few, r .few);
+      zeros = r .zeros (q .zeros (p .zeros (rw e refl)));
     }

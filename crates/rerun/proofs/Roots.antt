@@ -27,6 +27,7 @@ byDefined {b} {s} {k} m x e p =
       listed = p .listed ∙ ap (λ x. pushAll b (defineRoot x m (state s k) .records)) (sym e);
       kept = p .kept ∙ ap (λ x. defineRoot x m (state s k) .after) (sym e);
       few = p .few;
+      zeros = p .zeros;
     }
 
 empty : (a : Added) → a ≡ none → a .count ≤ 3
@@ -38,7 +39,7 @@ module _ {s : Complexifier} {k o : List ℕ} {n : ℕ} {a : Added} where
   unfolding defineRoot
   root-before m e h =
       byDefined m true e
-      (record { listed = refl; kept = ap (λ a. state s (table k a)) h ∙ ap (state s) (append-nil k); few = empty a h })
+      (record { listed = refl; kept = ap (λ a. state s (table k a)) h ∙ ap (state s) (append-nil k); few = empty a h; zeros = rw h refl })
 
 abbrev pub defined : Complexifier → Complexifier
 defined s = record { real = s .real; «root_defined» = true }
@@ -49,7 +50,7 @@ module _ {b : Buf} {s : Complexifier} {k o : List ℕ} {n : ℕ} (e : s .«root_
   unfolding defineRoot
   root-plain {a} h p =
       byDefined false false e
-      (record { listed = p .same; kept = ap (λ a. state (defined s) (table k a)) h ∙ ap (state (defined s)) (append-nil k); few = empty a h })
+      (record { listed = p .same; kept = ap (λ a. state (defined s) (table k a)) h ∙ ap (state (defined s)) (append-nil k); few = empty a h; zeros = rw h refl })
 
   pub root-stable : {t : Three} → Thrice k FLOOR_FINITE EXP_MASK_FINITE INFINITY t
       → Lists b (aroundBlock (rootBlock (stableRootMagnitude (t .i) (t .j) (t .q)))) (buf o n)
@@ -72,4 +73,5 @@ module _ {b : Buf} {s : Complexifier} {k o : List ℕ} {n : ℕ} (e : s .«root_
             (h .third);
         kept = ap (state (defined s)) (h .kept);
         few = h .few;
+        zeros = h .zeros;
       })

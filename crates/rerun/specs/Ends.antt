@@ -19,12 +19,13 @@ use Rattle.complexifier.specs.declared.state.Step.{Step}
 use Rattle.complexifier.specs.Does.{Does, state, recorded}
 use Rattle.rerun.specs.declared.constants.Three.{Three}
 use Rattle.rerun.specs.declared.turn.Turn.{Turn}
-use Rattle.rerun.specs.Added.{none, table, Thrice}
+use Rattle.rerun.specs.Added.{none, table, Zeros, Thrice}
 
 pub record Ends (b : Buf) (s : Complexifier) (k : List ℕ) (f : State → Out) (o : List ℕ) (r : Turn) : Type 0 where
   pub listed : buf o (r .at) ≡ pushAll b (f (state s k) .records)
   pub kept : state (r .low) (table k (r .added)) ≡ f (state s k) .after
   pub few : r .added .count ≤ 3
+  pub zeros : Zeros (r .added)
 
 -- a step adds no constants
 abbrev pub asTurn : Step → Turn
@@ -37,6 +38,7 @@ plainly {b} {s} {k} {f} {o} {p} {r} d e =
       listed = ap (λ r. buf o (r .at)) e ∙ d .listed k;
       kept = ap (λ r. state (r .low) (table k (r .added))) e ∙ ap (state (p .low)) (append-nil k) ∙ d .kept k;
       few = rw e (omega arith);
+      zeros = rw e refl;
     }
 
 -- a method that adds nothing, and then one that may
@@ -53,6 +55,7 @@ _▸▸_ {b} {c} {s} {t} {k} {f} {g} {o} {r} p q =
           ∙ simp pushAll-append;
       kept = q .kept ∙ ap (λ x. g x .after) (p .kept k);
       few = q .few;
+      zeros = q .zeros;
     }
 
 -- a method that lists nothing where there are more constants than a table holds
@@ -73,6 +76,7 @@ module _ {b : Buf} {s : Complexifier} {k o : List ℕ} {r : Turn} where
         listed = p .listed ∙ ap (λ x. pushAll b (g x (state s k) .records)) e;
         kept = p .kept ∙ ap (λ x. g x (state s k) .after) e;
         few = p .few;
+        zeros = p .zeros;
       }
 
   pub byFlags : (g : Bool → Bool → State → Out) (a₁ a₂ : ℕ) {x y : Bool} → x ≡ isRealReg (s .real) a₁ → y ≡ isRealReg (s .real) a₂
@@ -88,6 +92,7 @@ module _ {b : Buf} {s : Complexifier} {k o : List ℕ} {r : Turn} where
             ∙ ap (λ x. g x y (state s k) .after) e
             ∙ ap (λ y. g (isRealReg (s .real) a₁) y (state s k) .after) h;
         few = p .few;
+        zeros = p .zeros;
       }
 
   -- lines that name three constants, and register d recorded as complex
@@ -108,6 +113,7 @@ module _ {b : Buf} {s : Complexifier} {k o : List ℕ} {r : Turn} where
             ∙ ap (λ a. state (recorded s (setReg (s .real) d false)) (table k a)) f
             ∙ ap (state (recorded s (setReg (s .real) d false))) (h .kept);
         few = rw f (h .few);
+        zeros = rw f (h .zeros);
       }
 
   -- as many constants as a table holds, or more
@@ -117,6 +123,7 @@ module _ {b : Buf} {s : Complexifier} {k o : List ℕ} {r : Turn} where
         listed = p .listed ∙ ap (λ x. pushAll b (cond x (f (state s k)) (unlisted (state s k)) .records)) (sym (le-leb _ _ h));
         kept = p .kept ∙ ap (λ x. cond x (f (state s k)) (unlisted (state s k)) .after) (sym (le-leb _ _ h));
         few = p .few;
+        zeros = p .zeros;
       }
 
   pub many-constants : (f : State → Out) → 256 < length k → Ends b s k unlisted o r → Ends b s k (tabled f) o r
@@ -125,6 +132,7 @@ module _ {b : Buf} {s : Complexifier} {k o : List ℕ} {r : Turn} where
         listed = p .listed ∙ ap (λ x. pushAll b (cond x (f (state s k)) (unlisted (state s k)) .records)) (sym (lt-leb _ _ h));
         kept = p .kept ∙ ap (λ x. cond x (f (state s k)) (unlisted (state s k)) .after) (sym (lt-leb _ _ h));
         few = p .few;
+        zeros = p .zeros;
       }
 
   pub untabled : (f : State → Out) → length k ≤ 256 → Ends b s k (tabled f) o r → Ends b s k f o r
@@ -133,4 +141,5 @@ module _ {b : Buf} {s : Complexifier} {k o : List ℕ} {r : Turn} where
         listed = p .listed ∙ ap (λ x. pushAll b (cond x (f (state s k)) (unlisted (state s k)) .records)) (le-leb _ _ h);
         kept = p .kept ∙ ap (λ x. cond x (f (state s k)) (unlisted (state s k)) .after) (le-leb _ _ h);
         few = p .few;
+        zeros = p .zeros;
       }

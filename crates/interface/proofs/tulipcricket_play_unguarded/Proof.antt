@@ -2,7 +2,7 @@
 use borrow.Author.Needs.{needs}
 use borrow.Author.Tests.{eq-eqb, ne-eqb}
 use Rattle.interface.specs.Calls.{playCall}
-use Rattle.interface.proofs.Playing.{wrong-store, played}
+use Rattle.interface.proofs.Playing.{wrong, played}
 use Rattle.interface.proofs.tulipcricket_play_unguarded.Statement.{statement}
 use Rattle.interface.proofs.tulipcricket_play_unguarded.Tie as tie
 
@@ -10,24 +10,31 @@ returns : tie.Need-returns
 unfolding playCall
 returns c = simp (ne-eqb _ _ (c .if1 .taken))
 
-returns-2 : tie.Need-returns-2
-unfolding playCall
-returns-2 c = simp (eq-eqb _ _ (c .before .if1 .left), ne-eqb _ _ (c .if2 .taken))
-
-slice-aggregate-save : tie.Need-slice-aggregate-save
-slice-aggregate-save c = search needs
-
-save-requires : tie.Need-save-requires
-save-requires c κs = search needs
+refuse-play-requires : tie.Need-refuse-play-requires
+refuse-play-requires c κs = search needs
 
 same-length : tie.Need-same-length
 same-length c = search needs
 
+returns-2 : tie.Need-returns-2
+returns-2 c =
+    let a = c .before .before .before .before .before .before .before .before .before .before .args in
+    let p = c .before .before .refuse-play .ensures in
+    wrong (a .listing .now) (a .constants .now) (a .store .now) (a .start) (a .answer .now) (c .before .before .before .before .before .if1 .left)
+    (simp (ne-eqb _ _ (c .before .before .before .before .if2 .taken))) (p .0) (p .1)
+
+refuse-play-requires-2 : tie.Need-refuse-play-requires-2
+refuse-play-requires-2 c κs = search needs
+
+same-length-2 : tie.Need-same-length-2
+same-length-2 c = search needs
+
 returns-3 : tie.Need-returns-3
 returns-3 c =
-    let a = c .before .before .before .before .before .before .before .before .before .before .before .before .args in
-    wrong-store (a .listing .now) (a .constants .now) (a .store .now) (a .start) (a .answer .now) (c .before .before .before .before .before .before .before .if1 .left) (c .before .before .before .before .before .before .if2 .left) (c .before .before .before .before .before .if3 .taken)
-    (c .before .before .save .ensures)
+    let a = c .before .before .before .before .before .before .before .before .before .before .before .args in
+    let p = c .before .before .refuse-play2 .ensures in
+    wrong (a .listing .now) (a .constants .now) (a .store .now) (a .start) (a .answer .now) (c .before .before .before .before .before .before .if1 .left)
+    (simp (eq-eqb _ _ (c .before .before .before .before .before .if2 .left), ne-eqb _ _ (c .before .before .before .before .if3 .taken))) (p .0) (p .1)
 
 slice-aggregate-load : tie.Need-slice-aggregate-load
 slice-aggregate-load c = search needs
@@ -41,57 +48,58 @@ slice-aggregate-play-words c = search needs
 play-words-requires : tie.Need-play-words-requires
 play-words-requires c κs = search needs
 
+slice-aggregate-save : tie.Need-slice-aggregate-save
+slice-aggregate-save c = search needs
+
+save-requires : tie.Need-save-requires
+save-requires c κs = search needs
+
+cast-t27 : tie.Need-cast-t27
+cast-t27 c = search needs
+
 slice-aggregate-save-2 : tie.Need-slice-aggregate-save-2
 slice-aggregate-save-2 c = search needs
 
 save-requires-2 : tie.Need-save-requires-2
 save-requires-2 c κs = search needs
 
-cast-t29 : tie.Need-cast-t29
-cast-t29 c = search needs
-
-slice-aggregate-save-3 : tie.Need-slice-aggregate-save-3
-slice-aggregate-save-3 c = search needs
-
-save-requires-3 : tie.Need-save-requires-3
-save-requires-3 c κs = search needs
-
 cast-result : tie.Need-cast-result
 cast-result c = search needs
 
-same-length-2 : tie.Need-same-length-2
-same-length-2 c = search needs
-
 same-length-3 : tie.Need-same-length-3
 same-length-3 c = search needs
+
+same-length-4 : tie.Need-same-length-4
+same-length-4 c = search needs
 
 returns-4 : tie.Need-returns-4
 returns-4 c =
     let a = c .before .before .before .before .before .before .before .before .before .before .before .before .before .before .before .before .before .before .before .before .before .before .before .before .before .before .args in
     let p = c .before .before .before .before .before .before .before .before .before .before .before .before .before .play-words in
-    played (a .listing .now) (a .constants .now) (a .store .now) (a .start) (a .answer .now) (c .before .before .before .before .before .before .before .before .before .before .before .before .before .before .before .before .before .before .before .before .before .if1 .left) (c .before .before .before .before .before .before .before .before .before .before .before .before .before .before .before .before .before .before .before .before .if2 .left)
-    _ (p .result) (c .before .before .before .before .before .before .before .before .before .before .before .before .before .before .before .before .before .before .before .if3 .left) (search needs) (c .before .before .before .before .before .before .before .before .before .before .before .before .before .before .before .before .load .ensures) (p .ensures) (search needs) (c .before .before .before .before .before .before .before .before .before .save2 .ensures) (c .before .before .before .save3 .ensures)
+    played (a .listing .now) (a .constants .now) (a .store .now) (a .start) (a .answer .now) (c .before .before .before .before .before .before .before .before .before .before .before .before .before .before .before .before .before .before .before .before .before .if1 .left) _ (p .result) (c .before .before .before .before .before .before .before .before .before .before .before .before .before .before .before .before .before .before .before .before .if2 .left)
+    (c .before .before .before .before .before .before .before .before .before .before .before .before .before .before .before .before .before .before .before .if3 .left) (search needs) (c .before .before .before .before .before .before .before .before .before .before .before .before .before .before .before .before .load .ensures) (p .ensures) (search needs) (c .before .before .before .before .before .before .before .before .before .save .ensures) (c .before .before .before .save2 .ensures)
 
 pub tulipcricket-play-unguarded-spec : {M : Type 1} → statement M
 tulipcricket-play-unguarded-spec =
     tie.close
     (tie.spec
     returns
-    returns-2
-    slice-aggregate-save
-    save-requires
+    refuse-play-requires
     same-length
+    returns-2
+    refuse-play-requires-2
+    same-length-2
     returns-3
     slice-aggregate-load
     load-requires
     slice-aggregate-play-words
     play-words-requires
+    slice-aggregate-save
+    save-requires
+    cast-t27
     slice-aggregate-save-2
     save-requires-2
-    cast-t29
-    slice-aggregate-save-3
-    save-requires-3
     cast-result
-    same-length-2
     same-length-3
+    same-length-4
     returns-4)

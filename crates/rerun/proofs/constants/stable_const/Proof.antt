@@ -27,4 +27,4 @@ stable-const-spec =
     (λ c. let h = c .before .before .before .before .before .before .before .pre .0 in let g = c .before .before .before .before .before .before .before .pre .1 in omega (arith, h, g))
     (λ c. let h = c .before .before .before .before .before .before .before .pre .0 in let g = c .before .before .before .before .before .before .before .pre .1 in omega (arith, h, g))
     (λ c. let h = c .before .before .before .before .before .before .before .pre .0 in let g = c .before .before .before .before .before .before .before .pre .1 in omega (arith, h, g))
-    (λ c. let h = c .before .before .before .before .before .before .before .pre .0 in let g = c .before .before .before .before .before .before .before .pre .1 in let w : length (c .before .before .before .before .before .before .before .args .added .words) ≡ 3 = search needs in let t : length (take (c .before .before .before .before .before .before .before .args .added .count) (c .before .before .before .before .before .before .before .args .added .words)) ≡ c .before .before .before .before .before .before .before .args .added .count = simp length-take (omega (arith, g, w)) in let e = c .before .before .before .before .before .position-of .ensures in let f = c .before .position-of2 .ensures in newly (omega (arith, e)) (omega (arith, f, t)) (omega (arith, g, w))))
+    (λ c. let h = c .before .before .before .before .before .before .before .pre .0 in let g = c .before .before .before .before .before .before .before .pre .1 in let w : length (c .before .before .before .before .before .before .before .args .added .words) ≡ 3 = search needs in let t : length (take (c .before .before .before .before .before .before .before .args .added .count) (c .before .before .before .before .before .before .before .args .added .words)) ≡ c .before .before .before .before .before .before .before .args .added .count = simp length-take (omega (arith, g, w)) in let e = c .before .before .before .before .before .position-of .ensures in let f = c .before .position-of2 .ensures in newly (omega (arith, e)) (omega (arith, f, t)) (omega (arith, g, w)) w))

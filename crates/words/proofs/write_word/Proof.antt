@@ -1,4 +1,4 @@
--- `interface::words::put_word` meets its contract. The invariant: what is stored with what is left to store is the whole word.
+-- `words::write_word` meets its contract. The invariant: what is stored with what is left to store is the whole word.
 use borrow.Author.Needs.{needs}
 use Prim.Native.Nat.{_≤_, _+_, _-_}
 use mathlib.Core.Path.{_≡_, sym, _∙_}
@@ -6,10 +6,10 @@ use native.Mathlib.Nat.{add-zero}
 use native.Mathlib.Omega.{arith}
 use lib.ListN.{length, length-set}
 use lib.Seq.{sets}
-use Rattle.interface.specs.Bytes.{bytes}
-use Rattle.interface.proofs.Copying.{put-turn, put-ended}
-use Rattle.interface.proofs.words.put_word.Statement.{statement}
-use Rattle.interface.proofs.words.put_word.Tie as tie
+use Rattle.words.specs.Bytes.{bytes}
+use Rattle.words.proofs.Copying.{put-turn, put-ended}
+use Rattle.words.proofs.write_word.Statement.{statement}
+use Rattle.words.proofs.write_word.Tie as tie
 
 abbrev Inv-loop : tie.InvT-loop
 Inv-loop out₀ at word rest₀ i₀ out rest i =
@@ -50,8 +50,8 @@ returns c =
     let l = c .before .loop in
     sym (put-ended (l .out) (c .before .before .args .at) (l .i) (l .rest) (omega arith)) ∙ l .inv .2
 
-pub put-word-spec : {M : Type 1} → statement M
-put-word-spec =
+pub write-word-spec : {M : Type 1} → statement M
+write-word-spec =
     tie.close
     (tie.spec
     Inv-loop

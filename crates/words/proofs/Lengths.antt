@@ -6,7 +6,7 @@ use native.Mathlib.Nat.{add-zero}
 use native.Mathlib.Omega.{arith}
 use lib.ListN.{length, take, drop, set, length-append, drop-of-length-le}
 use lib.Seq.{sets, sets-eq, take-at, drop-nil, drop-append-add}
-use Rattle.interface.specs.Bytes.{bytes, bytesOf, words, wordsOf}
+use Rattle.words.specs.Bytes.{bytes, bytesOf, words, wordsOf}
 
 pub length-bytes : (n w : ℕ) → length (bytes n w) ≡ n
 unfolding bytes

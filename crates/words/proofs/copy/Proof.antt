@@ -1,4 +1,4 @@
--- `interface::words::put_bytes` meets its contract. The invariant: what is stored with what is left to store is all bytes.
+-- `words::copy` meets its contract. The invariant: what is stored with what is left to store is all bytes.
 use borrow.Author.Needs.{needs}
 use Prim.Native.Nat.{_≤_, _+_, _-_}
 use mathlib.Core.Path.{_≡_, sym, _∙_}
@@ -6,9 +6,9 @@ use native.Mathlib.Nat.{add-zero}
 use native.Mathlib.Omega.{arith}
 use lib.ListN.{length, drop, length-set}
 use lib.Seq.{sets}
-use Rattle.interface.proofs.Copying.{bytes-turn, bytes-ended}
-use Rattle.interface.proofs.words.put_bytes.Statement.{statement}
-use Rattle.interface.proofs.words.put_bytes.Tie as tie
+use Rattle.words.proofs.Copying.{bytes-turn, bytes-ended}
+use Rattle.words.proofs.copy.Statement.{statement}
+use Rattle.words.proofs.copy.Tie as tie
 
 abbrev Inv-loop : tie.InvT-loop
 Inv-loop out₀ at s i₀ out i =
@@ -50,8 +50,8 @@ returns c =
     let l = c .before .loop in
     sym (bytes-ended (l .out) (a .s .now) (a .at) (l .i) (omega arith)) ∙ l .inv .2
 
-pub put-bytes-spec : {M : Type 1} → statement M
-put-bytes-spec =
+pub copy-spec : {M : Type 1} → statement M
+copy-spec =
     tie.close
     (tie.spec
     Inv-loop

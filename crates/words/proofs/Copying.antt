@@ -7,8 +7,8 @@ use native.Mathlib.Nat.{add-suc}
 use native.Mathlib.Omega.{arith}
 use lib.ListN.{length, take, drop, getD, set, length-drop, drop-of-length-le}
 use lib.Seq.{sets, take-nil, drop-cons, drop-drop, take-take}
-use Rattle.interface.specs.Bytes.{bytes, number, bytesOf, words}
-use Rattle.interface.proofs.Lengths.{length-bytes, sets-append}
+use Rattle.words.specs.Bytes.{bytes, number, bytesOf, words}
+use Rattle.words.proofs.Lengths.{length-bytes, sets-append}
 
 -- the byte at k is the lowest of those from k on
 number-at : (n k : ℕ) (s : List ℕ) → number (take (suc n) (drop k s)) ≡ getD s k 0 + 256 * number (take n (drop (suc k) s))

@@ -1,8 +1,8 @@
--- `interface::words::first_word` meets its contract.
+-- `words::first_word` meets its contract.
 use borrow.Author.Needs.{needs}
-use Rattle.interface.proofs.Copying.{eight}
-use Rattle.interface.proofs.words.first_word.Statement.{statement}
-use Rattle.interface.proofs.words.first_word.Tie as tie
+use Rattle.words.proofs.Copying.{eight}
+use Rattle.words.proofs.first_word.Statement.{statement}
+use Rattle.words.proofs.first_word.Tie as tie
 
 pub first-word-spec : {M : Type 1} → statement M
 first-word-spec =

@@ -6,7 +6,7 @@ use native.Mathlib.Nat.{pow-suc}
 use native.Mathlib.Omega.{arith}
 use lib.ListN.{length, take, drop, getD, length-drop, take-append-drop}
 use lib.Seq.{getD-take, getD-drop, length-take-le}
-use Rattle.interface.specs.Bytes.{bytes, number, bytesOf, words, wordsOf}
+use Rattle.words.specs.Bytes.{bytes, number, bytesOf, words, wordsOf}
 
 pub number-bytes : (n w : ℕ) → w < 256 ^ n → number (bytes n w) ≡ w
 unfolding number bytes

@@ -1,14 +1,14 @@
--- `interface::words::save` meets its contract. The invariant: what is stored with what is left to store is the bytes of all words.
+-- `words::save_words` meets its contract. The invariant: what is stored with what is left to store is the bytes of all words.
 use borrow.Author.Needs.{needs}
 use Prim.Native.Nat.{_≤_, _+_, _*_, _-_}
 use mathlib.Core.Path.{_≡_, sym, ap, _∙_}
 use native.Mathlib.Omega.{arith}
 use lib.ListN.{length, getD, drop}
 use lib.Seq.{sets, length-sets}
-use Rattle.interface.specs.Bytes.{bytes, bytesOf}
-use Rattle.interface.proofs.Copying.{save-turn, save-ended}
-use Rattle.interface.proofs.words.save.Statement.{statement}
-use Rattle.interface.proofs.words.save.Tie as tie
+use Rattle.words.specs.Bytes.{bytes, bytesOf}
+use Rattle.words.proofs.Copying.{save-turn, save-ended}
+use Rattle.words.proofs.save_words.Statement.{statement}
+use Rattle.words.proofs.save_words.Tie as tie
 
 abbrev Inv-loop : tie.InvT-loop
 Inv-loop out₀ table i₀ out i =
@@ -23,14 +23,14 @@ loop-holds c = search needs
 mul-at : tie.Need-mul-at Inv-loop μ-loop
 mul-at c = search needs
 
-mul-put-word : tie.Need-mul-put-word Inv-loop μ-loop
-mul-put-word c = search needs
+mul-write-word : tie.Need-mul-write-word Inv-loop μ-loop
+mul-write-word c = search needs
 
-shared-slice-read-put-word : tie.Need-shared-slice-read-put-word Inv-loop μ-loop
-shared-slice-read-put-word c = search needs
+shared-slice-read-write-word : tie.Need-shared-slice-read-write-word Inv-loop μ-loop
+shared-slice-read-write-word c = search needs
 
-put-word-requires : tie.Need-put-word-requires Inv-loop μ-loop
-put-word-requires c κs = search needs
+write-word-requires : tie.Need-write-word-requires Inv-loop μ-loop
+write-word-requires c κs = search needs
 
 add-i : tie.Need-add-i Inv-loop μ-loop
 add-i c = search needs
@@ -42,7 +42,7 @@ loop-again : tie.Need-loop-again Inv-loop μ-loop
 loop-again c =
     let a = c .before .before .before .before .before .before .before .before .before .args in
     let l = c .before .before .before .before .before .before .loop in
-    let p = c .before .before .put-word .ensures in (
+    let p = c .before .before .write-word .ensures in (
       search needs,
       ap length p ∙ length-sets (l .out) (8 * l .i) (bytes 8 (getD (a .table .now) (l .i) 0)) ∙ l .inv .1,
       ap (λ x. sets x (8 * (l .i + 1)) (bytesOf (drop (l .i + 1) (a .table .now)))) p
@@ -58,17 +58,17 @@ returns c =
     let l = c .before .loop in
     sym (save-ended (l .out) (c .before .before .before .before .args .table .now) (l .i) (omega arith)) ∙ l .inv .2
 
-pub save-spec : {M : Type 1} → statement M
-save-spec =
+pub save-words-spec : {M : Type 1} → statement M
+save-words-spec =
     tie.close
     (tie.spec
     Inv-loop
     μ-loop
     loop-holds
     mul-at
-    mul-put-word
-    shared-slice-read-put-word
-    put-word-requires
+    mul-write-word
+    shared-slice-read-write-word
+    write-word-requires
     add-i
     loop-less
     loop-again

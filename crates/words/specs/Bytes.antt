@@ -1,7 +1,10 @@
 -- Words as bytes: each word is eight bytes, the lowest first.
 use Prim.Native.Nat.{ℕ, zero, suc, _+_, _*_, _/_, _%_}
+use mathlib.Core.Bool.{cond}
 use mathlib.Core.List.{List, [], _∷_, _++_}
 use lib.ListN.{length, take, drop}
+use lib.Seq.{sets}
+use lib.Dec.{leb}
 
 -- the lowest n bytes of a number, lowest first
 unfoldable pub bytes : ℕ → ℕ → List ℕ
@@ -25,7 +28,16 @@ unfolding number
 words zero s = []
 words (suc n) s = number (take 8 s) ∷ words n (drop 8 s)
 
+-- the word whose lowest byte stands at a position; a byte past the end counts as 0
+unfoldable pub wordAt : List ℕ → ℕ → ℕ
+unfolding number
+wordAt s at = number (take 8 (drop at s))
+
 -- all whole words of bytes
 unfoldable pub wordsOf : List ℕ → List ℕ
 unfolding words
 wordsOf s = words (length s / 8) s
+
+-- a list stored over another from a position on; where there is no room for the whole, nothing changes
+unfoldable pub stored : List ℕ → ℕ → List ℕ → List ℕ
+stored l at v = cond (leb (at + length v) (length l)) (sets l at v) l

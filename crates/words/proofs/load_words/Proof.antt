@@ -1,4 +1,4 @@
--- `interface::words::load` meets its contract. The invariant: what is stored with what is left to store is all words.
+-- `words::load_words` meets its contract. The invariant: what is stored with what is left to store is all words.
 use borrow.Author.Needs.{needs}
 use Prim.Native.Nat.{_≤_, _+_, _*_, _-_}
 use mathlib.Core.Path.{_≡_, sym, ap, _∙_}
@@ -6,10 +6,10 @@ use native.Mathlib.Nat.{sub-zero}
 use native.Mathlib.Omega.{arith}
 use lib.ListN.{length, set, take, drop, length-set}
 use lib.Seq.{sets}
-use Rattle.interface.specs.Bytes.{number, words}
-use Rattle.interface.proofs.Copying.{first-eight, load-turn, load-ended}
-use Rattle.interface.proofs.words.load.Statement.{statement}
-use Rattle.interface.proofs.words.load.Tie as tie
+use Rattle.words.specs.Bytes.{number, words}
+use Rattle.words.proofs.Copying.{first-eight, load-turn, load-ended}
+use Rattle.words.proofs.load_words.Statement.{statement}
+use Rattle.words.proofs.load_words.Tie as tie
 
 abbrev Inv-loop : tie.InvT-loop
 Inv-loop table₀ s n i₀ table i =
@@ -70,8 +70,8 @@ returns c =
     let l = c .before .loop in
     sym (load-ended (l .table) (a .s .now) (a .n) (l .i) (omega arith)) ∙ l .inv .2
 
-pub load-spec : {M : Type 1} → statement M
-load-spec =
+pub load-words-spec : {M : Type 1} → statement M
+load-words-spec =
     tie.close
     (tie.spec
     Inv-loop

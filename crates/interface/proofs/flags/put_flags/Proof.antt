@@ -1,4 +1,4 @@
--- `interface::words::put_flags` meets its contract. The invariant: what is stored with what is left to store is all flags.
+-- `interface::flags::put_flags` meets its contract. The invariant: what is stored with what is left to store is all flags.
 use borrow.Author.Needs.{needs}
 use Prim.Native.Nat.{_≤_, _+_, _-_}
 use mathlib.Core.Path.{_≡_, sym, ap, _∙_}
@@ -9,9 +9,9 @@ use native.Mathlib.Omega.{arith}
 use lib.ListN.{length, drop, set, length-set, length-map, List·getD-map}
 use lib.Seq.{sets}
 use Rattle.interface.specs.Calls.{flag}
-use Rattle.interface.proofs.Copying.{bytes-turn, bytes-ended}
-use Rattle.interface.proofs.words.put_flags.Statement.{statement}
-use Rattle.interface.proofs.words.put_flags.Tie as tie
+use Rattle.words.proofs.Copying.{bytes-turn, bytes-ended}
+use Rattle.interface.proofs.flags.put_flags.Statement.{statement}
+use Rattle.interface.proofs.flags.put_flags.Tie as tie
 
 abbrev Inv-loop : tie.InvT-loop
 Inv-loop out₀ at regs i₀ out i =

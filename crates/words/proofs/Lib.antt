@@ -1,0 +1,5 @@
+pub mod Lengths
+pub mod Copying
+pub mod RoundTrip
+pub mod Stored
+mod Padding
