@@ -57,11 +57,11 @@ module _ (x : Float) (m : ℕ) (e : ℤ) (small : mag e < 1200) (lo : 2 ^ 52 ≤
   q-hi : q < 2 ^ 53
   q-hi = SquareRoot.q-hi m e M q r small lo hi refl is rest
 
-  scaled : (2 ^ 104 ≤ q * q + r) × (q * q + r < 2 ^ 106)
-  scaled =
-      let lower : 2 ^ 52 * 2 ^ 52 ≤ q * q = mul-le-mul q-lo q-lo in
-      let upper : suc q * suc q ≤ 2 ^ 53 * 2 ^ 53 = mul-le-mul q-hi q-hi in
-      (omega (arith, lower), omega (arith, upper, rest))
+  n-lo : 2 ^ 52 * 2 ^ 52 ≤ q * q
+  n-lo = mul-le-mul q-lo q-lo
+
+  n-hi : suc q * suc q ≤ 2 ^ 53 * 2 ^ 53
+  n-hi = mul-le-mul q-hi q-hi
 
   in-range : (s : ℕ) → s ≤ 2 ^ 53 → s * 2 ^ k < 2 ^ 2098
   in-range s h =
@@ -76,7 +76,7 @@ module _ (x : Float) (m : ℕ) (e : ℤ) (small : mag e < 1200) (lo : 2 ^ 52 ≤
     k = k;
     operand =
         rescale x false (m * up e) (down e) ((q * q + r) * 4 ^ k) (2 ^ 2148) (down-pos e) (sym (SquareRoot.scaled m e M q r small lo hi refl is rest)) v;
-    scaled = scaled;
+    scaled = (omega (arith, n-lo), omega (arith, n-hi, rest));
     result =
         subst (λ (y : Float). HasValue y false (nearest q o * 2 ^ k) (2 ^ 1074)) (sym (SquareRoot.root-units m e M q r small lo hi refl is rest x v o h))
         (units-val binary64 false (nearest q o) k (in-range (nearest q o) (digits .1)));

@@ -198,7 +198,7 @@ pub record Given (bytes : List ℕ) (room : ℕ) (σ₀ : Store) (i : ℕ) (σ �
   pub stands : standing (lowered bytes room) 0 σ₀ i ≡ some σ
   pub changed : Alike (realAt (sheetOf bytes) i) σ τ
 
--- "one claim about a whole play, for every sheet, store, point and change together": proved in proofs/Theorem.antt
+-- "one claim about a whole play, for every sheet, store, point and change together"; of what the two entries do it is stated in `entries`
 abbrev pub Demand3 : Type 0
 Demand3 =
     (bytes : List ℕ) (room : ℕ) (σ₀ : Store) (i : ℕ) (σ τ : Store)

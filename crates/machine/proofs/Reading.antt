@@ -6,10 +6,10 @@ use lib.ListN.{length, getD, set, length-set}
 use lib.Seq.{getD-set-other}
 use Rattle.mir.specs.declared.records.Work.{Work}
 use Rattle.machine.specs.Machine.{Store, at, Write, _≔_, writes, put, exec}
-use Rattle.machine.specs.Reads.{reads, Agree, done, same, Off, clear, other}
+use Rattle.machine.specs.Reads.{reads, Agree, done, same, Off, clear, other, DependsOn, Stays}
 
 -- stores that agree on what a record reads get the same writes
-pub depends : (constants : List ℕ) (w : Work) (σ τ : Store) → Agree σ τ (reads w) → writes constants σ w ≡ writes constants τ w
+pub depends : DependsOn reads
 unfolding writes
 depends constants (Work.Uni op dst s1) σ τ (same a done) = cc
 depends constants (Work.Bi op dst s1 s2) σ τ (same a (same b done)) = cc
@@ -29,7 +29,7 @@ unfolding put
 put-off [] σ i clear = refl
 put-off (j ≔ v ∷ ws) σ i (other h o) = put-off ws (set σ j v) i o ∙ getD-set-other σ j i v 0 h
 
-pub exec-off : (constants : List ℕ) (w : Work) (σ : Store) (i : ℕ) → Off i (writes constants σ w) → at (exec constants w σ) i ≡ at σ i
+pub exec-off : Stays
 unfolding exec
 exec-off constants w σ i o = put-off (writes constants σ w) σ i o
 
