@@ -29,10 +29,7 @@ pub data Off (i : ℕ) : List Write → Type 0 where
   clear : Off i []
   other : {j v : ℕ} {ws : List Write} → (i ≡ j → ⊥) → Off i ws → Off i (j ≔ v ∷ ws)
 
--- stores that agree on what a record reads get the same writes (theorem `depends`, of `reads`)
-abbrev pub DependsOn : (Work → List ℕ) → Type 0
-DependsOn read = (constants : List ℕ) (w : Work) (σ τ : Store) → Agree σ τ (read w) → writes constants σ w ≡ writes constants τ w
-
--- a word that a record does not write stays (theorem `stays`)
-abbrev pub Stays : Type 0
-Stays = (constants : List ℕ) (w : Work) (σ : Store) (i : ℕ) → Off i (writes constants σ w) → at (exec constants w σ) i ≡ at σ i
+-- stores that agree on what a record reads get the same writes, and a word that it does not write stays (theorem `confined`, of `reads`)
+pub record Confined (read : Work → List ℕ) : Type 0 where
+  pub depends : (constants : List ℕ) (w : Work) (σ τ : Store) → Agree σ τ (read w) → writes constants σ w ≡ writes constants τ w
+  pub stays : (constants : List ℕ) (w : Work) (σ : Store) (i : ℕ) → Off i (writes constants σ w) → at (exec constants w σ) i ≡ at σ i
