@@ -1,4 +1,4 @@
--- What Root, MulAdd and IfElse mean, said without their definitions; proofs/Right.antt shows it. `HasValue x s p c` says that x is finite, has the sign s, and is p / c in size.
+-- What Root, MulAdd and IfElse mean, said without their definitions (theorems `root`, `oneRoot`, `mulAdd`, `ifElse`). `HasValue x s p c` says that x is finite, has the sign s, and is p / c in size.
 -- Assumes nothing.
 use mathlib.Core.Path.{_≡_}
 use mathlib.Core.Bool.{Bool, true, false, cond, _&&_}

@@ -48,6 +48,7 @@ pub record Sheet : Type 0 where
   pub constants : List ℕ
   pub instructions : List Instruction
 
+-- as it is read from its bytes
 abbrev pub sheetOf : List ℕ → Sheet
 sheetOf bytes =
     let u = setup bytes in
@@ -71,6 +72,7 @@ pub record Lowered : Type 0 where
   pub constants : List ℕ
   pub last : Realness
 
+-- a sheet's bytes, lowered into a slice with this room
 abbrev pub lowered : List ℕ → ℕ → Lowered
 lowered bytes room =
     let e = lowerSheet bytes room in

@@ -1,4 +1,5 @@
--- What is proved of the definitions, beside the promises of the functions. Each statement stands in the crate that it speaks of.
+-- What is proved of the definitions, beside the promises of the functions. Each statement is a type in the specs/ of the crate that it speaks
+-- of.
 use lib.Ieee.{binary64}
 use Rattle.float.specs.Root.{squareRoot}
 use Rattle.float.specs.Fused.{fusedMultiplyAdd}
@@ -13,6 +14,7 @@ use Rattle.leftovers.specs.Kept.{Kept, Parted}
 use Rattle.leftovers.specs.Examples.{mixing, clean, Needed, Met}
 use Rattle.entries.specs.Entries.{EntriesDemand3}
 
+-- all of it, one theorem a field
 pub record Theorems : Type 0 where
   -- demand 3, of every call of `lower` that answers 0
   pub demand3 : EntriesDemand3
