@@ -1,4 +1,4 @@
--- What the entry `lower` leaves is what demand 3 speaks of.
+-- What the entry `lower` leaves is what `Leftovers` calls lowered.
 use Prim.Native.Nat.{ℕ}
 use mathlib.Core.Path.{_≡_, refl, ap, _∙_}
 use mathlib.Core.Bool.{Bool, true, false, true≢false, cond, not, _||_}
@@ -10,11 +10,18 @@ use lib.Dec.{ltb, eqb}
 use borrow.Author.Tests.{ltb-false, eqb-true, not-false}
 use Rattle.sheet.specs.Setup.{setup}
 use Rattle.lowering.specs.Lower.{lowerSheet}
-use Rattle.complexify.specs.Entry.{wrongSetup, refusedSetup, answerOf}
+use Rattle.complexify.specs.Entry.{wrongSetup, refusedSetup, answerOf, answer}
 use Rattle.complexify.proofs.Copies.{taken-first}
-use Rattle.leftovers.specs.Leftovers.{sheetOf, Accepted}
-use Rattle.entries.specs.Entries.{Left, Entered}
+use Rattle.leftovers.specs.Leftovers.{sheetOf, Accepted, lowered}
+use Rattle.entries.specs.Entries.{left}
 use Rattle.leftovers.proofs.Sheets.{sound, table}
+
+-- what `lower` leaves, part by part
+pub record Left (sheet listing constants : List ℕ) : Type 0 where
+  pub accepted : Accepted sheet (length listing)
+  pub bytes : left sheet listing constants .listing ≡ lowered sheet (length listing) .listing
+  pub words : left sheet listing constants .constants ≡ lowered sheet (length listing) .constants
+  pub last : left sheet listing constants .last ≡ lowered sheet (length listing) .last
 
 -- no test of three holds
 record Neither (x y z : Bool) : Type 0 where
@@ -57,5 +64,5 @@ module _ (sheet listing constants : List ℕ) where
         last = ap (λ b. cond b refusedSetup (answerOf o) .real) w;
       }
 
-pub entered : Entered
+pub entered : (sheet listing constants : List ℕ) → answer sheet listing constants .number ≡ 0 → Left sheet listing constants
 entered sheet listing constants e = accepts sheet listing constants (wrongSetup sheet listing constants) refl e

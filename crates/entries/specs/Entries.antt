@@ -1,19 +1,35 @@
--- What `Leftovers` calls lowered is what the entry `lower` leaves, and its plays are what the entry `play` answers: `playOn` is the equation
--- that `play` promises.
-use Prim.Native.Nat.{ℕ}
+-- Demand 3 of what the two entries do: of every call of `lower` that answers 0, with nothing but what it left, played as `play` promises.
+use Prim.Native.Nat.{ℕ, _≤_}
 use mathlib.Core.Path.{_≡_}
 use mathlib.Core.List.{List}
+use mathlib.Core.Option.{some}
 use lib.ListN.{length, take}
+use Rattle.machine.specs.Machine.{Store}
 use Rattle.complexify.specs.Entry.{answer, listingAfter, constantsAfter}
-use Rattle.leftovers.specs.Leftovers.{Accepted, lowered}
+use Rattle.leftovers.specs.Leftovers.{Alike, Lowered, sheetOf, realAt, standing, Claim}
 
--- with the slices `listing` and `constants` lent: the bytes written, the constants counted and the realness answered
-pub record Left (sheet listing constants : List ℕ) : Type 0 where
-  pub accepted : Accepted sheet (length listing)
-  pub bytes : take (answer sheet listing constants .written) (listingAfter sheet listing constants) ≡ lowered sheet (length listing) .listing
-  pub words : take (answer sheet listing constants .count) (constantsAfter sheet listing constants) ≡ lowered sheet (length listing) .constants
-  pub last : answer sheet listing constants .real ≡ lowered sheet (length listing) .last
+-- what `lower` leaves when these slices are lent: the listing's bytes written, the constants counted and the realness answered
+abbrev pub left : List ℕ → List ℕ → List ℕ → Lowered
+left sheet listing constants =
+    let a = answer sheet listing constants in
+    record {
+      sheet = sheetOf sheet;
+      listing = take (a .written) (listingAfter sheet listing constants);
+      constants = take (a .count) (constantsAfter sheet listing constants);
+      last = a .real;
+    }
 
--- whenever the entry's number is 0: proved in proofs/Entries.antt
-abbrev pub Entered : Type 0
-Entered = (sheet listing constants : List ℕ) → answer sheet listing constants .number ≡ 0 → Left sheet listing constants
+-- "Take any accepted sheet and play its listing, with its constants, from record 0 on any store whatever", σ₀: `lower` answers 0, and the
+-- play of what it left stands at point i with σ; τ is σ changed at will.
+pub record Given (sheet listing constants : List ℕ) (σ₀ : Store) (i : ℕ) (σ τ : Store) : Type 0 where
+  pub accepted : answer sheet listing constants .number ≡ 0
+  pub words : length σ₀ ≡ 1602
+  pub upper : i ≤ length (sheetOf sheet .instructions)
+  pub stands : standing (left sheet listing constants) 0 σ₀ i ≡ some σ
+  pub changed : Alike (realAt (sheetOf sheet) i) σ τ
+
+-- "one claim about a whole play, for every sheet, store, point and change together", and for every slice lent (theorem `demand3`)
+abbrev pub EntriesDemand3 : Type 0
+EntriesDemand3 =
+    (sheet listing constants : List ℕ) (σ₀ : Store) (i : ℕ) (σ τ : Store)
+    → Given sheet listing constants σ₀ i σ τ → Claim (left sheet listing constants) σ₀ i σ τ

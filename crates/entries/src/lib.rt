@@ -1,1 +1,1 @@
-// Demand 3 speaks of what the two entries do: what the entry `lower` leaves is what the theorem calls lowered.
+// Demand 3 of what the two entries do: specs/ states it of what a call of `lower` leaves, played as `play` promises.

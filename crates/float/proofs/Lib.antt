@@ -1,4 +1,4 @@
--- Lemmas that more than one function's proof uses, each building on those above it; the last shows the laws of specs/Laws.antt.
+-- Lemmas that more than one function's proof uses, each building on those above it; the last two show the laws of specs/Laws.antt.
 mod Nan
 mod Closest
 mod RoundBits
@@ -13,4 +13,5 @@ mod Sums
 mod FusedSum
 mod Alignment
 mod FusedWords
-mod Right
+pub mod Right
+pub mod OneRoot

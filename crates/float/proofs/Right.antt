@@ -1,8 +1,9 @@
--- The laws of specs/Laws.antt: Root's result is the nearest, MulAdd rounds a * b + c, IfElse chooses bit by bit. Assumes nothing.
+-- The laws of specs/Laws.antt: Root's result is the nearest, MulAdd rounds a * b + c, IfElse chooses bit by bit. (That there is one nearest root:
+-- OneRoot.antt.) Assumes nothing.
 use mathlib.Core.Path.{_≡_, refl, sym, ap, ap₂, _∙_, subst}
 use mathlib.Core.Bool.{Bool, true, false, cond, _&&_}
 use Prim.Native.Nat.{ℕ, zero, suc, _+_, _-_, _*_, _/_, _%_, _^_, _≤_, _<_, min, max, compare, Ordering, Ordering·lt, Ordering·eq, Ordering·gt}
-use native.Mathlib.Nat.{lt-irrefl, lt-of-mul-lt-mul-right, mod-lt, lt-of-lt-of-le, div-add-mod', div-eq-of-lt-le, mul-zero, zero-mul, mul-assoc}
+use native.Mathlib.Nat.{lt-irrefl, lt-of-mul-lt-mul-right, mod-lt, lt-of-lt-of-le, mul-le-mul, div-add-mod', div-eq-of-lt-le, mul-zero, zero-mul, mul-assoc}
 use native.Mathlib.Omega.{arith}
 use borrow.Author.Tests.{lt-ltb, le-ltb}
 use lib.Dec.{leb, eqb, lit<}
@@ -17,8 +18,9 @@ use lib.Ieee.Exact.{HasValue, units-val}
 use lib.Ieee.Fits.{down-pos}
 use Rattle.float.specs.Laws.{IsWholeRoot, NearestRoot, RootLaw, signed, roundSigned, MulAddLaw, bit, IfElseLaw}
 use Rattle.float.specs.Biased.{biased}
-use Rattle.float.specs.Root.{wholeRoot}
-use Rattle.float.specs.Word.{value}
+use Rattle.float.specs.Root.{wholeRoot, squareRoot}
+use Rattle.float.specs.Fused.{fusedMultiplyAdd}
+use Rattle.float.specs.Word.{value, ifElse}
 use Rattle.float.proofs.Closest.{Cmp, cmp}
 use Rattle.float.proofs.Fields.{rescale, unpacked}
 use Rattle.float.proofs.SquareRoot as SquareRoot
@@ -55,19 +57,26 @@ module _ (x : Float) (m : ℕ) (e : ℤ) (small : mag e < 1200) (lo : 2 ^ 52 ≤
   q-hi : q < 2 ^ 53
   q-hi = SquareRoot.q-hi m e M q r small lo hi refl is rest
 
+  n-lo : 2 ^ 52 * 2 ^ 52 ≤ q * q
+  n-lo = mul-le-mul q-lo q-lo
+
+  n-hi : suc q * suc q ≤ 2 ^ 53 * 2 ^ 53
+  n-hi = mul-le-mul q-hi q-hi
+
   in-range : (s : ℕ) → s ≤ 2 ^ 53 → s * 2 ^ k < 2 ^ 2098
   in-range s h =
       let l = SquareRoot.k-hi m e M q r small lo hi refl is rest in
       lt-of-lt-of-le (shl-lt 54 k (omega arith)) (pow-mono {i = 54 + k} {j = 2098} (omega (arith, l)))
 
   by : (o : Ordering) → Cmp o (4 * (q * q + r)) ((2 * q + 1) * (2 * q + 1)) → (2 ^ 52 ≤ nearest q o) × (nearest q o ≤ 2 ^ 53)
-      → ((2 * nearest q o - 1) * (2 * nearest q o - 1) < 4 * (q * q + r)) × (4 * (q * q + r) < (2 * nearest q o + 1) * (2 * nearest q o + 1)) → NearestRoot x
+      → ((2 * nearest q o - 1) * (2 * nearest q o - 1) < 4 * (q * q + r)) × (4 * (q * q + r) < (2 * nearest q o + 1) * (2 * nearest q o + 1)) → NearestRoot x (squareRoot binary64 x)
   by o h digits near = record {
     n = q * q + r;
     r = nearest q o;
     k = k;
     operand =
         rescale x false (m * up e) (down e) ((q * q + r) * 4 ^ k) (2 ^ 2148) (down-pos e) (sym (SquareRoot.scaled m e M q r small lo hi refl is rest)) v;
+    scaled = (omega (arith, n-lo), omega (arith, n-hi, rest));
     result =
         subst (λ (y : Float). HasValue y false (nearest q o * 2 ^ k) (2 ^ 1074)) (sym (SquareRoot.root-units m e M q r small lo hi refl is rest x v o h))
         (units-val binary64 false (nearest q o) k (in-range (nearest q o) (digits .1)));
@@ -75,7 +84,7 @@ module _ (x : Float) (m : ℕ) (e : ℤ) (small : mag e < 1200) (lo : 2 ^ 52 ≤
     nearest = near;
   }
 
-  pub nearest-root : NearestRoot x
+  pub nearest-root : NearestRoot x (squareRoot binary64 x)
   nearest-root = go (compare r (suc q)) (cmp r (suc q))
     where
       below : (q r : ℕ) → 0 < q → (2 * q - 1) * (2 * q - 1) < 4 * (q * q + r)
@@ -84,21 +93,21 @@ module _ (x : Float) (m : ℕ) (e : ℤ) (small : mag e < 1200) (lo : 2 ^ 52 ≤
           below-suc : (j q r : ℕ) → q ≡ j + 1 → (2 * q - 1) * (2 * q - 1) < 4 * (q * q + r)
           below-suc j q r e = subst (λ (x : ℕ). (2 * x - 1) * (2 * x - 1) < 4 * (x * x + r)) (sym e) (subst (λ (x : ℕ). x * x < 4 * ((j + 1) * (j + 1) + r)) {x = 2 * j + 1} {y = 2 * (j + 1) - 1} (omega arith) (omega arith))
 
-      at-most : r ≤ q → NearestRoot x
+      at-most : r ≤ q → NearestRoot x (squareRoot binary64 x)
       at-most h = by Ordering·lt (omega arith) (q-lo, omega (arith, q-hi)) (below q r (omega (arith, q-lo)), omega arith)
 
-      above : q < r → NearestRoot x
+      above : q < r → NearestRoot x (squareRoot binary64 x)
       above h = by Ordering·gt (omega arith) (omega (arith, q-lo), omega (arith, q-hi)) (next q r h, omega (arith, rest))
         where
           next : (q r : ℕ) → q < r → (2 * suc q - 1) * (2 * suc q - 1) < 4 * (q * q + r)
           next q r h = subst (λ (x : ℕ). x * x < 4 * (q * q + r)) {x = 2 * q + 1} {y = 2 * suc q - 1} (omega arith) (omega arith)
 
-      go : (o : Ordering) → Cmp o r (suc q) → NearestRoot x
+      go : (o : Ordering) → Cmp o r (suc q) → NearestRoot x (squareRoot binary64 x)
       go Ordering·lt h = at-most (omega arith)
       go Ordering·eq h = above (omega arith)
       go Ordering·gt h = above (omega arith)
 
-pub root-nearest : (a : ℕ) → RootLaw a
+pub root-nearest : RootLaw (squareRoot binary64)
 root-nearest a p h =
     let u = unpacked a (omega arith) (omega arith) in
     let t = u .2 in
@@ -176,7 +185,7 @@ sum-signed true false a b d = go (compare a b) (cmp a b) ∙ sym (ap (λ (x : �
     go Ordering·eq h = sum-none true false a b d refl h ∙ sym (difference-none false b a d (sym h))
     go Ordering·gt h = sum-more true false a b d refl h ∙ sym (difference-less false b a d h)
 
-pub mul-add-exact : (x y z : Float) → MulAddLaw x y z
+pub mul-add-exact : MulAddLaw (fusedMultiplyAdd binary64)
 mul-add-exact x y z r s t p q n c d g C D G X Y Z =
     fused-at x y z r s t p q n c d g C D G X Y Z
     ∙ sum-signed (unlike r s) t (p * q * g) (n * (c * d)) (c * d * g)
@@ -212,7 +221,7 @@ not-bit i c h l = go (c / 2 ^ i) (c % 2 ^ i) (2 ^ i) (2 ^ (63 - i)) (div-add-mod
         over : (w : ℕ) → w * u + q * u + u ≡ 2 ^ 64 → 2 ^ 64 - 1 - c < (w + 1) * u
         over w h = omega arith
 
-pub if-else-bit : (i c t f : ℕ) → IfElseLaw i c t f
+pub if-else-bit : IfElseLaw ifElse
 if-else-bit i c t f i-lt c-lt =
     ap (λ (x : ℕ). x % 2) (or-shr (bitAnd c t) (bitAnd (2 ^ 64 - 1 - c) f) i)
     ∙ or-low (bitAnd c t / 2 ^ i) (bitAnd (2 ^ 64 - 1 - c) f / 2 ^ i)

@@ -89,7 +89,7 @@ with-it : seventh mixing touched ≡ 0x3ff0_0000_0000_0000
 unfolding mixing touched seventh
 with-it = refl
 
-pub needed : Needed
+pub needed : Needed mixing 1
 unfolding lower stood seventh im
 needed =
     record {
@@ -148,7 +148,7 @@ clean-unmixed (suc (suc zero)) d a h e q =
     true≢false (sym clean-into ∙ ap (isRealReg (realAt (sheetOf clean) 2)) x ∙ q)
 clean-unmixed (suc (suc (suc j))) d a h e q = no-half d a (sym (clean-after j) ∙ e)
 
-pub met : Met
+pub met : Met clean 2
 unfolding lower stood
 met =
     record {

@@ -3,16 +3,12 @@ use mathlib.Core.Path.{_≡_, refl, _∙_}
 use mathlib.Core.Bool.{Bool, true, false, cond}
 use mathlib.Core.List.{List, [], _∷_}
 use Prim.Native.Nat.{ℕ}
-use lib.ListN.{length, set, length-set}
+use lib.ListN.{length}
 use lib.Dec.{eqb}
 use Rattle.mir.specs.declared.records.Work.{Work}
 use Rattle.mir.specs.declared.records.Record.{Record}
-use Rattle.machine.specs.Machine.{Store, Write, _≔_, writes, put, exec, execs, End, ticks, Way, going, seeking, play}
-
-put-length : (ws : List Write) (σ : Store) → length (put ws σ) ≡ length σ
-unfolding put
-put-length [] σ = refl
-put-length (i ≔ v ∷ ws) σ = put-length ws (set σ i v) ∙ length-set σ i v
+use Rattle.machine.specs.Machine.{Store, writes, exec, execs, End, ticks, Way, going, seeking, play}
+use Rattle.machine.proofs.Reading.{put-length}
 
 exec-length : (k : List ℕ) (w : Work) (σ : Store) → length (exec k w σ) ≡ length σ
 unfolding exec

@@ -155,7 +155,7 @@ leftover-within scratch1 = lit< tt
 leftover-within (half r h e) = omega (arith, im-in r .0)
 leftover-within (word p h e) = omega (arith, class-below p)
 
-pub parted : (ρ : Realness) → Parted ρ
+pub parted : (ρ : Realness) → Parted (Kept ρ) (Leftover ρ)
 parted ρ =
     record { each = either-one ρ; notBoth = not-both ρ; within = λ w. elim [ inl k ↦ kept-within k | inr l ↦ leftover-within l ] }
 

@@ -1,5 +1,5 @@
 -- Two sheets: at one the condition about Half fails and the endings differ, so that it is needed; at the other all that the claim takes is
--- given, and the condition holds. proofs/Examples.antt computes both.
+-- given, and the condition holds.
 use Prim.Native.Nat.{ℕ}
 use mathlib.Core.Path.{_≡_}
 use mathlib.Core.List.{List, [], _∷_, _++_}
@@ -20,22 +20,24 @@ unfoldable pub mixing : List ℕ
 unfolding header
 mixing = header ++ 7 ∷ 0 ∷ 1 ∷ 0 ∷ 10 ∷ 0 ∷ 0 ∷ 7 ∷ 0 ∷ 1 ∷ 0 ∷ 13 ∷ 1 ∷ 0 ∷ []
 
--- at point 1, two written to the imaginary half of general 0
+-- two written to the imaginary half of general 0
 unfoldable pub touched : Store
 unfolding zeros
 touched = set zeros 5 0x4000_0000_0000_0000
 
-pub record Needed : Type 0 where
-  pub given : Given mixing 65536 zeros 1 zeros touched
-  pub differs : EndAlike (lowered mixing 65536) 1 zeros touched → ⊥
+-- at point i of a sheet's play all that the claim takes is given, but for the condition, and the endings differ (theorem `needed`: `mixing`
+-- at point 1)
+pub record Needed (sheet : List ℕ) (i : ℕ) : Type 0 where
+  pub given : Given sheet 65536 zeros i zeros touched
+  pub differs : EndAlike (lowered sheet 65536) i zeros touched → ⊥
 
 -- Real of general 0 into general 0 and of general 1 into general 1; Half of general 0 into general 1, both recorded as real
 unfoldable pub clean : List ℕ
 unfolding header
 clean = header ++ 7 ∷ 0 ∷ 1 ∷ 0 ∷ 10 ∷ 0 ∷ 0 ∷ 7 ∷ 0 ∷ 1 ∷ 0 ∷ 10 ∷ 1 ∷ 1 ∷ 7 ∷ 0 ∷ 1 ∷ 0 ∷ 13 ∷ 1 ∷ 0 ∷ []
 
--- at point 2, which the Half follows, the same change
-pub record Met : Type 0 where
-  pub given : Given clean 65536 zeros 2 zeros touched
-  pub unmixed : Mixing (lowered clean 65536) 2 zeros → ⊥
+-- at point i all that the claim takes is given, with the condition, of a change (theorem `met`: `clean` at point 2, which the Half follows)
+pub record Met (sheet : List ℕ) (i : ℕ) : Type 0 where
+  pub given : Given sheet 65536 zeros i zeros touched
+  pub unmixed : Mixing (lowered sheet 65536) i zeros → ⊥
   pub other : zeros ≡ touched → ⊥

@@ -9,7 +9,6 @@ use Rattle.mir.specs.Place.{index}
 use Rattle.machine.specs.Machine.{place}
 use Rattle.lowering.specs.declared.realness.Realness.{Realness}
 use Rattle.lowering.specs.Realness.{isRealReg, isRealLoc}
-use Rattle.leftovers.specs.Leftovers.{Leftover}
 
 -- "the same real halves, the same imaginary halves of registers recorded as complex, and the same words in every place, save imaginary
 -- words of places still recorded as real"
@@ -19,8 +18,8 @@ pub data Kept (ρ : Realness) : ℕ → Type 0 where
   kept-word : (p : Loc) → index p < 256 → Kept ρ (place p)
   kept-next : (p : Loc) → index p < 256 → isRealLoc (ρ .places) p ≡ false → Kept ρ (suc (place p))
 
--- every word of the store is kept or a leftover, and none is both: proved in proofs/Words.antt, with counts
-pub record Parted (ρ : Realness) : Type 0 where
-  pub each : (w : ℕ) → w < 1602 → Kept ρ w ⊎ Leftover ρ w
-  pub notBoth : (w : ℕ) → Kept ρ w → Leftover ρ w → ⊥
-  pub within : (w : ℕ) → Kept ρ w ⊎ Leftover ρ w → w < 1602
+-- every word of the store is the one or the other, and none is both (theorem `parted`, of kept words and leftovers)
+pub record Parted (One Other : ℕ → Type 0) : Type 0 where
+  pub each : (w : ℕ) → w < 1602 → One w ⊎ Other w
+  pub notBoth : (w : ℕ) → One w → Other w → ⊥
+  pub within : (w : ℕ) → One w ⊎ Other w → w < 1602

@@ -48,6 +48,7 @@ pub record Sheet : Type 0 where
   pub constants : List ℕ
   pub instructions : List Instruction
 
+-- as it is read from its bytes
 abbrev pub sheetOf : List ℕ → Sheet
 sheetOf bytes =
     let u = setup bytes in
@@ -71,6 +72,7 @@ pub record Lowered : Type 0 where
   pub constants : List ℕ
   pub last : Realness
 
+-- a sheet's bytes, lowered into a slice with this room
 abbrev pub lowered : List ℕ → ℕ → Lowered
 lowered bytes room =
     let e = lowerSheet bytes room in
@@ -198,7 +200,7 @@ pub record Given (bytes : List ℕ) (room : ℕ) (σ₀ : Store) (i : ℕ) (σ �
   pub stands : standing (lowered bytes room) 0 σ₀ i ≡ some σ
   pub changed : Alike (realAt (sheetOf bytes) i) σ τ
 
--- "one claim about a whole play, for every sheet, store, point and change together": proved in proofs/Theorem.antt
+-- "one claim about a whole play, for every sheet, store, point and change together"; of what the two entries do it is stated in `entries`
 abbrev pub Demand3 : Type 0
 Demand3 =
     (bytes : List ℕ) (room : ℕ) (σ₀ : Store) (i : ℕ) (σ τ : Store)

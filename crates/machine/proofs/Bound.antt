@@ -12,7 +12,7 @@ use Rattle.mir.specs.declared.records.Record.{Record}
 use Rattle.records.specs.Record.{records}
 use Rattle.machine.specs.Machine.{Store, exec, execs, block, Way, going, seeking, End, ticks, play}
 use Rattle.machine.specs.Jumps.{bit, tally, breach}
-use Rattle.machine.specs.Count.{isCall, blockRecords, most}
+use Rattle.machine.specs.Count.{isCall, blockRecords, most, Bounds}
 use Rattle.machine.specs.Answer.{Answer, refuse, accept, answer}
 
 either : (x : Bool) (a b : End) (n : ℕ) → a .played ≤ n → b .played ≤ n → cond x a b .played ≤ n
@@ -61,8 +61,7 @@ refuse-bound : (b : Bool) (number index : ℕ) (σ : Store) (a : Answer) (n : �
 refuse-bound true number index σ a n h = omega arith
 refuse-bound false number index σ a n h = h
 
-pub answer-bound : (listing constants : List ℕ) (start : ℕ) (σ : Store)
-    → answer listing constants start σ .played ≤ most (records (length constants) listing .items)
+pub answer-bound : Bounds most
 unfolding answer
 answer-bound listing constants start σ =
     let d = records (length constants) listing in

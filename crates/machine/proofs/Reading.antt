@@ -6,10 +6,10 @@ use lib.ListN.{length, getD, set, length-set}
 use lib.Seq.{getD-set-other}
 use Rattle.mir.specs.declared.records.Work.{Work}
 use Rattle.machine.specs.Machine.{Store, at, Write, _≔_, writes, put, exec}
-use Rattle.machine.specs.Reads.{reads, Agree, done, same, Off, clear, other}
+use Rattle.machine.specs.Reads.{reads, Agree, done, same, Off, clear, other, Confined}
 
 -- stores that agree on what a record reads get the same writes
-pub depends : (constants : List ℕ) (w : Work) (σ τ : Store) → Agree σ τ (reads w) → writes constants σ w ≡ writes constants τ w
+depends : (constants : List ℕ) (w : Work) (σ τ : Store) → Agree σ τ (reads w) → writes constants σ w ≡ writes constants τ w
 unfolding writes
 depends constants (Work.Uni op dst s1) σ τ (same a done) = cc
 depends constants (Work.Bi op dst s1 s2) σ τ (same a (same b done)) = cc
@@ -24,14 +24,17 @@ depends constants (Work.SaveComplex xs ys p) σ τ (same a (same b done)) = cc
 depends constants (Work.ComplexBi op xd yd x1 y1 x2 y2) σ τ (same a (same b (same c (same d done)))) = cc
 
 -- a word that is not written stays
-pub put-off : (ws : List Write) (σ : Store) (i : ℕ) → Off i ws → at (put ws σ) i ≡ at σ i
+put-off : (ws : List Write) (σ : Store) (i : ℕ) → Off i ws → at (put ws σ) i ≡ at σ i
 unfolding put
 put-off [] σ i clear = refl
 put-off (j ≔ v ∷ ws) σ i (other h o) = put-off ws (set σ j v) i o ∙ getD-set-other σ j i v 0 h
 
-pub exec-off : (constants : List ℕ) (w : Work) (σ : Store) (i : ℕ) → Off i (writes constants σ w) → at (exec constants w σ) i ≡ at σ i
+exec-off : (constants : List ℕ) (w : Work) (σ : Store) (i : ℕ) → Off i (writes constants σ w) → at (exec constants w σ) i ≡ at σ i
 unfolding exec
 exec-off constants w σ i o = put-off (writes constants σ w) σ i o
+
+pub confined : Confined reads
+confined = record { depends = depends; stays = exec-off }
 
 -- the store keeps its length
 pub put-length : (ws : List Write) (σ : Store) → length (put ws σ) ≡ length σ

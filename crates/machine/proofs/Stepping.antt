@@ -14,7 +14,7 @@ use Rattle.mir.specs.declared.records.Record.{Record}
 use Rattle.machine.specs.Machine.{Store, put, exec, execs, isLabel, seek, block, End, ticks, going, seeking, play}
 use Rattle.machine.specs.Jumps.{has, nothing, breach, breachFrom}
 use Rattle.machine.specs.Count.{most}
-use Rattle.machine.specs.Step.{State, before, labelFrom, then, end, follows, written, step, after, reached, steps}
+use Rattle.machine.specs.Step.{State, before, labelFrom, then, end, follows, written, step, after, reached, steps, PlaysBySteps}
 use Rattle.machine.proofs.Seeking.{seek-play}
 use Rattle.machine.proofs.Bound.{bound-drop}
 use Rattle.machine.proofs.Keeping.{Kept, kept-tail, kept-seek, kept-drop, kept-call, worked, Shaped, shaped}
@@ -177,10 +177,8 @@ module _ (constants : List ℕ) (rs : List Record) where
         ∙ ap (ticks (1 + (2 + b))) (same g (suc i) x rest τ (omega (arith, h)) (behind-it rs i e) (kept-tail k))
         ∙ ap (λ n. ticks n (left rest τ)) (omega arith)
 
--- Both renderings give the same play, from any record on: with as many steps as a play may reach records, or more.
-pub by-steps : (constants : List ℕ) (rs : List Record) (start n : ℕ) (σ : Store) → breach rs ≡ length rs
-    → most rs ≤ n
-    → steps constants rs n (record { at = start; back = none; store = σ }) ≡ play constants (block rs) going (drop start rs) σ
+-- both renderings give the same play
+pub by-steps : PlaysBySteps most
 unfolding breach
 by-steps constants rs start n σ e h =
     let one = has (isLabel 1) rs in

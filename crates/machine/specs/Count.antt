@@ -1,13 +1,16 @@
--- How many records a play may reach (document 01, Player). That no play reaches more is `answer-bound` of proofs/Bound.antt.
-use Prim.Native.Nat.{ℕ, _+_, _*_}
+-- How many records a play may reach (document 01, Player), and that no play reaches more.
+use Prim.Native.Nat.{ℕ, _+_, _*_, _≤_}
 use mathlib.Core.Bool.{Bool, true, false}
 use mathlib.Core.List.{List}
 use lib.ListN.{length}
 use Rattle.mir.specs.declared.records.Work.{Work}
 use Rattle.mir.specs.declared.records.Record.{Record}
-use Rattle.machine.specs.Machine.{block}
+use Rattle.records.specs.Record.{records}
+use Rattle.machine.specs.Machine.{Store, block}
 use Rattle.machine.specs.Jumps.{tally}
+use Rattle.machine.specs.Answer.{answer}
 
+-- calls, to be counted
 abbrev pub isCall : Record → Bool
 isCall (Record.Work w) = false
 isCall (Record.Label l) = false
@@ -21,3 +24,9 @@ blockRecords b = 2 + length b
 -- "Records played are at most all records plus calls times block records."
 abbrev pub most : List Record → ℕ
 most rs = length rs + tally isCall rs * blockRecords (block rs)
+
+-- every play of every listing, from any record on any store, reaches at most so many records (theorem `bound`, of `most`)
+abbrev pub Bounds : (List Record → ℕ) → Type 0
+Bounds count =
+    (listing constants : List ℕ) (start : ℕ) (σ : Store)
+    → answer listing constants start σ .played ≤ count (records (length constants) listing .items)

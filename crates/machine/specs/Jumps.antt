@@ -13,6 +13,7 @@ isReturn (Record.Label l) = false
 isReturn (Record.Branch l) = eqb l 0
 isReturn (Record.Call l) = false
 
+-- one where a test holds
 abbrev pub bit : Bool → ℕ
 bit b = cond b 1 0
 
@@ -30,6 +31,7 @@ pub record Before : Type 0 where
   pub two : Bool
   pub inside : Bool
 
+-- before the first record
 abbrev pub nothing : Before
 nothing = record { one = false; two = false; inside = false }
 

@@ -103,10 +103,12 @@ writes constants σ (Work.ComplexBi op xd yd x1 y1 x2 y2) =
     ∷ yd ≔ complexWords op (at σ x1) (at σ y1) (at σ x2) (at σ y2) .1
     ∷ []
 
+-- "Of two destinations the first is written first"
 unfoldable pub put : List Write → Store → Store
 put [] σ = σ
 put (i ≔ v ∷ ws) σ = put ws (set σ i v)
 
+-- one working record, and some one after the other
 unfoldable pub exec : List ℕ → Work → Store → Store
 exec constants w σ = put (writes constants σ w) σ
 
@@ -122,6 +124,7 @@ works (Record.Label l ∷ rs) = []
 works (Record.Branch l ∷ rs) = []
 works (Record.Call l ∷ rs) = []
 
+-- is a record Label l?
 unfoldable pub isLabel : ℕ → Record → Bool
 isLabel l (Record.Work w) = false
 isLabel l (Record.Label m) = eqb m l
@@ -142,6 +145,7 @@ pub record End : Type 0 where
   pub store : Store
   pub played : ℕ
 
+-- n records more
 unfoldable pub ticks : ℕ → End → End
 ticks n e = record { store = e .store; played = n + e .played }
 

@@ -1,10 +1,9 @@
--- Which words of the store a record reads (document 01, Player). proofs/Reading.antt shows that it depends on no other word, and writes none
--- but those of its `writes`.
+-- Which words of the store a record reads (document 01, Player): it depends on no other word, and changes none but those of its `writes`.
 use Prim.Native.Nat.{ℕ, suc}
 use mathlib.Core.Path.{_≡_}
 use mathlib.Core.List.{List, [], _∷_}
 use Rattle.mir.specs.declared.records.Work.{Work}
-use Rattle.machine.specs.Machine.{Store, at, place, Write, _≔_}
+use Rattle.machine.specs.Machine.{Store, at, place, Write, _≔_, writes, exec}
 
 -- "plain Load and Save use the real one"; "ComplexBi reads its four operands"; a constant is no word of the store
 abbrev pub reads : Work → List ℕ
@@ -29,3 +28,8 @@ pub data Agree (σ τ : Store) : List ℕ → Type 0 where
 pub data Off (i : ℕ) : List Write → Type 0 where
   clear : Off i []
   other : {j v : ℕ} {ws : List Write} → (i ≡ j → ⊥) → Off i ws → Off i (j ≔ v ∷ ws)
+
+-- stores that agree on what a record reads get the same writes, and a word that it does not write stays (theorem `confined`, of `reads`)
+pub record Confined (read : Work → List ℕ) : Type 0 where
+  pub depends : (constants : List ℕ) (w : Work) (σ τ : Store) → Agree σ τ (read w) → writes constants σ w ≡ writes constants τ w
+  pub stays : (constants : List ℕ) (w : Work) (σ : Store) (i : ℕ) → Off i (writes constants σ w) → at (exec constants w σ) i ≡ at σ i

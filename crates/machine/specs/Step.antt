@@ -1,13 +1,15 @@
 -- The machine by steps, a second rendering of document 01's Player beside Machine.antt. A listing that keeps the jump rules plays the same by
--- both (proofs/Stepping.antt).
-use Prim.Native.Nat.{ℕ, zero, suc, _+_}
+-- both.
+use Prim.Native.Nat.{ℕ, zero, suc, _+_, _≤_}
+use mathlib.Core.Path.{_≡_}
 use mathlib.Core.Bool.{Bool, cond}
 use mathlib.Core.List.{List, [], _∷_}
 use mathlib.Core.Option.{Option, none, some}
-use lib.ListN.{drop, getElem?}
+use lib.ListN.{length, drop, getElem?}
 use lib.Dec.{eqb}
 use Rattle.mir.specs.declared.records.Record.{Record}
-use Rattle.machine.specs.Machine.{Store, Write, writes, put, isLabel, End, ticks}
+use Rattle.machine.specs.Machine.{Store, Write, writes, put, isLabel, block, going, End, ticks, play}
+use Rattle.machine.specs.Jumps.{breach}
 
 -- Where a play stands: the index of the record that is reached next, in a call the index at which it goes on afterwards, and the store.
 pub record State : Type 0 where
@@ -72,3 +74,9 @@ unfoldable pub steps : List ℕ → List Record → ℕ → State → End
 unfolding step
 steps constants rs zero s = record { store = s .store; played = 0 }
 steps constants rs (suc n) s = reached constants rs (λ t. steps constants rs n t) s (getElem? rs (s .at))
+
+-- a listing that keeps the jump rules plays by so many steps, or more, as by Machine.antt, from any record on (theorem `bySteps`, of `most`)
+abbrev pub PlaysBySteps : (List Record → ℕ) → Type 0
+PlaysBySteps count =
+    (constants : List ℕ) (rs : List Record) (start n : ℕ) (σ : Store) → breach rs ≡ length rs → count rs ≤ n
+    → steps constants rs n (record { at = start; back = none; store = σ }) ≡ play constants (block rs) going (drop start rs) σ

@@ -1,0 +1,30 @@
+-- Each theorem, by the proof that its crate has of it.
+use Rattle.float.proofs.Right.{root-nearest, mul-add-exact, if-else-bit}
+use Rattle.float.proofs.OneRoot.{one-root}
+use Rattle.machine.proofs.Bound.{answer-bound}
+use Rattle.machine.proofs.Stepping.{by-steps}
+use Rattle.machine.proofs.Reading.{confined}
+use Rattle.leftovers.proofs.Words.{parted}
+use Rattle.leftovers.proofs.Examples.{needed, met}
+use Rattle.entries.proofs.Demand.{entries-demand-3}
+use Rattle.theorems.proofs.theorems.Statement.{statement}
+use Rattle.theorems.proofs.theorems.Tie as tie
+
+returns : tie.Need-returns
+returns c =
+    record {
+      demand3 = entries-demand-3;
+      needed = needed;
+      met = met;
+      parted = parted;
+      bound = answer-bound;
+      bySteps = by-steps;
+      confined = confined;
+      root = root-nearest;
+      oneRoot = one-root;
+      mulAdd = mul-add-exact;
+      ifElse = if-else-bit;
+    }
+
+pub theorems-spec : {M : Type 1} → statement M
+theorems-spec = tie.close (tie.spec returns)

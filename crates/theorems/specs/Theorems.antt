@@ -1,0 +1,38 @@
+-- What is proved of the definitions, beside the promises of the functions. Each statement is a type in the specs/ of the crate that it speaks
+-- of.
+use lib.Ieee.{binary64}
+use Rattle.float.specs.Root.{squareRoot}
+use Rattle.float.specs.Fused.{fusedMultiplyAdd}
+use Rattle.float.specs.Word.{ifElse}
+use Rattle.float.specs.Laws.{RootLaw, OneRoot, MulAddLaw, IfElseLaw}
+use Rattle.machine.specs.Count.{most, Bounds}
+use Rattle.machine.specs.Step.{PlaysBySteps}
+use Rattle.machine.specs.Reads.{reads, Confined}
+use Rattle.lowering.specs.declared.realness.Realness.{Realness}
+use Rattle.leftovers.specs.Leftovers.{Leftover}
+use Rattle.leftovers.specs.Kept.{Kept, Parted}
+use Rattle.leftovers.specs.Examples.{mixing, clean, Needed, Met}
+use Rattle.entries.specs.Entries.{EntriesDemand3}
+
+-- all of it, one theorem a field
+pub record Theorems : Type 0 where
+  -- demand 3, of every call of `lower` that answers 0
+  pub demand3 : EntriesDemand3
+  -- its condition about Half is needed, and can be met
+  pub needed : Needed mixing 1
+  pub met : Met clean 2
+  -- every word of the store is a leftover or must be the same in both endings
+  pub parted : (ρ : Realness) → Parted (Kept ρ) (Leftover ρ)
+  -- "Records played are at most all records plus calls times block records."
+  pub bound : Bounds most
+  -- the machine by steps plays as the machine does
+  pub bySteps : PlaysBySteps most
+  -- a record depends on the words that it reads alone, and changes those that it writes alone
+  pub confined : Confined reads
+  -- Root goes to the nearest value, and there is one
+  pub root : RootLaw (squareRoot binary64)
+  pub oneRoot : OneRoot
+  -- MulAdd rounds the exact value of a * b + c once
+  pub mulAdd : MulAddLaw (fusedMultiplyAdd binary64)
+  -- IfElse chooses bit by bit
+  pub ifElse : IfElseLaw ifElse
