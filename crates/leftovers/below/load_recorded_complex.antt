@@ -1,0 +1,31 @@
+-- Stack 0 is real. Real of general 0 into general 0; Load of general 0 from Stack 0; Save of general 0. At point 1 its imaginary half is
+-- changed: the edit records it as complex, though the Load wrote its real half alone.
+use mathlib.Core.Path.{_≡_, refl}
+use mathlib.Core.List.{List, _++_}
+use Prim.Native.Nat.{ℕ}
+use lib.Dec.{lit<, lit≤}
+use Rattle.leftovers.specs.Leftovers.{half}
+use Rattle.leftovers.proofs.Broken.{zeros, header, real, load, saveMem0, lower, stood, ending, Breaks}
+
+unfoldable sheet : List ℕ
+unfolding header
+sheet = header 1 ++ (real 0 0 ++ (load 0 0 0 ++ saveMem0 0))
+
+pub breaks : Breaks
+unfolding sheet zeros lower stood ending
+breaks =
+    record {
+      bytes = sheet;
+      i = 1;
+      w = 5;
+      v = 0x4000_0000_0000_0000;
+      n = 2;
+      k = 579;
+      accepted = record { right = refl; slice = lit≤ tt; number = refl };
+      upper = lit≤ tt;
+      stands = refl;
+      leftover = half 0 (lit< tt) refl;
+      clear = (tt, (tt, tt));
+      mem0 = (lit≤ tt, lit≤ tt);
+      differs = refl;
+    }
