@@ -89,7 +89,7 @@ class Section:
         self.answer = tuple(map(int, answer.split()))
         after = words(between(text, "and leaves words", "all others"))
         self.after = [after.get(at, old) for at, old in enumerate(self.store)]
-        self.plays = plays(between(text, "new byte), it gives", None))
+        self.plays = plays(between(text, "it gives number, index, played:", None))
 
 
 def check_vectors(section, player):

@@ -75,7 +75,7 @@ def near(s, n, m):
 
 
 def near_of_sum(total, m, s1, s2):
-    """The end of Plus and of MulAdd: the signed sum as a word."""
+    """The paper's SUM: the signed sum as a word."""
     if total != 0:
         return near(1 if total < 0 else 0, abs(total), m)
     return with_sign(1 if s1 == 1 and s2 == 1 else 0, 0)

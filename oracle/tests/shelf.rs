@@ -98,7 +98,7 @@ fn plays() {
     let after = with(before.clone(), between(&text, "and leaves words", "all others"));
     let listing = bytes(between(&text, "(hexadecimal):", "From start 0"));
     let whole: Vec<&str> = between(&text, "number, index, played =", "and leaves").split_whitespace().collect();
-    let mut rows = items(between(&text, "new byte), it gives", ""));
+    let mut rows = items(between(&text, "it gives number, index, played:", ""));
     assert!(rows.len() >= 20);
     rows.push((vec!["start", "0"], whole));
     for (left, right) in rows {
