@@ -75,7 +75,7 @@ def near(s, n, m):
 
 
 def near_of_sum(total, m, s1, s2):
-    """The end of Plus and of MulAdd: the signed sum as a word."""
+    """The paper's SUM: the signed sum as a word."""
     if total != 0:
         return near(1 if total < 0 else 0, abs(total), m)
     return with_sign(1 if s1 == 1 and s2 == 1 else 0, 0)
@@ -282,13 +282,13 @@ def complex_divide(x1, y1, x2, y2):
 STORE_WORDS = 1602
 HIGHEST_REGISTER = 65
 HIGHEST_CLASS = 2
-HIGHEST_PLACE = 255
+HIGHEST_POSITION = 255
 STACK, PARAM = 0, 2
 
 
 def real_index(place):
-    place_class, number = place
-    return 66 + 512 * place_class + 2 * number
+    place_class, position = place
+    return 66 + 512 * place_class + 2 * position
 
 
 def imaginary_index(place):
@@ -373,8 +373,8 @@ def examine_sizes(listing, constants, store):
 
 
 def place_is_allowed(name, place):
-    place_class, number = place
-    if place_class > HIGHEST_CLASS or number > HIGHEST_PLACE:
+    place_class, position = place
+    if place_class > HIGHEST_CLASS or position > HIGHEST_POSITION:
         return False
     if name in ("Save", "SaveComplex"):
         return place_class != PARAM

@@ -1,0 +1,142 @@
+//! Section 8 of docs/SHELF.md, read from the paper, on the independent player; the example of docs/SHEET.md on the reference.
+
+use oracle::format::STORE;
+use oracle::lists::lowered;
+use oracle::machine::Reference;
+use oracle::make::raw;
+use oracle::names::{ARITH, BI, UNI};
+use oracle::player::play;
+use oracle::random::ToLower;
+
+fn paper(name: &str) -> String {
+    let path = format!("{}/../docs/{name}.md", env!("CARGO_MANIFEST_DIR"));
+    std::fs::read_to_string(path).unwrap()
+}
+
+/// What stands behind `start`, up to `end`.
+fn between<'a>(text: &'a str, start: &str, end: &str) -> &'a str {
+    let from = text.find(start).unwrap() + start.len();
+    let to = if end.is_empty() { text.len() } else { from + text[from..].find(end).unwrap() };
+    &text[from..to]
+}
+
+/// A word as section 8 writes it: without the zeros at its end.
+fn word(digits: &str) -> u64 {
+    if digits == "ones" {
+        return u64::MAX;
+    }
+    u64::from_str_radix(&format!("{digits:0<16}"), 16).unwrap()
+}
+
+/// What is parted by semicolons: the words left and right of each `=`.
+fn items(text: &str) -> Vec<(Vec<&str>, Vec<&str>)> {
+    let halves = text.split(';').filter_map(|item| item.split_once('='));
+    halves.map(|(left, right)| (left.split_whitespace().collect(), right.split_whitespace().collect())).collect()
+}
+
+fn number(names: &[&str], name: &str) -> Option<u8> {
+    names.iter().position(|n| *n == name).map(|n| n as u8)
+}
+
+/// The record of an operation: from registers 10 and on into registers 0 and 1.
+fn record(name: &str) -> Vec<u8> {
+    if let Some(op) = name.strip_prefix("ComplexBi ") {
+        return raw(13, &[number(&ARITH, op).unwrap(), 0, 1, 10, 11, 12, 13]);
+    }
+    if name == "MulAdd" {
+        return raw(7, &[0, 0, 10, 11, 12]);
+    }
+    match number(&UNI, name) {
+        Some(op) => raw(1, &[op, 0, 10]),
+        None => raw(2, &[number(&BI, name).unwrap(), 0, 10, 11]),
+    }
+}
+
+#[test]
+fn operations() {
+    let text = paper("SHELF");
+    let rows = items(between(&text, "Operands = result:", "Then plays"));
+    assert!(rows.len() >= 40);
+    let mut name = String::new();
+    for (left, right) in rows {
+        let names = left.iter().take_while(|one| one.starts_with(char::is_uppercase)).count();
+        if names > 0 {
+            name = left[..names].join(" ");
+        }
+        let mut store = vec![0; STORE];
+        for (at, operand) in left[names..].iter().enumerate() {
+            store[10 + at] = word(operand);
+        }
+        let answer = play(&record(&name), &[], &mut store, 0);
+        assert_eq!((answer.number, answer.played), (0, 1));
+        let results: Vec<u64> = right.iter().map(|one| word(one)).collect();
+        assert_eq!(store[..results.len()], results, "{name} of {:?}", &left[names..]);
+    }
+}
+
+fn bytes(text: &str) -> Vec<u8> {
+    text.split_whitespace().map(|byte| u8::from_str_radix(byte, 16).unwrap()).collect()
+}
+
+/// The store with the words that are named.
+fn with(mut store: Vec<u64>, text: &str) -> Vec<u64> {
+    for (left, right) in items(text) {
+        store[left[0].parse::<usize>().unwrap()] = word(right[0]);
+    }
+    store
+}
+
+fn numbers(words: &[&str]) -> Vec<u64> {
+    words.iter().map(|one| one.parse().unwrap()).collect()
+}
+
+#[test]
+fn plays() {
+    let text = paper("SHELF");
+    let constants = [word(between(&text, "one constant, ", ","))];
+    let before = with(vec![0; STORE], between(&text, "zeros but for words", "of the listing"));
+    let after = with(before.clone(), between(&text, "and leaves words", "all others"));
+    let listing = bytes(between(&text, "(hexadecimal):", "From start 0"));
+    let whole: Vec<&str> = between(&text, "number, index, played =", "and leaves").split_whitespace().collect();
+    let mut rows = items(between(&text, "it gives number, index, played:", ""));
+    assert!(rows.len() >= 20);
+    rows.push((vec!["start", "0"], whole));
+    for (left, right) in rows {
+        let start = if left[0] == "start" { left[1].parse().unwrap() } else { 0 };
+        let mut changed = listing.clone();
+        for (at, byte) in left.iter().filter_map(|one| one.split_once(':')) {
+            changed[at.parse::<usize>().unwrap()] = u8::from_str_radix(byte, 16).unwrap();
+        }
+        let mut store = before.clone();
+        let answer = play(&changed, &constants, &mut store, start);
+        assert_eq!(vec![answer.number as u64, answer.index, answer.played], numbers(&right), "{left:?}");
+        if left == ["start", "0"] {
+            assert_eq!(store, after);
+        }
+        if answer.number != 0 {
+            assert_eq!(store, before);
+        }
+    }
+}
+
+/// The bytes at the start of each line of an example; other words end them.
+fn example(text: &str) -> Vec<u8> {
+    let is_byte = |one: &&str| one.len() == 2 && u8::from_str_radix(one, 16).is_ok();
+    text.lines()
+        .flat_map(|line| bytes(&line.split_whitespace().take_while(is_byte).collect::<Vec<_>>().join(" ")))
+        .collect()
+}
+
+#[test]
+fn sheet() {
+    let text = paper("SHEET");
+    let mut sheet = bytes(between(&text, "4. AN EXAMPLE\n", "and 64 times 00"));
+    sheet.extend([0; 64]);
+    sheet.extend(example(between(&text, "no place real), then\n", "Mem 4 becomes")));
+    let listing = example(between(&text, "the listing has 41 bytes:\n", "\n\u{c}"));
+    let case = ToLower { sheet, room: 41, table: 256 };
+    let (answer, written, constants) = lowered(&Reference, &case);
+    assert_eq!((answer.number, answer.index, answer.written, answer.count), (0, 4, 41, 1));
+    assert_eq!(written, listing);
+    assert_eq!(constants[0], 0x4000_0000_0000_0000);
+}
