@@ -196,7 +196,9 @@ unfolding stableConst
 blockConsts true k = threeConsts FLOOR_FINITE EXP_MASK_FINITE INFINITY k
 blockConsts false k = k
 
--- "The first Root, or RealRoot of a complex register, appends the root block after its call and moves; later ones only call it."
+-- "The first Root, or RealRoot of a complex register, appends the root block after its call and moves; later ones only call it." The block's
+-- `ret` begins with `ensure_complex` of Ret, which here lists nothing and records nothing: the call recorded Ret as complex, and the move of
+-- it to the destination, be that Ret itself, left it so.
 unfoldable pub defineRoot : Bool → Bool → State → Out
 unfolding blockOf blockConsts unlisted
 defineRoot true m s = unlisted s

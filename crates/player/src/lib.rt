@@ -1,4 +1,5 @@
-// The player: a listing's records are examined once, then played on the store. A record is decoded where it is played.
+// The player: a first pass tests every record. Where it sees a jump, the passes for the jump rules, the block and the start record read the
+// records again. Then they are played on the store, each from its bytes.
 ghost use mathlib.Core.Path.{_≡_};
 ghost use Rattle.machine.specs.Answer.{answer};
 ghost use Rattle.player.specs.Values.{whole};

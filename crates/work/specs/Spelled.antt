@@ -1,5 +1,5 @@
--- The working record that bytes spell (document 01, Sheet). A listing is examined once, by the record reader; after that its records are
--- played from their bytes, and here registers, constants, and the class of a place that is saved to or is a condition, are not tested again.
+-- The working record that bytes spell (document 01, Sheet). Every record of a listing is tested before the first is
+-- played; it is then played from its bytes, and here registers, constants, and the class of a place that is saved to or is a condition, are not tested again.
 use Prim.Native.Nat.{ℕ}
 use mathlib.Core.Bool.{Bool, true, false, cond}
 use mathlib.Core.List.{List}
