@@ -29,6 +29,7 @@ pub record Out : Type 0 where
   pub records : List Record
   pub after : State
 
+-- the state with another record of realness
 abbrev pub withReal : State → Realness → State
 withReal s ρ = record { real = ρ; rootDefined = s .rootDefined; consts = s .consts }
 

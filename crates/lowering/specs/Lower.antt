@@ -47,6 +47,7 @@ barredUni stable UniOp.Abs2 a ρ = false
 barredUni stable UniOp.TimesI a ρ = false
 barredUni stable UniOp.TimesNegI a ρ = false
 
+-- of the binary operations Divide alone
 abbrev pub barredBin : Bool → BinOp → ℕ → ℕ → Realness → Bool
 barredBin stable BinOp.Plus a b ρ = false
 barredBin stable BinOp.Minus a b ρ = false
@@ -64,6 +65,7 @@ barredBin stable BinOp.Or a b ρ = false
 barredBin stable BinOp.Xor a b ρ = false
 barredBin stable BinOp.Complex a b ρ = false
 
+-- and of LoadMath's
 abbrev pub isDivide : ArithOp → Bool
 isDivide ArithOp.Plus = false
 isDivide ArithOp.Minus = false
