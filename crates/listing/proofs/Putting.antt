@@ -1,11 +1,14 @@
 -- Text put behind text.
 use Prim.Native.Nat.{ℕ, suc, _+_, _*_, _≤_, _<_}
 use mathlib.Core.Path.{_≡_, refl, sym, ap, _∙_, subst}
-use mathlib.Core.List.{List, [], _∷_, _++_, append-assoc, append-nil}
+use mathlib.Core.List.{List, [], _∷_, _++_}
 use native.Mathlib.Omega.{arith}
 use native.Mathlib.Numerals.{add-one}
 use lib.ListN.{length, take, drop, getD, length-append, drop-of-length-le}
-use lib.Seq.{length-take-le, take-length, drop-cons, paste, take-paste, length-paste}
+use lib.Seq.{sets, length-sets, drop-cons}
+use Rattle.words.specs.Bytes.{stored}
+use Rattle.words.proofs.Lengths.{sets-append}
+use Rattle.words.proofs.Stored.{stored-fits}
 use Rattle.mir.specs.declared.records.Record.{Record}
 use Rattle.mir.specs.Read.{Read}
 use Rattle.mir.proofs.Decoding.{items, Here, Done}
@@ -16,37 +19,27 @@ use Rattle.text.proofs.Short.{constant-short}
 use Rattle.listing.specs.Puts.{Puts}
 
 -- all of a slice is put
-pub pasted : (o : List ℕ) (at : ℕ) (s : List ℕ) {o' : List ℕ} {n : ℕ} → o' ≡ paste o at s n → n ≡ length s → at + length s ≤ length o
-    → Puts o at s o' (at + n)
-pasted o at s {o'} {n} e k h =
-    let long : length o' ≡ length o = ap length e ∙ length-paste o at s n (omega (arith, k, h)) (omega (arith, k)) in
-    record {
-      same =
-          ap (take (at + n)) e
-          ∙ take-paste o at s n (omega (arith, h)) (omega (arith, k))
-          ∙ ap (λ j. take at o ++ take j s) k
-          ∙ ap (λ l. take at o ++ l) (take-length s);
-      fits = omega (arith, long, k, h);
-      long = long;
-    }
+pub whole : (o : List ℕ) (at : ℕ) (s : List ℕ) {o' : List ℕ} → o' ≡ stored o at s → at + length s ≤ length o → Puts o at s o' (at + length s)
+whole o at s e h =
+    let same = e ∙ stored-fits o at s h in
+    record { same = same; ends = refl; fits = rw (ap length same ∙ length-sets o at s) h }
 
-module _ {o o' text : List ℕ} {at r : ℕ} where
-  -- where it ends
-  pub counted : Puts o at text o' r → at ≤ length o → r ≡ at + length text
-  counted p h =
-      sym (length-take-le r o' (p .fits))
-      ∙ ap length (p .same)
-      ∙ length-append (take at o) text
-      ∙ ap (λ n. n + length text) (length-take-le at o h)
+-- the length stays
+pub long : {o o' text : List ℕ} {at r : ℕ} → Puts o at text o' r → length o' ≡ length o
+long {o} {o'} {text} {at} p = ap length (p .same) ∙ length-sets o at text
+
+-- text behind text
+behind : (o a b : List ℕ) {o' : List ℕ} (at : ℕ) {m : ℕ} → o' ≡ sets o at a → m ≡ at + length a → sets o' m b ≡ sets o at (a ++ b)
+behind o a b {o'} at e h = (λ i. sets (e i) (h i) b) ∙ sym (sets-append o a b at)
 
 -- then more
 infixl 30 _▹_
 pub _▹_ : {o o' o'' a b : List ℕ} {at m n : ℕ} → Puts o at a o' m → Puts o' m b o'' n → Puts o at (a ++ b) o'' n
-_▹_ {o} {o'} {o''} {a} {b} {at} {m} {n} p q =
+_▹_ {o} {o'} {o''} {a} {b} {at} p q =
     record {
-      same = q .same ∙ ap (λ l. l ++ b) (p .same) ∙ append-assoc (take at o) a b;
+      same = q .same ∙ behind o a b at (p .same) (p .ends);
+      ends = omega (arith, p .ends, q .ends, length-append a b);
       fits = q .fits;
-      long = q .long ∙ p .long;
     }
 
 pub renamed : {o o' text text' : List ℕ} {at r : ℕ} → text ≡ text' → Puts o at text o' r → Puts o at text' o' r
@@ -62,34 +55,30 @@ module _ {text : List ℕ} {l : Line} (p : Prints text l) where
 
 -- what a loop keeps: with the rest put behind what stands, the whole text stands
 pub record Owes (o : List ℕ) (start : ℕ) (text o' : List ℕ) (at : ℕ) (rest : List ℕ) : Type 0 where
-  pub same : take at o' ++ rest ≡ take start o ++ text
+  pub same : sets o' at rest ≡ sets o start text
+  pub ends : at + length rest ≡ start + length text
   pub fits : at ≤ length o'
   pub long : length o' ≡ length o
 
 module _ {o text : List ℕ} {start : ℕ} where
   pub all : start ≤ length o → Owes o start text o start text
-  all h = record { same = refl; fits = h; long = refl }
+  all h = record { same = refl; ends = refl; fits = h; long = refl }
 
   pub less : {o' o'' a rest whole : List ℕ} {at r : ℕ} → Owes o start text o' at whole → whole ≡ a ++ rest → Puts o' at a o'' r
       → Owes o start text o'' r rest
   less {o'} {o''} {a} {rest} {whole} {at} {r} w e p =
+      let n = ap length e ∙ length-append a rest in
       record {
-        same =
-            ap (λ l. l ++ rest) (p .same)
-            ∙ append-assoc (take at o') a rest
-            ∙ ap (λ l. take at o' ++ l) (sym e)
-            ∙ w .same;
+        same = behind o' a rest at (p .same) (p .ends) ∙ ap (sets o' at) (sym e) ∙ w .same;
+        ends = omega (arith, n, p .ends, w .ends);
         fits = p .fits;
-        long = p .long ∙ w .long;
+        long = long p ∙ w .long;
       }
 
   pub none : {o' rest : List ℕ} {at : ℕ} → Owes o start text o' at rest → rest ≡ [] → Puts o start text o' at
   none {o'} {rest} {at} w e =
-      record {
-        same = sym (append-nil (take at o')) ∙ ap (λ l. take at o' ++ l) (sym e) ∙ w .same;
-        fits = w .fits;
-        long = w .long;
-      }
+      let n = ap length e in
+      record { same = ap (sets o' at) (sym e) ∙ w .same; ends = omega (arith, n, w .ends); fits = w .fits }
 
 -- the lines of a table
 module _ (cs : List ℕ) (i : ℕ) where

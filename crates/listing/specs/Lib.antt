@@ -1,3 +1,4 @@
 pub mod Puts
 pub mod Printed
 pub mod Paper
+pub mod Input

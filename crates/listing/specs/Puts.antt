@@ -1,11 +1,12 @@
--- Text put into lent bytes, behind what stands there already.
-use Prim.Native.Nat.{ℕ, _≤_}
+-- Text put into lent bytes, from a position on.
+use Prim.Native.Nat.{ℕ, _+_, _≤_}
 use mathlib.Core.Path.{_≡_}
-use mathlib.Core.List.{List, _++_}
-use lib.ListN.{length, take}
+use mathlib.Core.List.{List}
+use lib.ListN.{length}
+use lib.Seq.{sets}
 
--- the text stands behind the first `at` bytes, whole, and ends at r
+-- the text stands from `at` on, whole, and ends at r; every other byte is as it was
 pub record Puts (o : List ℕ) (at : ℕ) (text o' : List ℕ) (r : ℕ) : Type 0 where
-  pub same : take r o' ≡ take at o ++ text
+  pub same : o' ≡ sets o at text
+  pub ends : r ≡ at + length text
   pub fits : r ≤ length o'
-  pub long : length o' ≡ length o

@@ -5,11 +5,13 @@ ghost use lib.ListN.{length, take};
 ghost use Rattle.listing.specs.Puts.{Puts};
 ghost use Rattle.listing.specs.Printed.{textOf, printed};
 
+mod input;
 mod page;
 
 use complexify::entry::Answer;
 use complexify::entry::lower;
-use libc::STDIN_FILENO;
+use input::Input;
+use input::read_input;
 use libc::STDOUT_FILENO;
 use page::put_line;
 use page::put_page;
@@ -32,7 +34,7 @@ fn put_text(out: &mut [u8], a: Answer, constants: &[u64], listing: &[u8]) -> usi
 // The text for a sheet, and its length.
 fn put_sheet(sheet: &[u8], out: &mut [u8]) -> usize
     requires { ⌜ 348320 ≤ length (now out) ⌝ }
-    ensures { λ r. ⌜ (take r (now (out .exit)) ≡ printed (now (sheet .entry))) × (r ≤ length (now (out .exit))) ⌝ }
+    ensures { λ r. ⌜ Puts (now (out .entry)) 0 (printed (now (sheet .entry))) (now (out .exit)) r ⌝ }
 {
     let mut listing = [0u8; 65536];
     let mut constants = [0u64; 256];
@@ -41,11 +43,17 @@ fn put_sheet(sheet: &[u8], out: &mut [u8]) -> usize
 }
 
 // One byte more than the longest sheet is read, so that a longer one is refused and not cut. The text has at most five bytes for each of a
-// listing's 65,536, and 80 for each of the other 258 lines.
+// listing's 65,536, and 80 for each of the other 258 lines. A read or a write that fails is told on standard error; the program's status is
+// 0 in any case, since the language has no other.
 fn main() {
     let mut sheet = [0u8; 16385];
-    let n = io::read_full(STDIN_FILENO, &mut sheet);
+    let Input::Bytes(n) = read_input(&mut sheet) else {
+        os::fail(b"listing: standard input");
+        return;
+    };
     let mut out = [0u8; 348320];
-    let m = put_sheet(&sheet[..n], &mut out);
-    io::write_all(STDOUT_FILENO, &out[0..m]);
+    let m = put_sheet(&sheet[0..n], &mut out);
+    if !io::write_all(STDOUT_FILENO, &out[0..m]) {
+        os::fail(b"listing: standard output");
+    }
 }

@@ -12,18 +12,15 @@ use text::lines::constant_line;
 use text::lines::constants_heading;
 use text::lines::listing_heading;
 use text::lines::record_line;
+use words::put_bytes;
 
 // Bytes from a position on; the position after them.
 fn put(out: &mut [u8], at: usize, s: &[u8]) -> usize
     requires { ⌜ at + length (now s) ≤ length (now out) ⌝ }
     ensures { λ r. ⌜ Puts (now (out .entry)) at (now (s .entry)) (now (out .exit)) r ⌝ }
 {
-    let mut i: usize = 0;
-    while i < s.len() {
-        out[at + i] = s[i];
-        i += 1;
-    }
-    at + i
+    put_bytes(out, at, s);
+    at + s.len()
 }
 
 pub(crate) fn put_line(out: &mut [u8], at: usize, line: Line) -> usize

@@ -5,6 +5,7 @@ use Prim.Native.Nat.{ℕ}
 use mathlib.Core.Path.{_∙_}
 use lib.ListN.{replicate, length-replicate}
 use Rattle.complexify.proofs.Within.{within}
+use Rattle.listing.proofs.Putting.{renamed}
 use Rattle.listing.proofs.Answering.{all-printed}
 use Rattle.listing.proofs.put_sheet.Statement.{statement}
 use Rattle.listing.proofs.put_sheet.Tie as tie
@@ -29,4 +30,4 @@ put-sheet-spec =
     (λ c.
     let e = c .before .before .before .before .before .before .before .before .lower .ensures in
     let p = c .before .before .put-text .ensures in
-    (p .same ∙ all-printed (c .before .before .before .before .before .before .before .before .before .before .before .before .before .args .sheet .now) (e .0) (e .1) (e .2), p .fits)))
+    renamed (all-printed (c .before .before .before .before .before .before .before .before .before .before .before .before .before .args .sheet .now) (e .0) (e .1) (e .2)) p))

@@ -5,7 +5,7 @@ use native.Mathlib.Omega.{arith}
 use Prim.Native.Nat.{_+_, _-_, _*_, _≤_}
 use lib.ListN.{length, drop}
 use Rattle.text.specs.Text.{constantLines}
-use Rattle.listing.proofs.Putting.{counted, whole-fits, printing, Owes, all, less, none, constants-on, constants-end}
+use Rattle.listing.proofs.Putting.{long, whole-fits, printing, Owes, all, less, none, constants-on, constants-end}
 use Rattle.listing.proofs.page.put_constants.Statement.{statement}
 use Rattle.listing.proofs.page.put_constants.Tie as tie
 
@@ -41,8 +41,8 @@ put-constants-spec =
     let w = l .inv .1 in
     let n = p .whole .count in
     let f = p .whole .fits in
-    let g = q .long in
-    let k = counted q (w .fits) in
+    let g = long q in
+    let k = q .ends in
     (omega (arith, n, f, g, k), less w (constants-on (a .constants .now) (l .i) (omega arith)) q))
     (λ c. search needs)
     (λ c.

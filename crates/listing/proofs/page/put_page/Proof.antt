@@ -3,7 +3,7 @@ use borrow.Author.Needs.{needs}
 use native.Mathlib.Omega.{arith}
 use lib.ListN.{length}
 use Rattle.records.specs.Record.{records}
-use Rattle.listing.proofs.Putting.{counted, whole-fits, printing, constants-short, paged}
+use Rattle.listing.proofs.Putting.{long, whole-fits, printing, constants-short, paged}
 use Rattle.listing.proofs.page.put_page.Statement.{statement}
 use Rattle.listing.proofs.page.put_page.Tie as tie
 
@@ -21,8 +21,8 @@ put-page-spec =
     let q = printing p (c .before .before .before .put-line .ensures) in
     let n = p .whole .count in
     let f = p .whole .fits in
-    let g = q .long in
-    let k = counted q (omega arith) in
+    let g = long q in
+    let k = q .ends in
     omega (arith, n, f, g, k))
     (λ c κs. search needs)
     (λ c κs. search needs)
@@ -32,11 +32,11 @@ put-page-spec =
     let q = printing p (c .before .before .before .before .before .before .before .before .before .put-line .ensures) in
     let n = p .whole .count in
     let f = p .whole .fits in
-    let g = q .long in
-    let k = counted q (omega arith) in
+    let g = long q in
+    let k = q .ends in
     let q2 = c .before .before .before .before .before .put-constants .ensures in
-    let g2 = q2 .long in
-    let k2 = counted q2 (q .fits) in
+    let g2 = long q2 in
+    let k2 = q2 .ends in
     let s = constants-short 0 (a .constants .now) in
     let f2 = c .listing-heading .ensures .whole .fits in
     (omega (arith, n, f, g, k, g2, k2, s, f2), whole-fits (c .listing-heading .ensures)))
@@ -46,18 +46,18 @@ put-page-spec =
     let q = printing p (c .before .before .before .before .before .before .before .before .before .before .before .before .before .put-line .ensures) in
     let n = p .whole .count in
     let f = p .whole .fits in
-    let g = q .long in
-    let k = counted q (omega arith) in
+    let g = long q in
+    let k = q .ends in
     let q2 = c .before .before .before .before .before .before .before .before .before .put-constants .ensures in
-    let g2 = q2 .long in
-    let k2 = counted q2 (q .fits) in
+    let g2 = long q2 in
+    let k2 = q2 .ends in
     let s = constants-short 0 (a .constants .now) in
     let p3 = c .before .before .before .before .listing-heading .ensures in
     let q3 = printing p3 (c .before .before .before .put-line2 .ensures) in
     let n3 = p3 .whole .count in
     let f3 = p3 .whole .fits in
-    let g3 = q3 .long in
-    let k3 = counted q3 (q2 .fits) in
+    let g3 = long q3 in
+    let k3 = q3 .ends in
     omega (arith, n, f, g, k, g2, k2, s, n3, f3, g3, k3))
     (λ c. search needs)
     (λ c.

@@ -9,7 +9,7 @@ use Rattle.mir.proofs.Decoding.{items, ended}
 use Rattle.records.specs.Record.{recordFrom, asNext}
 use Rattle.records.proofs.Reading.{here-record, torn-record}
 use Rattle.text.specs.Text.{recordLines}
-use Rattle.listing.proofs.Putting.{counted, whole-fits, printing, Owes, all, less, none, records-on, records-end}
+use Rattle.listing.proofs.Putting.{long, whole-fits, printing, Owes, all, less, none, records-on, records-end}
 use Rattle.listing.proofs.Sizes.{sized}
 use Rattle.listing.proofs.page.put_records.Statement.{statement}
 use Rattle.listing.proofs.page.put_records.Tie as tie
@@ -64,8 +64,8 @@ put-records-spec =
     let w = l .inv .1 in
     let n = p .0 .whole .count in
     let f = p .1 in
-    let g = q .long in
-    let k = counted q (w .fits) in
+    let g = long q in
+    let k = q .ends in
     (omega (arith, i, z, n, f, g, k), less w (records-on h) q))
     (λ c. search needs)
     (λ c.
