@@ -7,6 +7,8 @@ mod RoundWord
 mod Sticky
 mod Fields
 mod SquareRoot
+pub mod Heron
+pub mod ByMends
 mod ToIntegral
 mod RoundWide
 mod Sums

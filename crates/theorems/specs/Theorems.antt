@@ -3,7 +3,8 @@
 use lib.Ieee.{binary64}
 use Rattle.float.specs.Root.{squareRoot}
 use Rattle.float.specs.Fused.{fusedMultiplyAdd}
-use Rattle.float.specs.Word.{ifElse}
+use Rattle.float.specs.Word.{root, ifElse}
+use Rattle.float.specs.Mends.{mended, EightMends, RootByMends}
 use Rattle.float.specs.Laws.{RootLaw, OneRoot, MulAddLaw, IfElseLaw}
 use Rattle.machine.specs.Count.{most, Bounds}
 use Rattle.machine.specs.Step.{PlaysBySteps}
@@ -30,8 +31,11 @@ pub record Theorems : Type 0 where
   -- a record depends on the words that it reads alone, and changes those that it writes alone
   pub confined : Confined reads
   -- Root goes to the nearest value, and there is one
-  pub root : RootLaw (squareRoot binary64)
+  pub nearestRoot : RootLaw (squareRoot binary64)
   pub oneRoot : OneRoot
+  -- "in a proved eight steps at most": the mended estimate is the whole root; rounded, it is Root's word
+  pub eightMends : EightMends mended
+  pub rootByMends : RootByMends root
   -- MulAdd rounds the exact value of a * b + c once
   pub mulAdd : MulAddLaw (fusedMultiplyAdd binary64)
   -- IfElse chooses bit by bit

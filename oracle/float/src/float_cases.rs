@@ -292,6 +292,43 @@ pub fn radicand(rng: &mut Rng) -> Operands {
     [a, 0, 0, 0]
 }
 
+/// A number of 26 or 27 digits, as Root's estimates have, squared: such a square, or a unit or two beside it, at any even
+/// exponent. Squares of more than 53 digits are rounded.
+fn near_square(rng: &mut Rng) -> u64 {
+    let q = (1 << 25 | rng.below(1 << 25)) << rng.below(2) | rng.below(2);
+    near(word(false, q * q, 2 * rng.between(-560, 480)), rng)
+}
+
+/// A word at the end of an octave, at an even or an odd exponent: the first or the last significands of any field.
+fn octave_end(rng: &mut Rng) -> u64 {
+    let first = (rng.between(1, 2046) as u64) << 52;
+    near(first, rng)
+}
+
+/// A subnormal of any count of digits: few, a square or next to one, or at the end of an octave.
+fn subnormal(rng: &mut Rng) -> u64 {
+    match rng.below(3) {
+        0 => rng.bits() >> rng.between(12, 63),
+        1 => {
+            let q = rng.bits() >> rng.between(38, 63);
+            (q * q).wrapping_add(rng.below(5)).saturating_sub(2)
+        }
+        _ => (1u64 << rng.below(52)) + rng.below(5) - 1,
+    }
+}
+
+/// A word to take the root of, for comparisons: as `radicand` in half of the cases, which alone are in the list of
+/// `float_replay`; else at the edges of Root's steps.
+pub fn radicand_or_edge(rng: &mut Rng) -> Operands {
+    let a = match rng.below(6) {
+        0 => near_square(rng),
+        1 => octave_end(rng),
+        2 => subnormal(rng),
+        _ => return radicand(rng),
+    };
+    [a, 0, 0, 0]
+}
+
 /// Four words of two complex numbers.
 pub fn pairs(rng: &mut Rng) -> Operands {
     let x1 = any_word(rng);
@@ -442,6 +479,27 @@ mod tests {
             assert_eq!(left % (1 << 55), 0);
             assert!(left >> 55 < 1 << 53);
         }
+    }
+
+    /// Each edge of Root is met: squares and their neighbours, both ends of octaves at even and odd exponents, subnormals.
+    #[test]
+    fn edges_of_root_are_met() {
+        fn count(draw: fn(&mut Rng) -> u64, holds: impl Fn(u64) -> bool) -> usize {
+            let mut rng = Rng(1);
+            (0..10_000).filter(|_| holds(draw(&mut rng))).count()
+        }
+        let square = |a: u64| {
+            let root = f64::from_bits(a).sqrt();
+            root.mul_add(root, -f64::from_bits(a)) == 0.0
+        };
+        assert!(count(near_square, square) > 1000);
+        assert!(count(near_square, |a| !square(a)) > 1000);
+        assert!(count(octave_end, |a| a << 12 == 0 && a >> 52 & 1 == 0) > 100);
+        assert!(count(octave_end, |a| a << 12 == 0 && a >> 52 & 1 == 1) > 100);
+        assert!(count(octave_end, |a| !a << 12 == 0 && a >> 52 & 1 == 0) > 100);
+        assert!(count(octave_end, |a| !a << 12 == 0 && a >> 52 & 1 == 1) > 100);
+        assert_eq!(count(subnormal, |a| a < 1 << 52), 10_000);
+        assert!(count(subnormal, |a| a.is_power_of_two()) > 100);
     }
 
     #[test]

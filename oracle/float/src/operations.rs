@@ -12,14 +12,19 @@ pub struct Operation {
     pub name: &'static str,
     pub operands: usize,
     pub hardware: fn(&Operands) -> u64,
-    /// A random case.
+    /// A random case of the list.
     pub draw: fn(&mut Rng) -> Operands,
     /// How many cases of it the list holds.
     pub listed: usize,
+    /// A random case of a comparison: as in the list, of Root also at the edges of its steps.
+    pub compared: fn(&mut Rng) -> Operands,
 }
 
 /// The rows of the table: a function over one to three words, or one half of a complex operation.
 macro_rules! row {
+    ($name:literal, $f:ident(a), $draw:ident, $listed:literal, $compared:ident) => {
+        Operation { compared: cases::$compared, ..row!($name, $f(a), $draw, $listed) }
+    };
     ($name:literal, $f:ident(a), $draw:ident, $listed:literal) => {
         row!(@ $name, 1, |o| hardware::$f(o[0]), $draw, $listed)
     };
@@ -33,7 +38,14 @@ macro_rules! row {
         row!(@ $name, 4, |o| hardware::$f([o[0], o[1]], [o[2], o[3]])[$half], $draw, $listed)
     };
     (@ $name:literal, $count:literal, $hardware:expr, $draw:ident, $listed:literal) => {
-        Operation { name: $name, operands: $count, hardware: $hardware, draw: cases::$draw, listed: $listed }
+        Operation {
+            name: $name,
+            operands: $count,
+            hardware: $hardware,
+            draw: cases::$draw,
+            listed: $listed,
+            compared: cases::$draw,
+        }
     };
 }
 
@@ -58,7 +70,7 @@ pub const OPERATIONS: [Operation; 29] = [
     row!("Sign", sign(a), one, 250),
     row!("IfElse", if_else(a, b, c), bits, 250),
     row!("Round", round(a), halves, 1200),
-    row!("Root", root(a), radicand, 2500),
+    row!("Root", root(a), radicand, 2500, radicand_or_edge),
     row!("MulAdd", mul_add(a, b, c), fused, 5000),
     row!("PlusComplex real", complex_plus[0], pairs, 450),
     row!("PlusComplex imaginary", complex_plus[1], pairs, 450),

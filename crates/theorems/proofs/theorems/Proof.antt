@@ -1,6 +1,8 @@
 -- Each theorem, by the proof that its crate has of it.
 use Rattle.float.proofs.Right.{root-nearest, mul-add-exact, if-else-bit}
 use Rattle.float.proofs.OneRoot.{one-root}
+use Rattle.float.proofs.Heron.{eight-mends}
+use Rattle.float.proofs.ByMends.{root-by-mends}
 use Rattle.machine.proofs.Bound.{answer-bound}
 use Rattle.machine.proofs.Stepping.{by-steps}
 use Rattle.machine.proofs.Reading.{confined}
@@ -20,8 +22,10 @@ returns c =
       bound = answer-bound;
       bySteps = by-steps;
       confined = confined;
-      root = root-nearest;
+      nearestRoot = root-nearest;
       oneRoot = one-root;
+      eightMends = eight-mends;
+      rootByMends = root-by-mends;
       mulAdd = mul-add-exact;
       ifElse = if-else-bit;
     }

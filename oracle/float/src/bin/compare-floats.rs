@@ -31,7 +31,7 @@ fn compare(operation: &Operation, call: fn(&Operands) -> u64, count: u64, seed: 
     }
     let mut rng = Rng(seed);
     for _ in 0..count {
-        let row = (operation.draw)(&mut rng);
+        let row = (operation.compared)(&mut rng);
         tally.add(&row, call(&row) == (operation.hardware)(&row));
     }
     tally
