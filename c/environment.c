@@ -1,4 +1,4 @@
-/* Calls both functions in floating-point environments of all kinds. Every answer is the one typed here, from document 01 and IEEE 754, every
+/* Calls every function in floating-point environments of all kinds. Every answer is the one typed here, from document 01 and IEEE 754, every
  * byte lent is as it is to be, and the environment afterwards is as it was. Prints what is not so, and then ends with 1. For x86-64.
  *
  * Usage: environment started   in the environment that the process started in
@@ -18,6 +18,7 @@
 #ifdef UNGUARDED
 #define tulipcricket_lower tulipcricket_lower_unguarded
 #define tulipcricket_play tulipcricket_play_unguarded
+#define tulipcricket_nearest tulipcricket_nearest_unguarded
 #endif
 
 enum { USUAL = 0x1f80, X87_USUAL = 0x037f, LENT = 0xa5 };
@@ -172,7 +173,32 @@ static void lower(const Environment *e) {
     holds(e, "the sheet's constants", memcmp(constants, constants_after, sizeof constants) == 0);
 }
 
+/* The nearest of two points to an answer: each would be another one in some other environment. */
+typedef struct {
+    const char *what;
+    uint64_t answer[2], points[4], expected;
+} Nearest;
+
+static const Nearest rows[] = {
+    {"distances 2 ^ -1072 and 2 ^ -1074", {0, 0}, {0x1e70000000000000, 0, 0x1e60000000000000, 0}, 1},
+    {"distances 1 + 2 ^ -60, rounded to 1, and 1", {0, 0}, {0x3ff0000000000000, 0x3e10000000000000, 0x3ff0000000000000, 0}, 0},
+    {"distances 1 + 2 ^ -52 and what rounds to it", {0, 0},
+     {0x3ff0000000000000, 0x3e50000000000000, 0x3ff0000000000000, 0x3e4c000000000000}, 0},
+    {"a distance that is a NaN, and infinity", {0x7ff0000000000000, 0}, {0x7ff0000000000000, 0, 0, 0}, 1},
+};
+
+static void nearest(const Environment *e, const Nearest *row) {
+    uint64_t answer[3], expected[3] = {0, 1, row->expected};
+    memset(answer, LENT, sizeof answer);
+    enter(e);
+    uint32_t number = tulipcricket_nearest(row->answer[0], row->answer[1], (const uint8_t *)row->points, sizeof row->points,
+                                           (uint8_t *)answer, sizeof answer);
+    kept(e, "tulipcricket_nearest", leave());
+    holds(e, row->what, number == 0 && memcmp(answer, expected, sizeof answer) == 0);
+}
+
 static void in(const Environment *e) {
+    for (size_t i = 0; i < sizeof rows / sizeof *rows; i++) nearest(e, rows + i);
     for (size_t i = 0; i < sizeof cases / sizeof *cases; i++) play(e, cases + i);
     lower(e);
 }
@@ -213,6 +239,9 @@ static void empty(void) {
     holds(&e, "play of no records",
           tulipcricket_play(none, 0, none, 0, store, sizeof store, 0, end, sizeof played) == 0 &&
               memcmp(played, zeros, sizeof played) == 0);
+    holds(&e, "nearest of nothing at all", tulipcricket_nearest(0, 0, none, 0, none, 0) == 8);
+    holds(&e, "nearest of no points",
+          tulipcricket_nearest(0, 0, none, 0, end, sizeof played) == 0 && memcmp(played, zeros, sizeof played) == 0);
     holds(&e, "nothing else is written",
           memcmp(store, zeros, sizeof store) == 0 && memcmp(constants, zeros, sizeof constants) == 0);
 }

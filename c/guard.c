@@ -64,3 +64,8 @@ uint32_t tulipcricket_play(const uint8_t *listing, size_t listing_len, const uin
                            uint8_t *store, size_t store_len, uint64_t start, uint8_t *answer, size_t answer_len) {
     GUARDED(tulipcricket_play_unguarded(SLICE(listing), SLICE(constants), SLICE(store), start, SLICE(answer)));
 }
+
+uint32_t tulipcricket_nearest(uint64_t re, uint64_t im, const uint8_t *points, size_t points_len, uint8_t *answer,
+                              size_t answer_len) {
+    GUARDED(tulipcricket_nearest_unguarded(re, im, SLICE(points), SLICE(answer)));
+}

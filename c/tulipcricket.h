@@ -1,4 +1,4 @@
-/* Tulipcricket's two entries as C functions: link target/staticlib/libtulipcricket.a, which c/library makes.
+/* Tulipcricket's entries as C functions: link target/staticlib/libtulipcricket.a, which c/library makes.
  *
  * Every slice is a pointer and a count of bytes; an empty one may have any pointer, NULL too. A slice that is written may not overlap
  * another. The functions keep no pointer, hold nothing between calls, take no memory but the stack's, and call only memcpy and memset.
@@ -7,9 +7,10 @@
  * Every answer has the same bits in whatever floating-point environment its caller runs (rounding, flushing to zero, traps, flags), and the
  * environment is afterwards as it was. guard.c sees to that and to NULL; what the proved functions below it ask, unguarded.h says.
  *
- * Both return document 01's number, which is also the first number of the answer:
+ * All return document 01's or 02's number, which is also the first number of an answer:
  *   0 accepted          1 torn record     2 unknown work      3 bad register    4 bad place
  *   5 missing constant  6 barred operand  7 listing full      8 wrong setup     9 stray jump
+ *   13 wrong points
  * Lowering never gives 9; playing never gives 6 or 7.
  *
  * Lowering lists what the Rust lists, faults too. In plain mode a LoadMath Divide of a real register by a complex place gives a wrong
@@ -31,7 +32,9 @@ enum {
     TULIPCRICKET_CONSTANTS = 2048,       /* bytes of the constants: 256 words */
     TULIPCRICKET_STORE = 12816,          /* bytes of a store: 1,602 words */
     TULIPCRICKET_LOWER_ANSWER = 128,
-    TULIPCRICKET_PLAY_ANSWER = 24
+    TULIPCRICKET_PLAY_ANSWER = 24,
+    TULIPCRICKET_POINTS_LIMIT = 8192,    /* bytes of the reference points: 512 of two words */
+    TULIPCRICKET_NEAREST_ANSWER = 24
 };
 
 /* Lowers a sheet to a listing and its constants.
@@ -69,6 +72,22 @@ uint32_t tulipcricket_lower(const uint8_t *sheet, size_t sheet_len, uint8_t *lis
  * too. */
 uint32_t tulipcricket_play(const uint8_t *listing, size_t listing_len, const uint8_t *constants, size_t constants_len,
                            uint8_t *store, size_t store_len, uint64_t start, uint8_t *answer, size_t answer_len);
+
+/* Finds the reference point nearest to an answer.
+ *
+ * re, im     the answer's real and imaginary word.
+ * points     up to 512 points, two words each, real and imaginary.
+ * answer     24 bytes:
+ *              0  number
+ *              8  1 where there is a nearest point, else 0
+ *             16  its index; 0 where there is none
+ *
+ * A distance is the difference of the real words squared plus that of the imaginary words squared, each of the five operations rounded once.
+ * Of equal distances the earliest is nearest; a point whose distance is a NaN is passed over.
+ * Refused by 13: an odd count of words, or more than 1,024. By 8: the points are no whole number of words. The answer is then the number and
+ * zeros. Where the answer is not 24 bytes it is as lent, and the number 8. */
+uint32_t tulipcricket_nearest(uint64_t re, uint64_t im, const uint8_t *points, size_t points_len, uint8_t *answer,
+                              size_t answer_len);
 
 #ifdef __cplusplus
 }

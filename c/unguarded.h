@@ -30,6 +30,10 @@ uint32_t tulipcricket_play_unguarded(const uint8_t *listing, size_t listing_len,
                                      size_t constants_len, uint8_t *store, size_t store_len, uint64_t start,
                                      uint8_t *answer, size_t answer_len);
 
+TULIPCRICKET_NONNULL
+uint32_t tulipcricket_nearest_unguarded(uint64_t re, uint64_t im, const uint8_t *points, size_t points_len,
+                                        uint8_t *answer, size_t answer_len);
+
 #ifdef __cplusplus
 }
 #endif

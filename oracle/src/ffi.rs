@@ -29,6 +29,15 @@ extern "C" {
         answer: *mut u8,
         answer_len: usize,
     ) -> u32;
+
+    fn tulipcricket_nearest(
+        re: u64,
+        im: u64,
+        points: *const u8,
+        points_len: usize,
+        answer: *mut u8,
+        answer_len: usize,
+    ) -> u32;
 }
 
 const LOWER_ANSWER: usize = 128;
@@ -69,7 +78,13 @@ pub fn play(listing: &[u8], constants: &[u8], store: &mut [u8], start: u64, answ
     }
 }
 
-fn to_bytes(words: &[u64]) -> Vec<u8> {
+/// `tulipcricket_nearest` over slices; the number it returns.
+pub fn nearest(re: u64, im: u64, points: &[u8], answer: &mut [u8]) -> u32 {
+    // SAFETY: each pointer comes with the length of the slice it was taken from, and the function keeps none.
+    unsafe { tulipcricket_nearest(re, im, points.as_ptr(), points.len(), answer.as_mut_ptr(), answer.len()) }
+}
+
+pub fn to_bytes(words: &[u64]) -> Vec<u8> {
     words.iter().flat_map(|w| w.to_le_bytes()).collect()
 }
 

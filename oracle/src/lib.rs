@@ -14,6 +14,7 @@ pub mod lists;
 pub mod machine;
 pub mod make;
 pub mod names;
+pub mod nearest;
 pub mod player;
 pub mod print;
 pub mod random;

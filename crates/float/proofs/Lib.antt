@@ -1,5 +1,5 @@
 -- Lemmas that more than one function's proof uses, each building on those above it; the last two show the laws of specs/Laws.antt.
-mod Nan
+pub mod Nan
 mod Closest
 mod RoundBits
 mod Signed

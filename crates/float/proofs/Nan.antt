@@ -14,7 +14,7 @@ of-true b e = subst T (sym e) tt
 pub of-false : (b : Bool) → b ≡ false → T (not b)
 of-false b e = subst (λ (t : Bool). T (not t)) (sym e) tt
 
-only-nan : (x : Float) → isNan x ≡ true → x ≡ nan
+pub only-nan : (x : Float) → isNan x ≡ true → x ≡ nan
 unfolding isNan
 only-nan nan e = refl
 only-nan (inf s) e = absurd (of-true false e)

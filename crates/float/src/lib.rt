@@ -28,14 +28,14 @@ pub struct Pair {
 }
 
 // Whether a is a NaN's pattern: without its sign it is above infinity's.
-fn is_nan(a: u64) -> bool
+pub fn is_nan(a: u64) -> bool
     ensures { λ r. ⌜ r ≡ nanBits binary64 a ⌝ }
 {
     (a & MAGNITUDE) > INFINITY
 }
 
 // The value that a stands for.
-fn read(a: u64) -> f64
+pub fn read(a: u64) -> f64
     ensures { λ r. ⌜ r ≡ Word.value a ⌝ }
 {
     if is_nan(a) {

@@ -4,7 +4,7 @@ use mathlib.Core.Path.{_≡_, refl, sym, ap, _∙_}
 use mathlib.Core.Bool.{Bool, true, false, not, _||_}
 use mathlib.Core.List.{List, [], _∷_}
 use native.Mathlib.Omega.{arith}
-use lib.ListN.{length, take}
+use lib.ListN.{length}
 use lib.Dec.{ltb, eqb}
 use borrow.Author.Tests.{eq-eqb, ne-eqb, lt-ltb}
 use Rattle.machine.specs.Machine.{Store}
@@ -13,7 +13,7 @@ use Rattle.player.specs.declared.Answer as player
 use Rattle.player.specs.Values.{whole}
 use Rattle.words.specs.Bytes.{bytesOf, wordsOf, stored}
 use Rattle.words.proofs.Lengths.{length-bytesOf, length-wordsOf}
-use Rattle.words.proofs.Stored.{stored-whole, stored-front}
+use Rattle.words.proofs.Stored.{stored-whole}
 use Rattle.interface.specs.Calls.{given, playCall}
 
 either : (b : Bool) (σ : Store)
@@ -26,9 +26,6 @@ pub too-many : (listing constants : List ℕ) (start : ℕ) (σ : Store) → 256
 unfolding answer
 too-many listing constants start σ h =
     simp (length-wordsOf constants, lt-ltb 256 (length constants / 8) h) (either (ltb 65536 (length listing)) σ)
-
-pub table-words : (l s : List ℕ) {t : List ℕ} → t ≡ stored l 0 (wordsOf s) → length s / 8 ≤ length l → take (length s / 8) t ≡ wordsOf s
-table-words l s e h = ap (take (length s / 8)) e ∙ stored-front l (wordsOf s) (length s / 8) (length-wordsOf s) h
 
 module _ (listing constants store : List ℕ) (start : ℕ) (lent : List ℕ) (whole-answer : length lent ≡ 24) where
   -- constants or a store of another length

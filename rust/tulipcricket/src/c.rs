@@ -24,6 +24,15 @@ mod raw {
             answer: *mut u8,
             answer_len: usize,
         ) -> u32;
+
+        pub fn tulipcricket_nearest(
+            re: u64,
+            im: u64,
+            points: *const u8,
+            points_len: usize,
+            answer: *mut u8,
+            answer_len: usize,
+        ) -> u32;
     }
 }
 
@@ -60,4 +69,10 @@ pub fn play(listing: &[u8], constants: &[u8], store: &mut [u8], start: u64, answ
             answer.len(),
         )
     }
+}
+
+/// `tulipcricket_nearest`; the number it returns.
+pub fn nearest(re: u64, im: u64, points: &[u8], answer: &mut [u8; 24]) -> u32 {
+    // SAFETY: each pointer comes with the length of the slice it was taken from, and the function keeps none.
+    unsafe { raw::tulipcricket_nearest(re, im, points.as_ptr(), points.len(), answer.as_mut_ptr(), answer.len()) }
 }

@@ -15,7 +15,7 @@ pub const LISTING_LIMIT: usize = 65_536;
 const TABLE: usize = 256;
 const WORDS: usize = 1_602;
 
-/// Document 01's refusals, by their numbers.
+/// Document 01's and 02's refusals, by their numbers.
 #[derive(Clone, Copy, Debug, PartialEq, Eq)]
 pub enum Why {
     TornRecord = 1,
@@ -27,6 +27,7 @@ pub enum Why {
     ListingFull = 7,
     WrongSetup = 8,
     StrayJump = 9,
+    WrongPoints = 13,
 }
 
 /// Why the work was refused, and at which instruction or record.
@@ -56,6 +57,7 @@ fn accepted(number: u32, index: u64) -> Result<(), Refused> {
         6 => Why::BarredOperand,
         7 => Why::ListingFull,
         8 => Why::WrongSetup,
+        13 => Why::WrongPoints,
         _ => Why::StrayJump,
     };
     Err(Refused { why, index })
@@ -113,6 +115,15 @@ pub fn play(listing: &[u8], constants: &[u64], store: &mut Store, start: u64) ->
     let refusal = c::play(listing, &to_bytes(constants), &mut store.bytes, start, &mut answer);
     accepted(refusal, number(&answer, 8))?;
     Ok(Played { records: number(&answer, 8), played: number(&answer, 16) })
+}
+
+/// The index of the point nearest to an answer, the earliest of equal ones; `None` where no distance is a number. At most 512 points.
+pub fn nearest(answer: (f64, f64), points: &[(f64, f64)]) -> Result<Option<usize>, Refused> {
+    let words: Vec<u64> = points.iter().flat_map(|p| [p.0.to_bits(), p.1.to_bits()]).collect();
+    let mut told = [0; 24];
+    let refusal = c::nearest(answer.0.to_bits(), answer.1.to_bits(), &to_bytes(&words), &mut told);
+    accepted(refusal, 0)?;
+    Ok((number(&told, 8) == 1).then(|| number(&told, 16) as usize))
 }
 
 /// Classes of places.

@@ -1,7 +1,7 @@
 //! The wrapper on document 01's sheet on paper: what it accepts, what it refuses, and what it leaves.
 
 use tulipcricket::sheet::{Bi, Sheet};
-use tulipcricket::{lower, play, Class, Lowered, Refused, Store, Why, LISTING_LIMIT};
+use tulipcricket::{lower, nearest, play, Class, Lowered, Refused, Store, Why, LISTING_LIMIT};
 
 fn paper() -> Vec<u8> {
     let mut sheet = Sheet::new(false);
@@ -90,4 +90,12 @@ fn a_plain_load_math_divide_is_wrong_as_in_the_rust() {
     // LoadMath Divide 2, 0, Mem 3; and Load 1, Mem 3 with Divide 2, 0, 1.
     assert_eq!(quotient(|sheet| sheet.instruction(9, &[Bi::Divide as u8, 2, 0, Class::Mem as u8, 3, 0])), (6.0, -3.0));
     assert_eq!(quotient(|sheet| sheet.load(1, Class::Mem, 3).bi(Bi::Divide, 2, 0, 1)), (3.0, -3.0));
+}
+
+#[test]
+fn the_nearest_point_is_the_earliest_of_equal_ones() {
+    let points = [(f64::NAN, 0.0), (4.0, 1.0), (2.0, 1.0), (3.0, 0.0)];
+    assert_eq!(nearest((3.0, 1.0), &points), Ok(Some(1)));
+    assert_eq!(nearest((3.0, 1.0), &points[..1]), Ok(None));
+    assert_eq!(nearest((3.0, 1.0), &[(0.0, 0.0); 513]), Err(Refused { why: Why::WrongPoints, index: 0 }));
 }

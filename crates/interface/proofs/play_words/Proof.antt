@@ -3,7 +3,8 @@ use borrow.Author.Needs.{needs}
 use mathlib.Core.Path.{sym, ap, _∙_}
 use lib.Seq.{length-take-le}
 use Rattle.machine.specs.Answer.{answer}
-use Rattle.interface.proofs.Playing.{too-many, table-words}
+use Rattle.words.proofs.Stored.{loaded}
+use Rattle.interface.proofs.Playing.{too-many}
 use Rattle.interface.proofs.play_words.Statement.{statement}
 use Rattle.interface.proofs.play_words.Tie as tie
 
@@ -34,7 +35,7 @@ returns-2 : tie.Need-returns-2
 returns-2 c =
     let a = c .before .before .before .before .before .before .before .before .before .before .before .before .args in
     c .before .before .play .ensures
-    ∙ ap (λ w. answer (a .listing .now) w (a .start) (a .store .now)) (table-words _ (a .constants .now) (c .before .before .before .before .before .before .load .ensures) (search needs))
+    ∙ ap (λ w. answer (a .listing .now) w (a .start) (a .store .now)) (loaded _ (a .constants .now) (c .before .before .before .before .before .before .load .ensures) (search needs))
 
 pub play-words-spec : {M : Type 1} → statement M
 play-words-spec =

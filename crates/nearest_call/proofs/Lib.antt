@@ -1,0 +1,2 @@
+-- The call over bytes.
+mod Calls
