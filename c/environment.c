@@ -1,4 +1,4 @@
-/* Calls every function in floating-point environments of all kinds. Every answer is the one typed here, from document 01 and IEEE 754, every
+/* Calls every function in floating-point environments of all kinds. Every answer is the one typed here, from documents 01 and 02 and IEEE 754, every
  * byte lent is as it is to be, and the environment afterwards is as it was. Prints what is not so, and then ends with 1. For x86-64.
  *
  * Usage: environment started   in the environment that the process started in
@@ -19,6 +19,7 @@
 #define tulipcricket_lower tulipcricket_lower_unguarded
 #define tulipcricket_play tulipcricket_play_unguarded
 #define tulipcricket_nearest tulipcricket_nearest_unguarded
+#define tulipcricket_peak tulipcricket_peak_unguarded
 #endif
 
 enum { USUAL = 0x1f80, X87_USUAL = 0x037f, LENT = 0xa5 };
@@ -124,6 +125,14 @@ static const Case cases[] = {
      {0x3ff0000000000000, 0, 0x4008000000000000, 0}, {0x3fd5555555555555, 0}},
 };
 
+static void words(const Environment *e, const char *what, const uint64_t *found, const uint64_t *expected, size_t count) {
+    for (size_t i = 0; i < count; i++) {
+        if (found[i] == expected[i]) continue;
+        differences++;
+        printf("%s: %s: word %zu is %016" PRIx64 ", not %016" PRIx64 "\n", e->name, what, i, found[i], expected[i]);
+    }
+}
+
 static void play(const Environment *e, const Case *c) {
     static uint64_t store[TULIPCRICKET_STORE / 8], after[TULIPCRICKET_STORE / 8];
     uint64_t answer[3], expected[3] = {0, 1, 1};
@@ -139,11 +148,7 @@ static void play(const Environment *e, const Case *c) {
                                         (uint8_t *)answer, sizeof answer);
     kept(e, "tulipcricket_play", leave());
     holds(e, "a play's answer", number == 0 && memcmp(answer, expected, sizeof answer) == 0);
-    for (size_t i = 0; i < TULIPCRICKET_STORE / 8; i++) {
-        if (store[i] == after[i]) continue;
-        differences++;
-        printf("%s: %s: word %zu is %016" PRIx64 ", not %016" PRIx64 "\n", e->name, c->what, i, store[i], after[i]);
-    }
+    words(e, c->what, store, after, TULIPCRICKET_STORE / 8);
 }
 
 /* Lowering: document 01's sheet on paper, its listing, constants and answer. */
@@ -197,10 +202,24 @@ static void nearest(const Environment *e, const Nearest *row) {
     holds(e, row->what, number == 0 && memcmp(answer, expected, sizeof answer) == 0);
 }
 
+/* The running peak of -0, 0, the smallest number and two NaNs, in windows of two. */
+static void peak(const Environment *e) {
+    static const uint64_t run[] = {0x8000000000000000, 0, 1, 0x7ff0000000000001, 0x7ff0000000000001};
+    uint64_t out[6], after[6] = {0x8000000000000000, 0x8000000000000000, 1, 1, NAN_WORD};
+    memset(out, LENT, sizeof out);
+    memset(after + 5, LENT, 8);
+    enter(e);
+    uint32_t number = tulipcricket_peak((const uint8_t *)run, sizeof run, 2, (uint8_t *)out, sizeof out);
+    kept(e, "tulipcricket_peak", leave());
+    holds(e, "a peak's number", number == 0);
+    words(e, "Peak", out, after, 6);
+}
+
 static void in(const Environment *e) {
     for (size_t i = 0; i < sizeof rows / sizeof *rows; i++) nearest(e, rows + i);
     for (size_t i = 0; i < sizeof cases / sizeof *cases; i++) play(e, cases + i);
     lower(e);
+    peak(e);
 }
 
 static void every(void) {
@@ -242,6 +261,7 @@ static void empty(void) {
     holds(&e, "nearest of nothing at all", tulipcricket_nearest(0, 0, none, 0, none, 0) == 8);
     holds(&e, "nearest of no points",
           tulipcricket_nearest(0, 0, none, 0, end, sizeof played) == 0 && memcmp(played, zeros, sizeof played) == 0);
+    holds(&e, "peak of no run", tulipcricket_peak(none, 0, 1, none, 0) == 0 && tulipcricket_peak(none, 0, 0, none, 0) == 12);
     holds(&e, "nothing else is written",
           memcmp(store, zeros, sizeof store) == 0 && memcmp(constants, zeros, sizeof constants) == 0);
 }

@@ -65,6 +65,10 @@ uint32_t tulipcricket_play(const uint8_t *listing, size_t listing_len, const uin
     GUARDED(tulipcricket_play_unguarded(SLICE(listing), SLICE(constants), SLICE(store), start, SLICE(answer)));
 }
 
+uint32_t tulipcricket_peak(const uint8_t *run, size_t run_len, uint64_t window, uint8_t *out, size_t out_len) {
+    GUARDED(tulipcricket_peak_unguarded(SLICE(run), window, SLICE(out)));
+}
+
 uint32_t tulipcricket_nearest(uint64_t re, uint64_t im, const uint8_t *points, size_t points_len, uint8_t *answer,
                               size_t answer_len) {
     GUARDED(tulipcricket_nearest_unguarded(re, im, SLICE(points), SLICE(answer)));

@@ -7,11 +7,11 @@
  * Every answer has the same bits in whatever floating-point environment its caller runs (rounding, flushing to zero, traps, flags), and the
  * environment is afterwards as it was. guard.c sees to that and to NULL; what the proved functions below it ask, unguarded.h says.
  *
- * All return document 01's or 02's number, which is also the first number of an answer:
+ * Lowering and playing return document 01's number, which is also the first number of the answer:
  *   0 accepted          1 torn record     2 unknown work      3 bad register    4 bad place
  *   5 missing constant  6 barred operand  7 listing full      8 wrong setup     9 stray jump
- *   13 wrong points
- * Lowering never gives 9; playing never gives 6 or 7.
+ * Lowering never gives 9; playing never gives 6 or 7. Of document 02 the running peak returns 0, 8 or
+ * 12, the nearest point 0, 8 or 13.
  *
  * Lowering lists what the Rust lists, faults too. In plain mode a LoadMath Divide of a real register by a complex place gives a wrong
  * quotient: 6 / (1 + i) plays as 6 - 3i. Load the place into a general register and Divide by that. docs/DIFFERENCES.md has more.
@@ -72,6 +72,19 @@ uint32_t tulipcricket_lower(const uint8_t *sheet, size_t sheet_len, uint8_t *lis
  * too. */
 uint32_t tulipcricket_play(const uint8_t *listing, size_t listing_len, const uint8_t *constants, size_t constants_len,
                            uint8_t *store, size_t store_len, uint64_t start, uint8_t *answer, size_t answer_len);
+
+/* For each position of a run, the largest word in the window that ends there; early windows are shorter.
+ *
+ * run        up to 4,096 words.
+ * window     how many words a window has, 1 to 64.
+ * out        as many words as the run at least; those past the run are as lent.
+ *
+ * Zeros of both signs are equal, and of equal words the earliest in the window is given. A NaN is passed over; a window of NaNs alone gives
+ * 7ff8000000000000. The time for a position does not grow with the window.
+ *
+ * Returns 0; 12 for a window out of its range, too long a run or too short an output; 8 where run or output is no whole number of words. By 8
+ * and 12 nothing is written. */
+uint32_t tulipcricket_peak(const uint8_t *run, size_t run_len, uint64_t window, uint8_t *out, size_t out_len);
 
 /* Finds the reference point nearest to an answer.
  *

@@ -31,6 +31,9 @@ uint32_t tulipcricket_play_unguarded(const uint8_t *listing, size_t listing_len,
                                      uint8_t *answer, size_t answer_len);
 
 TULIPCRICKET_NONNULL
+uint32_t tulipcricket_peak_unguarded(const uint8_t *run, size_t run_len, uint64_t window, uint8_t *out, size_t out_len);
+
+TULIPCRICKET_NONNULL
 uint32_t tulipcricket_nearest_unguarded(uint64_t re, uint64_t im, const uint8_t *points, size_t points_len,
                                         uint8_t *answer, size_t answer_len);
 

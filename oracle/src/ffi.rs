@@ -30,6 +30,8 @@ extern "C" {
         answer_len: usize,
     ) -> u32;
 
+    fn tulipcricket_peak(run: *const u8, run_len: usize, window: u64, out: *mut u8, out_len: usize) -> u32;
+
     fn tulipcricket_nearest(
         re: u64,
         im: u64,
@@ -76,6 +78,12 @@ pub fn play(listing: &[u8], constants: &[u8], store: &mut [u8], start: u64, answ
             answer.len(),
         )
     }
+}
+
+/// `tulipcricket_peak` over slices; the number it returns.
+pub fn peak(run: &[u8], window: u64, out: &mut [u8]) -> u32 {
+    // SAFETY: each pointer comes with the length of the slice it was taken from, and the function keeps none.
+    unsafe { tulipcricket_peak(run.as_ptr(), run.len(), window, out.as_mut_ptr(), out.len()) }
 }
 
 /// `tulipcricket_nearest` over slices; the number it returns.

@@ -15,6 +15,7 @@ pub mod machine;
 pub mod make;
 pub mod names;
 pub mod nearest;
+pub mod peak;
 pub mod player;
 pub mod print;
 pub mod random;

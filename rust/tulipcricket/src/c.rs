@@ -25,6 +25,8 @@ mod raw {
             answer_len: usize,
         ) -> u32;
 
+        pub fn tulipcricket_peak(run: *const u8, run_len: usize, window: u64, out: *mut u8, out_len: usize) -> u32;
+
         pub fn tulipcricket_nearest(
             re: u64,
             im: u64,
@@ -69,6 +71,12 @@ pub fn play(listing: &[u8], constants: &[u8], store: &mut [u8], start: u64, answ
             answer.len(),
         )
     }
+}
+
+/// `tulipcricket_peak`; the number it returns.
+pub fn peak(run: &[u8], window: u64, out: &mut [u8]) -> u32 {
+    // SAFETY: each pointer comes with the length of the slice it was taken from, and the function keeps none.
+    unsafe { raw::tulipcricket_peak(run.as_ptr(), run.len(), window, out.as_mut_ptr(), out.len()) }
 }
 
 /// `tulipcricket_nearest`; the number it returns.

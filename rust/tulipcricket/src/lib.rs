@@ -1,4 +1,4 @@
-//! Tulipcricket from Rust: `lower` a sheet to a listing, `play` the listing on a store. The C functions that do the work are proved;
+//! Tulipcricket from Rust: `lower` a sheet to a listing, `play` the listing on a store, the running `peak` of answers. The C functions that do the work are proved;
 //! this wrapper, which lends them slices of the right lengths, is not.
 //!
 //! The library is `libtulipcricket.a`, which `c/library` makes; see build.rs for where it is looked for. Its answers do not depend on the
@@ -15,7 +15,7 @@ pub const LISTING_LIMIT: usize = 65_536;
 const TABLE: usize = 256;
 const WORDS: usize = 1_602;
 
-/// Document 01's and 02's refusals, by their numbers.
+/// The refusals of documents 01 and 02, by their numbers.
 #[derive(Clone, Copy, Debug, PartialEq, Eq)]
 pub enum Why {
     TornRecord = 1,
@@ -27,10 +27,12 @@ pub enum Why {
     ListingFull = 7,
     WrongSetup = 8,
     StrayJump = 9,
+    /// A window outside 1 to 64, or a run of more than 4,096 words.
+    WrongRun = 12,
     WrongPoints = 13,
 }
 
-/// Why the work was refused, and at which instruction or record.
+/// Why the work was refused, and at which instruction or record; 0 where there is none.
 #[derive(Clone, Copy, Debug, PartialEq, Eq)]
 pub struct Refused {
     pub why: Why,
@@ -57,6 +59,7 @@ fn accepted(number: u32, index: u64) -> Result<(), Refused> {
         6 => Why::BarredOperand,
         7 => Why::ListingFull,
         8 => Why::WrongSetup,
+        12 => Why::WrongRun,
         13 => Why::WrongPoints,
         _ => Why::StrayJump,
     };
@@ -115,6 +118,14 @@ pub fn play(listing: &[u8], constants: &[u64], store: &mut Store, start: u64) ->
     let refusal = c::play(listing, &to_bytes(constants), &mut store.bytes, start, &mut answer);
     accepted(refusal, number(&answer, 8))?;
     Ok(Played { records: number(&answer, 8), played: number(&answer, 16) })
+}
+
+/// For each position of a run of f64 words, the largest of the `window` words that end there, fewer at the start. Of equal ones, zeros of both
+/// signs among them, the earliest; a NaN is passed over, and NaNs alone give 7ff8000000000000.
+pub fn peak(run: &[u64], window: u64) -> Result<Vec<u64>, Refused> {
+    let mut out = vec![0; 8 * run.len()];
+    accepted(c::peak(&to_bytes(run), window, &mut out), 0)?;
+    Ok((0..run.len()).map(|i| number(&out, 8 * i)).collect())
 }
 
 /// The index of the point nearest to an answer, the earliest of equal ones; `None` where no distance is a number. At most 512 points.

@@ -1,7 +1,7 @@
-//! The wrapper on document 01's sheet on paper: what it accepts, what it refuses, and what it leaves.
+//! The wrapper on document 01's sheet on paper and on short runs: what it accepts, what it refuses, and what it leaves.
 
 use tulipcricket::sheet::{Bi, Sheet};
-use tulipcricket::{lower, nearest, play, Class, Lowered, Refused, Store, Why, LISTING_LIMIT};
+use tulipcricket::{lower, nearest, peak, play, Class, Lowered, Refused, Store, Why, LISTING_LIMIT};
 
 fn paper() -> Vec<u8> {
     let mut sheet = Sheet::new(false);
@@ -90,6 +90,23 @@ fn a_plain_load_math_divide_is_wrong_as_in_the_rust() {
     // LoadMath Divide 2, 0, Mem 3; and Load 1, Mem 3 with Divide 2, 0, 1.
     assert_eq!(quotient(|sheet| sheet.instruction(9, &[Bi::Divide as u8, 2, 0, Class::Mem as u8, 3, 0])), (6.0, -3.0));
     assert_eq!(quotient(|sheet| sheet.load(1, Class::Mem, 3).bi(Bi::Divide, 2, 0, 1)), (3.0, -3.0));
+}
+
+#[test]
+fn the_peak_is_the_earliest_of_equals() {
+    let (minus, zero, nan) = (0x8000_0000_0000_0000, 0, 0x7ff8_0000_0000_0000);
+    assert_eq!(peak(&[minus, zero, zero], 2), Ok(vec![minus, minus, zero]));
+    assert_eq!(peak(&[nan + 1, 1.0f64.to_bits(), nan], 1), Ok(vec![nan, 1.0f64.to_bits(), nan]));
+    assert_eq!(peak(&[], 64), Ok(vec![]));
+}
+
+#[test]
+fn windows_and_runs_out_of_range_are_refused_by_12() {
+    let refused = Err(Refused { why: Why::WrongRun, index: 0 });
+    assert_eq!(peak(&[0], 0), refused);
+    assert_eq!(peak(&[0], 65), refused);
+    assert_eq!(peak(&[0; 4097], 64), refused);
+    assert_eq!(peak(&[0; 4096], 64), Ok(vec![0; 4096]));
 }
 
 #[test]
