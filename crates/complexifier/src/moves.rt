@@ -3,7 +3,7 @@ ghost use Rattle.mir.specs.Encode.{buf};
 ghost use Rattle.complexifier.specs.Does.{Does};
 ghost use Rattle.lowering.specs.Complexifier.{ensureComplex, fmov, loadConst, loadFrom, saveTo, callRoot};
 use super::state::Complexifier;
-use super::state::Step;
+use super::state::Listed;
 use lines::emit::call;
 use lines::moves::ensure_lines;
 use lines::moves::fmov_lines;
@@ -14,70 +14,70 @@ use mir::records::Loc;
 use mir::registers::RET;
 
 impl Complexifier {
-    pub fn ensure_complex(self, out: &mut [u8], at: usize, d: u8) -> Step
+    pub fn ensure_complex(self, out: &mut [u8], at: usize, d: u8) -> Listed
         ensures { λ r. ⌜ Does (buf (now (out .entry)) at) self (ensureComplex d) (buf (now (out .exit)) (r .at)) (r .low) ⌝ }
     {
         let x = self.is_real_reg(d);
         let n = ensure_lines(out, at, x, d);
-        Step {
+        Listed {
             low: self.set_reg_complex(d),
             at: n,
         }
     }
 
-    pub fn fmov(self, out: &mut [u8], at: usize, dst: u8, s1: u8) -> Step
+    pub fn fmov(self, out: &mut [u8], at: usize, dst: u8, s1: u8) -> Listed
         ensures { λ r. ⌜ Does (buf (now (out .entry)) at) self (fmov dst s1) (buf (now (out .exit)) (r .at)) (r .low) ⌝ }
     {
         let x = self.is_real_reg(s1);
         let n = fmov_lines(out, at, x, dst, s1);
-        Step {
+        Listed {
             low: self.copy_real(dst, s1),
             at: n,
         }
     }
 
-    pub fn load_const(self, out: &mut [u8], at: usize, dst: u8, idx: u16) -> Step
+    pub fn load_const(self, out: &mut [u8], at: usize, dst: u8, idx: u16) -> Listed
         ensures { λ r. ⌜ Does (buf (now (out .entry)) at) self (loadConst dst idx) (buf (now (out .exit)) (r .at)) (r .low) ⌝ }
     {
         let n = load_const_lines(out, at, dst, idx);
-        Step {
+        Listed {
             low: self.set_reg_real(dst),
             at: n,
         }
     }
 
     // `load_mem`, `load_param`, `load_stack`
-    pub fn load_from(self, out: &mut [u8], at: usize, dst: u8, loc: Loc) -> Step
+    pub fn load_from(self, out: &mut [u8], at: usize, dst: u8, loc: Loc) -> Listed
         ensures { λ r. ⌜ Does (buf (now (out .entry)) at) self (loadFrom dst loc) (buf (now (out .exit)) (r .at)) (r .low) ⌝ }
     {
         let x = self.is_real_loc(loc);
         let n = load_lines(out, at, x, dst, loc);
-        Step {
+        Listed {
             low: self.set_reg(dst, x),
             at: n,
         }
     }
 
     // `save_mem`, `save_stack`
-    pub fn save_to(self, out: &mut [u8], at: usize, src: u8, loc: Loc) -> Step
+    pub fn save_to(self, out: &mut [u8], at: usize, src: u8, loc: Loc) -> Listed
         ensures { λ r. ⌜ Does (buf (now (out .entry)) at) self (saveTo src loc) (buf (now (out .exit)) (r .at)) (r .low) ⌝ }
     {
         let a = self.ensure_complex(out, at, src);
         let low = a.low;
         let p = a.at;
         let n = save_lines(out, p, src, loc);
-        Step {
+        Listed {
             low: low.saved(loc),
             at: n,
         }
     }
 
     // `call_funclet("@complex_root")`
-    pub fn call_root(self, out: &mut [u8], at: usize) -> Step
+    pub fn call_root(self, out: &mut [u8], at: usize) -> Listed
         ensures { λ r. ⌜ Does (buf (now (out .entry)) at) self callRoot (buf (now (out .exit)) (r .at)) (r .low) ⌝ }
     {
         let n = call(out, at, 1);
-        Step {
+        Listed {
             low: self.set_reg_complex(RET),
             at: n,
         }

@@ -12,7 +12,7 @@ pub struct Complexifier {
 }
 
 // The state after a method, and the position after what it listed.
-pub struct Step {
+pub struct Listed {
     pub low: Complexifier,
     pub at: usize,
 }

@@ -10,18 +10,17 @@ use lib.Seq.{sets, length-sets}
 use Rattle.sheet.specs.declared.setup.Setup.{Setup}
 use Rattle.sheet.specs.Setup.{setup, constantsOf}
 use Rattle.sheet.specs.Instruction.{instructions}
-use Rattle.sheet.proofs.Setting.{length-constants}
+use Rattle.sheet.proofs.Setting.{Right, right, length-constants}
 use Rattle.lowering.specs.Realness.{fresh}
 use Rattle.lowering.specs.Lower.{lowerFrom, lowerSheet}
 use Rattle.complexifier.specs.declared.state.Complexifier.{Complexifier}
 use Rattle.complexifier.specs.Does.{state}
 use Rattle.complexify.specs.declared.entry.Answer.{Answer}
-use Rattle.complexify.specs.declared.turn.Stand.{Stand}
+use Rattle.complexify.specs.declared.turn.Cursor.{Cursor}
 use Rattle.complexify.specs.Entry.{wrongSetup, refusedSetup, answerOf, answer, listingAfter, constantsAfter}
-use Rattle.complexify.specs.Taken.{Ready, Kept, left, Ran}
+use Rattle.complexify.specs.Taken.{Ready, Appended, left, Ran}
 use Rattle.complexify.proofs.Copies.{kept-first, taken-first, kept-then, kept-sets}
 use Rattle.complexify.proofs.Grown.{space-start}
-use Rattle.complexify.proofs.Setups.{Right, right}
 
 -- what the entry promises of its answer and of the two slices
 pub record Answered (sheet listing constants : List ℕ) (a : Answer) (listing' constants' : List ℕ) : Type 0 where
@@ -44,16 +43,16 @@ module _ (sheet listing constants : List ℕ) (x : Setup) (e : x ≡ setup sheet
   wrong-constants n l c h = refusing (simp (← e, eq-eqb _ _ n, le-ltb _ _ l, ne-eqb _ _ c)) h
 
   module _ (n : x .number ≡ 0) (l : length listing ≤ 65536) (c : length constants ≡ 256) where
-    pub known : Right sheet
+    pub known : Right sheet (setup sheet)
     known = right sheet (ap (λ x. x .number) (sym e) ∙ n)
 
     pub own-few : x .count ≤ 251
-    own-few = let k = known .count in let f = ap (λ x. x .count) e in omega (arith, k, f)
+    own-few = let k = known .few in let f = ap (λ x. x .count) e in omega (arith, k, f)
 
     rightly : wrongSetup sheet listing constants ≡ false
     rightly = simp (← e, eq-eqb _ _ n, le-ltb _ _ l, eq-eqb _ _ c)
 
-    abbrev pub beginning : Complexifier → Stand
+    abbrev pub beginning : Complexifier → Cursor
     beginning low = record { at = x .start; index = 0; written = 0; count = x .count; low = low }
 
     own-length : length (constantsOf sheet (x .count)) ≡ x .count
@@ -80,7 +79,7 @@ module _ (sheet listing constants : List ℕ) (x : Setup) (e : x ≡ setup sheet
     pub answering : {constants₁ listing' constants' : List ℕ} {low : Complexifier} {a : Answer}
         → constants₁ ≡ sets constants 0 (constantsOf sheet (x .count))
         → low ≡ record { real = fresh (x .places); «root_defined» = false }
-        → Ran (left (x .stable) (length listing) (x .count) sheet listing constants₁ (beginning low)) listing constants₁ (beginning low) listing' constants' a
+        → Ran (left (x .mode) (length listing) (x .count) sheet listing constants₁ (beginning low)) listing constants₁ (beginning low) listing' constants' a
         → Answered sheet listing constants a listing' constants'
     unfolding lowerSheet
     answering {constants₁} {listing'} {constants'} {low} {a} k h r =
@@ -90,24 +89,26 @@ module _ (sheet listing constants : List ℕ) (x : Setup) (e : x ≡ setup sheet
           words = kept-sets constants constants' 0 (a .count) kept ∙ ap (sets constants 0) (sym (r .consts) ∙ ap (λ w. w .state .consts) whole) ∙ sym (simp rightly);
         }
       where
-        whole : left (x .stable) (length listing) (x .count) sheet listing constants₁ (beginning low) ≡ lowerSheet sheet (length listing)
+        whole : left (x .mode) (length listing) (x .count) sheet listing constants₁ (beginning low) ≡ lowerSheet sheet (length listing)
         whole =
-            ap (λ low. left (x .stable) (length listing) (x .count) sheet listing constants₁ (beginning low)) h
+            ap (λ low. left (x .mode) (length listing) (x .count) sheet listing constants₁ (beginning low)) h
             ∙ ap
             (λ k.
-            let d = instructions (x .count) (drop (x .start) sheet) in
-            lowerFrom (x .stable) (length listing) (d .items) (d .fault) 0 [] (record { real = fresh (x .places); rootDefined = false; consts = k }))
+            let rest = drop (x .start) sheet in
+            let d = instructions (x .count) rest in
+            lowerFrom (x .mode) (length listing) (d .items) (d .fault) rest 0 [] (record { real = fresh (x .places); rootDefined = false; consts = k }))
             (first k)
             ∙ ap
             (λ y.
-            let d = instructions (y .count) (drop (y .start) sheet) in
-            lowerFrom (y .stable) (length listing) (d .items) (d .fault) 0 []
+            let rest = drop (y .start) sheet in
+            let d = instructions (y .count) rest in
+            lowerFrom (y .mode) (length listing) (d .items) (d .fault) rest 0 []
             (record { real = fresh (y .places); rootDefined = false; consts = constantsOf sheet (y .count) }))
             e
 
-        kept : Kept constants 0 constants' (a .count)
+        kept : Appended constants 0 constants' (a .count)
         kept =
             kept-then
-            (subst (λ l. Kept constants 0 l (x .count)) (sym k)
+            (subst (λ l. Appended constants 0 l (x .count)) (sym k)
             (kept-first constants (constantsOf sheet (x .count)) (x .count) own-length (omega (arith, own-few, c))))
             (r .constants)

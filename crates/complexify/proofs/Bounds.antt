@@ -18,13 +18,15 @@ use Rattle.mir.specs.declared.records.Instruction.{Instruction}
 use Rattle.mir.specs.Register.{re, Ret, Temp}
 use Rattle.mir.specs.Length.{lengthOf}
 use Rattle.mir.specs.Encode.{recordOf, encode, encodeAll}
+use Rattle.sheet.specs.declared.setup.Mode.{Mode}
+use Rattle.sheet.specs.Setup.{isStable}
 use Rattle.lowering.specs.declared.realness.Realness.{Realness}
 use Rattle.lowering.specs.Realness.{isRealReg, isRealLoc}
 use Rattle.lowering.specs.Pushes as mir
 use Rattle.lowering.specs.Lines as l
 use Rattle.lowering.specs.Complexifier as c
 use Rattle.lowering.specs.Complexifier.{State, Out}
-use Rattle.lowering.specs.Rerun.{rerunUni, rerunBin, rerunFused, rerunArith, rerun}
+use Rattle.lowering.specs.Rerun.{compareZero, rerunUni, rerunBin, rerunFused, rerunArith, rerun}
 use Rattle.complexify.specs.Taken.{space}
 use Rattle.complexify.proofs.Grown.{space-scale, space-exponent}
 
@@ -138,27 +140,27 @@ small-stableDivide : (x : Bool) (d a b : ℕ) → Small 22 (c.stableDivide x d a
 unfolding c.stableDivide
 small-stableDivide x d a b = scaled (l.stableDivideLines (ltb d 30) x d a b) d 22 (divide-lines (ltb d 30) x d a b)
 
-small-abs : (m x : Bool) (d a : ℕ) → Small 20 (c.abs m x d a)
-unfolding c.abs l.absLines
+small-abs : (m x : Bool) (d a : ℕ) → Small 20 (c.absBy m x d a)
+unfolding c.absBy l.absLines
 small-abs m true d a = lines (l.absLines true d a) d true 20 tt
 small-abs true false d a = small-stableAbs d a
 small-abs false false d a = lines (l.absLines false d a) d false 20 tt
 
-small-recip : (m x : Bool) (d a : ℕ) → Small 21 (c.recip m x d a)
-unfolding c.recip l.recipLines
+small-recip : (m x : Bool) (d a : ℕ) → Small 21 (c.recipBy m x d a)
+unfolding c.recipBy l.recipLines
 small-recip m true d a = lines (l.recipLines true d a) d true 21 tt
 small-recip true false d a = small-stableRecip d a
 small-recip false false d a = lines (l.recipLines false d a) d false 21 tt
 
-small-divideBy : (m x y : Bool) (d a b : ℕ) → Small 22 (c.divideBy m x y d a b)
+small-divideBy : (m : Mode) (x y : Bool) (d a b : ℕ) → Small 22 (c.divideBy m x y d a b)
 unfolding c.divideBy l.divideLines
 small-divideBy m true true d a b = lines (l.divideLines true true d a b) d true 22 tt
 small-divideBy m false true d a b = lines (l.divideLines false true d a b) d false 22 tt
-small-divideBy true x false d a b = small-stableDivide x d a b
-small-divideBy false true false d a b = lines (l.divideLines true false d a b) d false 22 tt
-small-divideBy false false false d a b = lines (l.divideLines false false d a b) d false 22 tt
+small-divideBy Mode.Stable x false d a b = small-stableDivide x d a b
+small-divideBy Mode.Plain true false d a b = lines (l.divideLines true false d a b) d false 22 tt
+small-divideBy Mode.Plain false false d a b = lines (l.divideLines false false d a b) d false 22 tt
 
-small-divide : (m : Bool) (d a b : ℕ) → Small 22 (c.divide m d a b)
+small-divide : (m : Mode) (d a b : ℕ) → Small 22 (c.divide m d a b)
 unfolding c.divide
 small-divide m d a b =
     record {
@@ -182,14 +184,14 @@ small-root m d a =
     both {b = 43} {g = λ s. c.defineRoot (s .rootDefined) m s} (both (both (both (small-ensure a) (small-fmov Temp a)) small-call) (small-fmov d Ret))
     (record { few = λ s. small-define (s .rootDefined) m .few s; room = λ s. small-define (s .rootDefined) m .room s })
 
-small-realRoot : (m x : Bool) (d a : ℕ) → Small 49 (c.realRoot m x d a)
-unfolding c.realRoot l.realRootLines
+small-realRoot : (m x : Bool) (d a : ℕ) → Small 49 (c.realRootBy m x d a)
+unfolding c.realRootBy l.realRootLines
 small-realRoot m true d a = lines (l.realRootLines d a) d true 49 tt
 small-realRoot m false d a = small-root m d a
 
-small-half : (d a : ℕ) → Small 2 (c.half d a)
+small-half : (m : Mode) (d a : ℕ) → Small 2 (c.half m d a)
 unfolding c.half
-small-half d a = record { few = λ s. omega arith; room = λ s. omega arith }
+small-half m d a = record { few = λ s. omega arith; room = λ s. omega arith }
 
 small-plus : (d a b : ℕ) → Small 2 (c.plus d a b)
 unfolding c.plus l.plusLines
@@ -207,9 +209,16 @@ small-bits : (op : BinOp) (d a b : ℕ) → Small 2 (c.bits op d a b)
 unfolding c.bits l.bitsLines
 small-bits op d a b = two (l.bitsLines op) c.promoted d a b 2 tt tt tt tt
 
-small-neq : (d a b : ℕ) → Small 5 (c.neq d a b)
-unfolding c.neq l.neqLines
-small-neq d a b = both (both (small-ensure a) (small-ensure b)) (lines (l.neqLines d a b) d true 3 tt)
+small-compare : (op join : BinOp) (d a b : ℕ) → Small 5 (c.compare op join d a b)
+unfolding c.compare l.compareLines
+small-compare op join d a b = both (both (small-ensure a) (small-ensure b)) (lines (l.compareLines op join d a b) d true 3 tt)
+
+small-compareZero : (op join : BinOp) (d a : ℕ) → Small 7 (compareZero op join d a)
+small-compareZero op join d a = both (small-bits BinOp.Xor Temp Temp Temp) (small-compare op join d a Temp)
+
+small-order : (op : BinOp) (d a b : ℕ) → Small 1 (c.byTwo (l.orderLines op) c.bothAsReal d a b)
+unfolding l.orderLines
+small-order op d a b = two (l.orderLines op) c.bothAsReal d a b 1 tt tt tt tt
 
 small-ifelse : (d a b : ℕ) (p : Loc) → Small 4 (c.ifelse d a b p)
 unfolding c.ifelse l.ifelseLines
@@ -226,21 +235,21 @@ small-fused FusedOp.MulSub d a b k = more tt (both (small-times Ret a b) (small-
 small-fused FusedOp.NegMulAdd d a b k = more tt (both (small-times Ret a b) (small-minus d k Ret))
 small-fused FusedOp.NegMulSub d a b k = more tt (both (both (small-times Ret a b) (small-plus d Ret k)) (small-each UniOp.Neg d d))
 
-small-arith : (m : Bool) (op : ArithOp) (d a b : ℕ) → Small 22 (rerunArith m op d a b)
+small-arith : (m : Mode) (op : ArithOp) (d a b : ℕ) → Small 22 (rerunArith m op d a b)
 unfolding rerunArith
 small-arith m ArithOp.Plus d a b = more tt (small-plus d a b)
 small-arith m ArithOp.Minus d a b = more tt (small-minus d a b)
 small-arith m ArithOp.Times d a b = more tt (small-times d a b)
 small-arith m ArithOp.Divide d a b = small-divide m d a b
 
-small-uni : (m : Bool) (op : UniOp) (d a : ℕ) → Small 64 (rerunUni m op d a)
-unfolding rerunUni l.notLines l.realLines l.imaginaryLines l.conjugateLines l.abs2Lines l.timesILines l.timesNegILines
+small-uni : (m : Mode) (op : UniOp) (d a : ℕ) → Small 64 (rerunUni m op d a)
+unfolding rerunUni c.abs c.realRoot c.recip l.notLines l.realLines l.imaginaryLines l.conjugateLines l.abs2Lines l.timesILines l.timesNegILines
 small-uni m UniOp.Neg d a = more tt (small-each UniOp.Neg d a)
 small-uni m UniOp.Not d a = one l.notLines c.asReal d a 64 tt tt
-small-uni m UniOp.Abs d a = more tt (flag (λ x. c.abs m x d a) a (λ x. small-abs m x d a))
-small-uni m UniOp.Root d a = more tt (small-root m d a)
-small-uni m UniOp.RealRoot d a = more tt (flag (λ x. c.realRoot m x d a) a (λ x. small-realRoot m x d a))
-small-uni m UniOp.Recip d a = more tt (flag (λ x. c.recip m x d a) a (λ x. small-recip m x d a))
+small-uni m UniOp.Abs d a = more tt (flag (λ x. c.absBy (isStable m) x d a) a (λ x. small-abs (isStable m) x d a))
+small-uni m UniOp.Root d a = more tt (small-root (isStable m) d a)
+small-uni m UniOp.RealRoot d a = more tt (flag (λ x. c.realRootBy (isStable m) x d a) a (λ x. small-realRoot (isStable m) x d a))
+small-uni m UniOp.Recip d a = more tt (flag (λ x. c.recipBy (isStable m) x d a) a (λ x. small-recip (isStable m) x d a))
 small-uni m UniOp.Round d a = more tt (small-each UniOp.Round d a)
 small-uni m UniOp.Floor d a = more tt nothing
 small-uni m UniOp.Ceiling d a = more tt nothing
@@ -248,26 +257,26 @@ small-uni m UniOp.Trunc d a = more tt nothing
 small-uni m UniOp.Real d a = one l.realLines c.asReal d a 64 tt tt
 small-uni m UniOp.Imaginary d a = one l.imaginaryLines c.asReal d a 64 tt tt
 small-uni m UniOp.Conjugate d a = one l.conjugateLines c.copied d a 64 tt tt
-small-uni m UniOp.Half d a = more tt (small-half d a)
+small-uni m UniOp.Half d a = more tt (small-half m d a)
 small-uni m UniOp.IsZero d a = more tt nothing
-small-uni m UniOp.IsNotZero d a = more tt (both (small-bits BinOp.Xor Temp Temp Temp) (small-neq d a Temp))
+small-uni m UniOp.IsNotZero d a = more tt (small-compareZero BinOp.NotEqual BinOp.Or d a)
 small-uni m UniOp.Sign d a = more tt (small-each UniOp.Sign d a)
 small-uni m UniOp.Abs2 d a = one l.abs2Lines c.copied d a 64 tt tt
 small-uni m UniOp.TimesI d a = one l.timesILines c.asComplex d a 64 tt tt
 small-uni m UniOp.TimesNegI d a = one l.timesNegILines c.asComplex d a 64 tt tt
 
-small-bin : (m : Bool) (op : BinOp) (d a b : ℕ) → Small 64 (rerunBin m op d a b)
-unfolding rerunBin l.orderLines l.complexLines
+small-bin : (m : Mode) (op : BinOp) (d a b : ℕ) → Small 64 (rerunBin m op d a b)
+unfolding rerunBin l.complexLines
 small-bin m BinOp.Plus d a b = more tt (small-plus d a b)
 small-bin m BinOp.Minus d a b = more tt (small-minus d a b)
 small-bin m BinOp.Times d a b = more tt (small-times d a b)
 small-bin m BinOp.Divide d a b = more tt (small-divide m d a b)
-small-bin m BinOp.GreaterThan d a b = two (l.orderLines BinOp.GreaterThan) c.bothAsReal d a b 64 tt tt tt tt
+small-bin m BinOp.GreaterThan d a b = more tt (small-order BinOp.GreaterThan d a b)
 small-bin m BinOp.GreaterThanEqual d a b = more tt nothing
-small-bin m BinOp.LittleThan d a b = two (l.orderLines BinOp.LittleThan) c.bothAsReal d a b 64 tt tt tt tt
+small-bin m BinOp.LittleThan d a b = more tt (small-order BinOp.LittleThan d a b)
 small-bin m BinOp.LittleThanEqual d a b = more tt nothing
 small-bin m BinOp.Equal d a b = more tt nothing
-small-bin m BinOp.NotEqual d a b = more tt (small-neq d a b)
+small-bin m BinOp.NotEqual d a b = more tt (small-compare BinOp.NotEqual BinOp.Or d a b)
 small-bin m BinOp.And d a b = more tt (small-bits BinOp.And d a b)
 small-bin m BinOp.AndNot d a b = more tt nothing
 small-bin m BinOp.Or d a b = more tt (small-bits BinOp.Or d a b)
@@ -279,7 +288,7 @@ moved : (b : Bool) (f : State → Out) → Small 64 f → Small 64 (λ s. cond b
 moved true f p = more tt nothing
 moved false f p = p
 
-pub small : (m : Bool) (i : Instruction) → Small 64 (rerun m i)
+pub small : (m : Mode) (i : Instruction) → Small 64 (rerun m i)
 unfolding rerun
 small m Instruction.Nop = more tt nothing
 small m (Instruction.Uni op d a) = small-uni m op d a
@@ -321,8 +330,8 @@ encoded-few (r ∷ rs) =
     omega (arith, a, b, e)
 
 -- what one instruction lists has room in the stage
-pub staged : (m : Bool) (i : Instruction) (s : State) → length (encodeAll (rerun m i s .records)) ≤ 704
+pub staged : (m : Mode) (i : Instruction) (s : State) → length (encodeAll (rerun m i s .records)) ≤ 704
 staged m i s = let a = encoded-few (rerun m i s .records) in let b = small m i .few s in omega (arith, a, b)
 
-pub spaced : (m : Bool) (i : Instruction) (s : State) → space (rerun m i s .after .consts) ≤ space (s .consts)
+pub spaced : (m : Mode) (i : Instruction) (s : State) → space (rerun m i s .after .consts) ≤ space (s .consts)
 spaced m i s = small m i .room s

@@ -1,23 +1,14 @@
--- A copying loop, and what a slice holds after a run of elements was stored in it.
+-- What a slice holds after a run of elements was stored in it.
 use Prim.Native.Nat.{ℕ, zero, suc, _+_, _-_, _≤_, _<_}
 use mathlib.Core.Path.{_≡_, refl, sym, ap, _∙_}
-use mathlib.Core.List.{List, [], _∷_, _++_}
+use mathlib.Core.List.{List, _++_}
 use native.Mathlib.Nat.{zero-add, add-zero, add-suc, suc-add}
-use native.Mathlib.Numerals.{add-one}
 use native.Mathlib.Omega.{arith}
-use lib.ListN.{length, take, drop, getD, set, length-append, length-take, drop-of-length-le, take-append-drop}
-use lib.Seq.{sets, sets-eq, length-sets, drop-cons, drop-drop}
+use lib.ListN.{length, take, drop, getD, set, length-append, length-take, take-append-drop}
+use lib.Seq.{sets, sets-eq, length-sets, take-at, drop-at, drop-drop}
+use Rattle.words.proofs.Copying.{turn}
 use Rattle.sheet.specs.Setup.{constantAt, constantsFromOn}
-use Rattle.complexify.specs.Taken.{Kept}
-
--- what is left to store, from i on: the element at i, and then the rest
-pub turn : (l b : List ℕ) (at i : ℕ) → i < length b
-    → sets l (at + i) (drop i b) ≡ sets (set l (at + i) (getD b i 0)) (at + (i + 1)) (drop (i + 1) b)
-turn l b at i h = rw (drop-cons b i 0 h, add-one i, add-suc at i)
-
--- nothing is left past the end
-pub ended : (l b : List ℕ) (at i : ℕ) → length b ≤ i → sets l (at + i) (drop i b) ≡ l
-ended l b at i h = rw (drop-of-length-le b h)
+use Rattle.complexify.specs.Taken.{Appended}
 
 -- a turn that stores from the beginning on
 pub stored : (l b : List ℕ) (i : ℕ) {v : ℕ} → v ≡ getD b i 0 → i < length b
@@ -34,34 +25,22 @@ module _ (s : List ℕ) where
   nth (suc n) i zero h = ap (constantAt s) (sym (add-zero i))
   nth (suc n) i (suc k) h = nth n (suc i) k (omega arith) ∙ ap (constantAt s) (suc-add i k ∙ sym (add-suc i k))
 
-drop-past : (a b : List ℕ) (n : ℕ) → length a ≡ n → drop n (a ++ b) ≡ b
-drop-past [] b zero h = refl
-drop-past [] b (suc n) h = absurd (omega arith)
-drop-past (x ∷ a) b zero h = absurd (omega arith)
-drop-past (x ∷ a) b (suc n) h = drop-past a b n (omega arith)
-
-take-past : (a b : List ℕ) (n : ℕ) → length a ≡ n → take n (a ++ b) ≡ a
-take-past [] b zero h = refl
-take-past [] b (suc n) h = absurd (omega arith)
-take-past (x ∷ a) b zero h = absurd (omega arith)
-take-past (x ∷ a) b (suc n) h = ap (λ l. x ∷ l) (take-past a b n (omega arith))
-
 -- a run v stored in l at w
 module _ (l v : List ℕ) (w : ℕ) (fits : w + length v ≤ length l) where
   counted : length (take w l ++ v) ≡ w + length v
   counted = let e : length (take w l) ≡ w = simp length-take (omega (arith, fits)) in simp length-append (omega (arith, e))
 
   pub taken : take (w + length v) (sets l w v) ≡ take w l ++ v
-  taken = ap (take (w + length v)) (sets-eq v l w fits) ∙ take-past (take w l ++ v) (drop (w + length v) l) (w + length v) counted
+  taken = ap (take (w + length v)) (sets-eq v l w fits) ∙ take-at (take w l ++ v) (drop (w + length v) l) (w + length v) counted
 
   pub dropped : drop (w + length v) (sets l w v) ≡ drop (w + length v) l
-  dropped = ap (drop (w + length v)) (sets-eq v l w fits) ∙ drop-past (take w l ++ v) (drop (w + length v) l) (w + length v) counted
+  dropped = ap (drop (w + length v)) (sets-eq v l w fits) ∙ drop-at (take w l ++ v) (drop (w + length v) l) (w + length v) counted
 
-  pub kept-store : Kept l w (sets l w v) (w + length v)
+  pub kept-store : Appended l w (sets l w v) (w + length v)
   kept-store = record { more = omega arith; fits = fits; long = length-sets l w v; rest = dropped }
 
 -- nothing stored
-pub kept-none : (l : List ℕ) (n : ℕ) → n ≤ length l → Kept l n l n
+pub kept-none : (l : List ℕ) (n : ℕ) → n ≤ length l → Appended l n l n
 kept-none l n h = record { more = omega arith; fits = h; long = refl; rest = refl }
 
 further : (l l' : List ℕ) (n m : ℕ) → n ≤ m → drop n l ≡ drop n l' → drop m l ≡ drop m l'
@@ -69,7 +48,7 @@ further l l' n m h e =
     let z : m ≡ n + (m - n) = omega arith in
     ap (λ k. drop k l) z ∙ sym (drop-drop (m - n) n l) ∙ ap (drop (m - n)) e ∙ drop-drop (m - n) n l' ∙ ap (λ k. drop k l') (sym z)
 
-pub kept-then : {l l' l'' : List ℕ} {n n' n'' : ℕ} → Kept l n l' n' → Kept l' n' l'' n'' → Kept l n l'' n''
+pub kept-then : {l l' l'' : List ℕ} {n n' n'' : ℕ} → Appended l n l' n' → Appended l' n' l'' n'' → Appended l n l'' n''
 kept-then {l} {l'} {l''} {n} {n'} {n''} p q =
     record {
       more = omega (arith, p .more, q .more);
@@ -79,7 +58,7 @@ kept-then {l} {l'} {l''} {n} {n'} {n''} p q =
     }
 
 -- a slice of which all is as lent, but for its first n' elements
-pub kept-sets : (l l' : List ℕ) (n n' : ℕ) → Kept l n l' n' → l' ≡ sets l 0 (take n' l')
+pub kept-sets : (l l' : List ℕ) (n n' : ℕ) → Appended l n l' n' → l' ≡ sets l 0 (take n' l')
 kept-sets l l' n n' p =
     let e : length (take n' l') ≡ n' = simp length-take (omega (arith, p .fits, p .long)) in
     let f : 0 + length (take n' l') ≤ length l = omega (arith, e, p .fits) in
@@ -89,7 +68,7 @@ kept-sets l l' n n' p =
     ∙ sym (sets-eq (take n' l') l 0 f)
 
 -- a run stored from the beginning on
-pub kept-first : (l v : List ℕ) (n : ℕ) → length v ≡ n → n ≤ length l → Kept l 0 (sets l 0 v) n
+pub kept-first : (l v : List ℕ) (n : ℕ) → length v ≡ n → n ≤ length l → Appended l 0 (sets l 0 v) n
 kept-first l v n e h =
     let k = kept-store l v 0 (omega (arith, e, h)) in
     let g : 0 + length v ≡ n = omega (arith, e) in

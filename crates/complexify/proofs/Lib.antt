@@ -2,6 +2,5 @@ pub mod Copies
 mod Grown
 mod Bounds
 mod Turns
-mod Setups
 mod Answers
 pub mod Within

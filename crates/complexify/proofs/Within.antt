@@ -1,7 +1,7 @@
 -- Lowering and the lent slices: what is given back lies within them, no more bytes than the listing has room for and at most 256 constants.
 use Prim.Native.Nat.{ℕ, suc, _+_, _≤_}
 use mathlib.Core.Path.{_≡_, sym, subst}
-use mathlib.Core.Bool.{Bool, true}
+use mathlib.Core.Bool.{true}
 use mathlib.Core.List.{List, [], _∷_, _++_}
 use native.Mathlib.Omega.{arith}
 use borrow.Author.Tests.{eqb-true, ltb-false}
@@ -10,29 +10,29 @@ use lib.ListN.{length, drop, length-append}
 use Rattle.mir.specs.declared.records.Instruction.{Instruction}
 use Rattle.mir.specs.Encode.{encodeAll}
 use Rattle.mir.proofs.Passing.{either}
-use Rattle.sheet.specs.Setup.{setup, constantsOf}
+use Rattle.sheet.specs.declared.setup.Mode.{Mode}
+use Rattle.sheet.specs.Setup.{isStable, setup, constantsOf}
 use Rattle.sheet.specs.Instruction.{instructions}
-use Rattle.sheet.proofs.Setting.{length-constants}
+use Rattle.sheet.proofs.Setting.{right, length-constants}
 use Rattle.lowering.specs.Complexifier.{State}
-use Rattle.lowering.specs.Lower.{Ended, barred, lowerFrom, startState, lowerSheet}
+use Rattle.lowering.specs.Lower.{Ended, barred, past, lowerFrom, startState, lowerSheet}
 use Rattle.lowering.specs.Rerun.{rerun}
 use Rattle.complexify.specs.declared.entry.Answer.{Answer}
 use Rattle.complexify.specs.Entry.{wrongSetup, answer}
 use Rattle.complexify.specs.Taken.{space}
 use Rattle.complexify.proofs.Grown.{space-start}
 use Rattle.complexify.proofs.Bounds.{spaced}
-use Rattle.complexify.proofs.Setups.{right}
 
 record Held (room : ℕ) (e : Ended) : Type 0 where
   bytes : length (e .bytes) ≤ room
   words : space (e .state .consts) ≤ 256
 
-held : (m : Bool) (room : ℕ) (is : List Instruction) (fault index : ℕ) (bytes : List ℕ) (s : State)
-    → length bytes ≤ room → space (s .consts) ≤ 256 → Held room (lowerFrom m room is fault index bytes s)
+held : (m : Mode) (room : ℕ) (is : List Instruction) (fault : ℕ) (rest : List ℕ) (index : ℕ) (bytes : List ℕ) (s : State)
+    → length bytes ≤ room → space (s .consts) ≤ 256 → Held room (lowerFrom m room is fault rest index bytes s)
 unfolding lowerFrom
-held m room [] fault index bytes s b k = record { bytes = b; words = k }
-held m room (i ∷ is) fault index bytes s b k =
-    either (barred m i (s .real))
+held m room [] fault rest index bytes s b k = record { bytes = b; words = k }
+held m room (i ∷ is) fault rest index bytes s b k =
+    either (barred (isStable m) i (s .real))
     (λ t. simp t (record { bytes = b; words = k }))
     (λ t.
     either (ltb room (length bytes + length (encodeAll (rerun m i s .records))))
@@ -41,17 +41,18 @@ held m room (i ∷ is) fault index bytes s b k =
     let f = ltb-false room (length bytes + length (encodeAll (rerun m i s .records))) u in
     let n = length-append bytes (encodeAll (rerun m i s .records)) in
     let r = spaced m i s in
-    simp (t, u) (held m room is fault (suc index) (bytes ++ encodeAll (rerun m i s .records)) (rerun m i s .after) (omega (arith, f, n)) (omega (arith, r, k)))))
+    simp (t, u) (held m room is fault (past rest) (suc index) (bytes ++ encodeAll (rerun m i s .records)) (rerun m i s .after) (omega (arith, f, n)) (omega (arith, r, k)))))
 
 held-sheet : (sheet : List ℕ) (room : ℕ) → setup sheet .number ≡ 0 → Held room (lowerSheet sheet room)
 unfolding lowerSheet
 held-sheet sheet room e =
     let x = setup sheet in
-    let d = instructions (x .count) (drop (x .start) sheet) in
+    let rest = drop (x .start) sheet in
+    let d = instructions (x .count) rest in
     let own = constantsOf sheet (x .count) in
-    let c = right sheet e .count in
+    let c = right sheet e .few in
     let n = length-constants sheet (x .count) 0 in
-    held (x .stable) room (d .items) (d .fault) 0 [] (startState (x .places) own) (omega arith) (space-start own (omega (arith, c, n)))
+    held (x .mode) room (d .items) (d .fault) rest 0 [] (startState (x .places) own) (omega arith) (space-start own (omega (arith, c, n)))
 
 pub record Within (listing : List ℕ) (a : Answer) : Type 0 where
   pub written : a .written ≤ length listing

@@ -7,13 +7,14 @@ use lib.ListN.{length, take, drop}
 use lib.Seq.{sets}
 use lib.Dec.{ltb}
 use Rattle.mir.specs.declared.records.Instruction.{Instruction}
+use Rattle.sheet.specs.declared.setup.Mode.{Mode}
 use Rattle.sheet.specs.Instruction.{instructions}
 use Rattle.lowering.specs.Complexifier.{position, MIN_POSITIVE, INFINITY, QUARTER, EXP_MASK_FINITE, FLOOR_FINITE}
-use Rattle.lowering.specs.Lower.{Ended, ended, lowerFrom}
+use Rattle.lowering.specs.Lower.{Ended, ended, past, lowerFrom}
 use Rattle.complexifier.specs.Does.{state}
-use Rattle.rerun.specs.declared.turn.Turn.{Turn}
+use Rattle.rerun.specs.declared.output.Output.{Output}
 use Rattle.complexify.specs.declared.entry.Answer.{Answer}
-use Rattle.complexify.specs.declared.turn.Stand.{Stand}
+use Rattle.complexify.specs.declared.turn.Cursor.{Cursor}
 use Rattle.complexify.specs.declared.turn.Next.{Next}
 use Rattle.complexify.specs.Entry.{answerOf}
 
@@ -26,7 +27,7 @@ space k =
     length k + (absent MIN_POSITIVE k + (absent INFINITY k + (absent QUARTER k + (absent EXP_MASK_FINITE k + absent FLOOR_FINITE k))))
 
 -- the stage, the listing and the constants, where lowering stands
-pub record Ready (g l k : List ℕ) (p : Stand) : Type 0 where
+pub record Ready (g l k : List ℕ) (p : Cursor) : Type 0 where
   pub stage : length g ≡ 704
   pub room : length l ≤ 65536
   pub written : p .written ≤ length l
@@ -35,30 +36,32 @@ pub record Ready (g l k : List ℕ) (p : Stand) : Type 0 where
   pub space : space (take (p .count) k) ≤ 256
 
 -- the first n elements grew to the first n', and every later one is as it was
-pub record Kept (l : List ℕ) (n : ℕ) (l' : List ℕ) (n' : ℕ) : Type 0 where
+pub record Appended (l : List ℕ) (n : ℕ) (l' : List ℕ) (n' : ℕ) : Type 0 where
   pub more : n ≤ n'
   pub fits : n' ≤ length l
   pub long : length l' ≡ length l
   pub rest : drop n' l' ≡ drop n' l
 
 -- what the work ends with where it ends here, and what it ends with from here on
-abbrev pub endedAt : ℕ → List ℕ → List ℕ → Stand → Ended
+abbrev pub endedAt : ℕ → List ℕ → List ℕ → Cursor → Ended
 endedAt number listing constants p =
     ended number (p .index) (take (p .written) listing) (state (p .low) (take (p .count) constants))
 
-abbrev pub goesOn : Bool → ℕ → List Instruction → ℕ → List ℕ → List ℕ → Stand → Ended
-goesOn stable room is fault listing constants p =
-    lowerFrom stable room is fault (p .index) (take (p .written) listing) (state (p .low) (take (p .count) constants))
+abbrev pub goesOn : Mode → ℕ → List Instruction → ℕ → List ℕ → List ℕ → List ℕ → Cursor → Ended
+goesOn mode room is fault rest listing constants p =
+    lowerFrom mode room is fault rest (p .index) (take (p .written) listing) (state (p .low) (take (p .count) constants))
 
-abbrev pub left : Bool → ℕ → ℕ → List ℕ → List ℕ → List ℕ → Stand → Ended
-left stable room own sheet listing constants p =
-    let d = instructions own (drop (p .at) sheet) in goesOn stable room (d .items) (d .fault) listing constants p
+abbrev pub left : Mode → ℕ → ℕ → List ℕ → List ℕ → List ℕ → Cursor → Ended
+left mode room own sheet listing constants p =
+    let rest = drop (p .at) sheet in
+    let d = instructions own rest in
+    goesOn mode room (d .items) (d .fault) rest listing constants p
 
 -- where lowering stands after a number refused the instruction, and after a finished one with these bytes
-abbrev pub refusal : ℕ → Stand → Next
+abbrev pub refusal : ℕ → Cursor → Next
 refusal number p = record { done = true; number = number; stand = p }
 
-abbrev pub finished : Turn → List ℕ → ℕ → Stand → Next
+abbrev pub finished : Output → List ℕ → ℕ → Cursor → Next
 finished t bytes next p =
     record {
       done = false;
@@ -73,16 +76,16 @@ finished t bytes next p =
     }
 
 -- 7, the bytes exceed those left; else they are copied behind the finished ones, and so are the constants that the turn added
-abbrev pub full : List ℕ → List ℕ → Stand → Bool
+abbrev pub full : List ℕ → List ℕ → Cursor → Bool
 full bytes listing p = ltb (length listing - p .written) (length bytes)
 
-pub record Finished (t : Turn) (bytes : List ℕ) (next : ℕ) (listing constants : List ℕ) (p : Stand) (listing' constants' : List ℕ) (r : Next) : Type 0 where
+pub record Finished (t : Output) (bytes : List ℕ) (next : ℕ) (listing constants : List ℕ) (p : Cursor) (listing' constants' : List ℕ) (r : Next) : Type 0 where
   pub stands : r ≡ cond (full bytes listing p) (refusal 7 p) (finished t bytes next p)
   pub listed : listing' ≡ cond (full bytes listing p) listing (sets listing (p .written) bytes)
   pub added : constants' ≡ cond (full bytes listing p) constants (sets constants (p .count) (take (t .added .count) (t .added .words)))
 
 -- what that asks of the turn and of the slices
-pub record Fits (t : Turn) (bytes listing constants : List ℕ) (p : Stand) : Type 0 where
+pub record Fits (t : Output) (bytes listing constants : List ℕ) (p : Cursor) : Type 0 where
   pub short : length bytes ≤ 704
   pub room : length listing ≤ 65536
   pub written : p .written ≤ length listing
@@ -92,32 +95,32 @@ pub record Fits (t : Turn) (bytes listing constants : List ℕ) (p : Stand) : Ty
   pub index : p .index < 65536
 
 -- what the slices keep in a turn
-pub record Turned (listing constants : List ℕ) (p : Stand) (listing' constants' : List ℕ) (r : Next) : Type 0 where
-  pub bytes : Kept listing (p .written) listing' (r .stand .written)
-  pub words : Kept constants (p .count) constants' (r .stand .count)
+pub record Extended (listing constants : List ℕ) (p : Cursor) (listing' constants' : List ℕ) (r : Next) : Type 0 where
+  pub bytes : Appended listing (p .written) listing' (r .stand .written)
+  pub words : Appended constants (p .count) constants' (r .stand .count)
   pub space : space (take (r .stand .count) constants') ≤ 256
 
 -- the instruction i lowered, whatever stands behind it
-pub record Lowered (stable : Bool) (i : Instruction) (next : ℕ) (listing constants : List ℕ) (p : Stand) (listing' constants' : List ℕ) (r : Next) : Type 0 where
-  pub same : (is : List Instruction) (fault : ℕ)
-      → goesOn stable (length listing) (i ∷ is) fault listing constants p
-      ≡ cond (r .done) (endedAt (r .number) listing' constants' (r .stand)) (goesOn stable (length listing) is fault listing' constants' (r .stand))
+pub record LoweredOne (mode : Mode) (i : Instruction) (next : ℕ) (listing constants : List ℕ) (p : Cursor) (listing' constants' : List ℕ) (r : Next) : Type 0 where
+  pub same : (is : List Instruction) (fault : ℕ) (rest : List ℕ)
+      → goesOn mode (length listing) (i ∷ is) fault rest listing constants p
+      ≡ cond (r .done) (endedAt (r .number) listing' constants' (r .stand)) (goesOn mode (length listing) is fault (past rest) listing' constants' (r .stand))
   pub at : r .done ≡ false → r .stand .at ≡ next
   pub index : r .done ≡ false → r .stand .index ≡ suc (p .index)
-  pub turned : Turned listing constants p listing' constants' r
+  pub turned : Extended listing constants p listing' constants' r
 
 -- one turn
-pub record Taken (stable : Bool) (own : ℕ) (sheet listing constants : List ℕ) (p : Stand) (listing' constants' : List ℕ) (r : Next) : Type 0 where
-  pub same : left stable (length listing) own sheet listing constants p
-      ≡ cond (r .done) (endedAt (r .number) listing' constants' (r .stand)) (left stable (length listing) own sheet listing' constants' (r .stand))
+pub record Taken (mode : Mode) (own : ℕ) (sheet listing constants : List ℕ) (p : Cursor) (listing' constants' : List ℕ) (r : Next) : Type 0 where
+  pub same : left mode (length listing) own sheet listing constants p
+      ≡ cond (r .done) (endedAt (r .number) listing' constants' (r .stand)) (left mode (length listing) own sheet listing' constants' (r .stand))
   pub on : r .done ≡ false → p .at < r .stand .at
   pub index : r .done ≡ false → r .stand .index ≡ suc (p .index)
-  pub turned : Turned listing constants p listing' constants' r
+  pub turned : Extended listing constants p listing' constants' r
 
 -- the whole loop
-pub record Ran (whole : Ended) (l k : List ℕ) (p : Stand) (l' k' : List ℕ) (r : Answer) : Type 0 where
+pub record Ran (whole : Ended) (l k : List ℕ) (p : Cursor) (l' k' : List ℕ) (r : Answer) : Type 0 where
   pub answer : r ≡ answerOf whole
   pub bytes : whole .bytes ≡ take (r .written) l'
   pub consts : whole .state .consts ≡ take (r .count) k'
-  pub listing : Kept l (p .written) l' (r .written)
-  pub constants : Kept k (p .count) k' (r .count)
+  pub listing : Appended l (p .written) l' (r .written)
+  pub constants : Appended k (p .count) k' (r .count)

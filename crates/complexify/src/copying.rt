@@ -5,17 +5,15 @@ ghost use lib.ListN.{length, take};
 ghost use lib.Seq.{sets};
 ghost use Rattle.sheet.specs.Setup.{constantsOf};
 use sheet::setup::constant_at;
+use words::put_bytes;
+use words::put_words;
 
 // Bytes copied from `at` on.
 pub(crate) fn copy_bytes(from: &[u8], to: &mut [u8], at: usize)
     requires { ⌜ at + length (now from) ≤ length (now to) ⌝ }
     ensures { λ r. ⌜ now (to .exit) ≡ sets (now (to .entry)) at (now (from .entry)) ⌝ }
 {
-    let mut i = 0usize;
-    while i < from.len() {
-        to[at + i] = from[i];
-        i += 1;
-    }
+    put_bytes(to, at, from);
 }
 
 // Words copied from `at` on.
@@ -23,11 +21,7 @@ pub(crate) fn copy_words(from: &[u64], to: &mut [u64], at: usize)
     requires { ⌜ at + length (now from) ≤ length (now to) ⌝ }
     ensures { λ r. ⌜ now (to .exit) ≡ sets (now (to .entry)) at (now (from .entry)) ⌝ }
 {
-    let mut i: usize = 0;
-    while i < from.len() {
-        to[at + i] = from[i];
-        i += 1;
-    }
+    put_words(to, at, from);
 }
 
 // The sheet's first `count` constants.

@@ -5,10 +5,11 @@ ghost use lib.ListN.{length};
 ghost use Rattle.complexify.specs.Entry as Spec;
 ghost use Rattle.complexify.specs.Taken.{Ready, Ran, left};
 use super::copying::copy_constants;
-use super::turn::Stand;
+use super::turn::Cursor;
 use super::turn::one;
 use complexifier::state::Complexifier;
 use lowering::realness::Realness;
+use sheet::setup::Mode;
 use sheet::setup::read_setup;
 
 // The number (0: accepted), an instruction's index, the bytes written, the count of constants, and the final record of realness.
@@ -20,7 +21,7 @@ pub struct Answer {
     pub real: Realness,
 }
 
-fn answer_at(number: u8, p: Stand) -> Answer
+fn answer_at(number: u8, p: Cursor) -> Answer
     ensures { λ r. ⌜ r ≡ record { number = number; index = p .index; written = p .written; count = p .count; real = p .low .real } ⌝ }
 {
     let low = p.low;
@@ -51,19 +52,19 @@ fn wrong_setup() -> Answer
 fn run(
     sheet: &[u8],
     own: usize,
-    stable: bool,
-    start: Stand,
+    mode: Mode,
+    start: Cursor,
     stage: &mut [u8],
     listing: &mut [u8],
     constants: &mut [u64],
 ) -> Answer
     requires { ⌜ Ready (now stage) (now listing) (now constants) start ⌝ }
     requires { ⌜ (start .index ≤ start .at) × (length (now sheet) ≤ 16384) ⌝ }
-    ensures { λ r. ⌜ Ran (left stable (length (now (listing .entry))) own (now (sheet .entry)) (now (listing .entry)) (now (constants .entry)) start) (now (listing .entry)) (now (constants .entry)) start (now (listing .exit)) (now (constants .exit)) r ⌝ }
+    ensures { λ r. ⌜ Ran (left mode (length (now (listing .entry))) own (now (sheet .entry)) (now (listing .entry)) (now (constants .entry)) start) (now (listing .entry)) (now (constants .entry)) start (now (listing .exit)) (now (constants .exit)) r ⌝ }
 {
     let mut p = start;
     while p.at < sheet.len() {
-        let t = one(sheet, own, stable, p, stage, listing, constants);
+        let t = one(sheet, own, mode, p, stage, listing, constants);
         let next = t.stand;
         if t.done {
             return answer_at(t.number, next);
@@ -95,7 +96,7 @@ pub fn lower(sheet: &[u8], listing: &mut [u8], constants: &mut [u64]) -> Answer
         real: Realness::fresh(places),
         root_defined: false,
     };
-    let start = Stand {
+    let start = Cursor {
         at: setup.start,
         index: 0,
         written: 0,
@@ -103,13 +104,6 @@ pub fn lower(sheet: &[u8], listing: &mut [u8], constants: &mut [u64]) -> Answer
         low: low,
     };
     let mut stage = [0u8; 704];
-    run(
-        sheet,
-        own,
-        setup.stable,
-        start,
-        &mut stage,
-        listing,
-        constants,
-    )
+    let mode = setup.mode;
+    run(sheet, own, mode, start, &mut stage, listing, constants)
 }

@@ -2,20 +2,22 @@
 ghost use mathlib.Core.Path.{_≡_};
 ghost use Prim.Native.Nat.{_<_};
 ghost use lib.ListN.{length};
-ghost use Rattle.complexify.specs.Taken.{Ready, Fits, Finished, Lowered, Taken, refusal};
+ghost use Rattle.complexify.specs.Taken.{Ready, Fits, Finished, LoweredOne, Taken, refusal};
 use super::barred::barred;
 use super::copying::copy_bytes;
 use super::copying::copy_words;
 use complexifier::state::Complexifier;
 use mir::records::Instruction;
 use rerun::instruction::rerun;
-use rerun::turn::Turn;
+use rerun::output::Output;
 use sheet::reader::NextInstruction;
 use sheet::reader::read_instruction;
+use sheet::setup::Mode;
+use sheet::setup::is_stable;
 
 // Where lowering stands: before the instruction at a position of the sheet, with this index, after so many bytes of the listing and so
 // many constants.
-pub struct Stand {
+pub struct Cursor {
     pub at: usize,
     pub index: usize,
     pub written: usize,
@@ -27,10 +29,10 @@ pub struct Stand {
 pub struct Next {
     pub done: bool,
     pub number: u8,
-    pub stand: Stand,
+    pub stand: Cursor,
 }
 
-fn refused(number: u8, stand: Stand) -> Next
+fn refused(number: u8, stand: Cursor) -> Next
     ensures { λ r. ⌜ r ≡ refusal number stand ⌝ }
 {
     Next {
@@ -42,10 +44,10 @@ fn refused(number: u8, stand: Stand) -> Next
 
 // An instruction's bytes and constants, copied behind the finished ones; 7 where the bytes exceed those left.
 fn finish(
-    t: Turn,
+    t: Output,
     bytes: &[u8],
     next: usize,
-    p: Stand,
+    p: Cursor,
     listing: &mut [u8],
     constants: &mut [u64],
 ) -> Next
@@ -58,7 +60,7 @@ fn finish(
     let added = t.added;
     let more = added.count;
     let low = t.low;
-    let stand = Stand {
+    let stand = Cursor {
         at: next,
         index: p.index + 1,
         written: written + n,
@@ -82,23 +84,23 @@ fn finish(
 fn lower_one(
     instruction: Instruction,
     next: usize,
-    stable: bool,
-    p: Stand,
+    mode: Mode,
+    p: Cursor,
     stage: &mut [u8],
     listing: &mut [u8],
     constants: &mut [u64],
 ) -> Next
     requires { ⌜ Ready (now stage) (now listing) (now constants) p ⌝ }
     requires { ⌜ p .index < 65536 ⌝ }
-    ensures { λ r. ⌜ Lowered stable instruction next (now (listing .entry)) (now (constants .entry)) p (now (listing .exit)) (now (constants .exit)) r ⌝ }
+    ensures { λ r. ⌜ LoweredOne mode instruction next (now (listing .entry)) (now (constants .entry)) p (now (listing .exit)) (now (constants .exit)) r ⌝ }
 {
     let low = p.low;
     let real = low.real;
-    if barred(stable, instruction, real) {
+    if barred(is_stable(mode), instruction, real) {
         return refused(6, p);
     }
     let count = p.count;
-    let t = rerun(low, &constants[..count], stable, stage, 0, instruction);
+    let t = rerun(low, &constants[..count], mode, stage, 0, instruction);
     let n = t.at;
     finish(t, &stage[..n], next, p, listing, constants)
 }
@@ -107,8 +109,8 @@ fn lower_one(
 pub(crate) fn one(
     sheet: &[u8],
     own: usize,
-    stable: bool,
-    p: Stand,
+    mode: Mode,
+    p: Cursor,
     stage: &mut [u8],
     listing: &mut [u8],
     constants: &mut [u64],
@@ -116,14 +118,14 @@ pub(crate) fn one(
     requires { ⌜ Ready (now stage) (now listing) (now constants) p ⌝ }
     requires { ⌜ p .index < 65536 ⌝ }
     requires { ⌜ p .at < length (now sheet) ⌝ }
-    ensures { λ r. ⌜ Taken stable own (now (sheet .entry)) (now (listing .entry)) (now (constants .entry)) p (now (listing .exit)) (now (constants .exit)) r ⌝ }
+    ensures { λ r. ⌜ Taken mode own (now (sheet .entry)) (now (listing .entry)) (now (constants .entry)) p (now (listing .exit)) (now (constants .exit)) r ⌝ }
 {
     let at = p.at;
     match read_instruction(sheet, at, own) {
         NextInstruction::Got(instruction, next) => lower_one(
             instruction,
             next,
-            stable,
+            mode,
             p,
             stage,
             listing,

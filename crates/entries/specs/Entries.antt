@@ -4,7 +4,7 @@ use mathlib.Core.Path.{_≡_}
 use mathlib.Core.List.{List}
 use mathlib.Core.Option.{some}
 use lib.ListN.{length, take}
-use Rattle.machine.specs.Machine.{Store}
+use Rattle.player_machine.specs.Machine.{Store}
 use Rattle.complexify.specs.Entry.{answer, listingAfter, constantsAfter}
 use Rattle.leftovers.specs.Leftovers.{Alike, Lowered, sheetOf, realAt, standing, Claim}
 

@@ -11,14 +11,14 @@ use Rattle.mir.specs.declared.ops.FusedOp.{FusedOp}
 use Rattle.mir.specs.declared.records.Loc.{Loc}
 use Rattle.mir.specs.declared.records.Work.{Work}
 use Rattle.mir.specs.Operation.{uniNumber, binNumber, arithNumber, fusedNumber}
-use Rattle.machine.specs.Machine.{Store, Write, _≔_, writes}
+use Rattle.player_machine.specs.Machine.{Store, Write, _≔_, writes}
 use Rattle.complexify.specs.declared.entry.Answer.{Answer}
 use Rattle.complexify.specs.Entry.{answer, listingAfter, constantsAfter}
 
 -- a sheet's bytes, lowered in a listing slice of `room` bytes: "a number (0: accepted), an instruction's index, listing bytes written, a
 -- count of constants and the final record of realness" (the registers recorded as real, the 64 bytes of the places), and the bytes and
 -- constants themselves
-pub record Lowered : Type 0 where
+pub record LoweredSheet : Type 0 where
   pub sheet : List ℕ
   pub room : ℕ
   pub number : ℕ
@@ -45,7 +45,7 @@ pub record Computed : Type 0 where
   pub gives : List ℕ
 
 pub data Fact : Type 0 where
-  lowered : Lowered → Fact
+  lowered : LoweredSheet → Fact
   computed : Computed → Fact
 
 -- ---- what the definitions give

@@ -20,7 +20,7 @@ use Rattle.sheet.specs.Instruction.{instructionFrom}
 use Rattle.float.specs.Root.{squareRoot}
 use Rattle.float.specs.Fused.{fusedMultiplyAdd}
 use Rattle.float.specs.Integral.{roundToIntegral}
-use Rattle.machine.specs.Machine.{uniWord, binWord, fusedWord, complexWords, writes}
+use Rattle.player_machine.specs.Machine.{uniWord, binWord, fusedWord, complexWords, writes}
 use Rattle.lowering.specs.Complexifier as c
 use Rattle.lowering.specs.Rerun.{rerun, rerunUni, rerunBin}
 use Rattle.lowering.specs.Lower.{lowerSheet}

@@ -7,8 +7,8 @@ use native.Mathlib.Omega.{arith}
 use lib.ListN.{length}
 use lib.Dec.{ltb, eqb}
 use borrow.Author.Tests.{eq-eqb, ne-eqb, lt-ltb}
-use Rattle.machine.specs.Machine.{Store}
-use Rattle.machine.specs.Answer.{Answer, refuse, answer}
+use Rattle.player_machine.specs.Machine.{Store}
+use Rattle.player_machine.specs.Answer.{Answer, refuse, answer}
 use Rattle.player.specs.declared.Answer as player
 use Rattle.player.specs.Values.{whole}
 use Rattle.words.specs.Bytes.{bytesOf, wordsOf, stored}

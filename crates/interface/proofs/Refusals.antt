@@ -8,9 +8,9 @@ use borrow.Author.Tests.{eqb-true, not-false}
 use lib.ListN.{length, drop, getD}
 use lib.Dec.{ltb, eqb}
 use Rattle.records.specs.Record.{records}
-use Rattle.machine.specs.Machine.{Store, block, play, going}
-use Rattle.machine.specs.Jumps.{breach}
-use Rattle.machine.specs.Answer.{Answer, refuse, accept, answer}
+use Rattle.player_machine.specs.Machine.{Store, block, play, going}
+use Rattle.player_machine.specs.Jumps.{breach}
+use Rattle.player_machine.specs.Answer.{Answer, refuse, accept, answer}
 use Rattle.words.specs.Bytes.{bytesOf, wordsOf}
 use Rattle.words.proofs.RoundTrip.{bytesOf-wordsOf}
 use Rattle.interface.specs.Calls.{PlayCall, given, playCall}

@@ -4,7 +4,7 @@ use mathlib.Core.Bool.{Bool, not, cond, _||_}
 use mathlib.Core.List.{List, [], _∷_, _++_, map}
 use lib.ListN.{length}
 use lib.Dec.{eqb}
-use Rattle.machine.specs.Answer.{Answer, answer}
+use Rattle.player_machine.specs.Answer.{Answer, answer}
 use Rattle.complexify.specs.declared.entry.Answer as Lowered
 use Rattle.complexify.specs.Entry as Lower
 use Rattle.words.specs.Bytes.{bytesOf, wordsOf}

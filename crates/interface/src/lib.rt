@@ -2,7 +2,7 @@
 ghost use mathlib.Core.Path.{_≡_};
 ghost use mathlib.Core.List.{[], _∷_};
 ghost use lib.ListN.{length};
-ghost use Rattle.machine.specs.Answer.{answer};
+ghost use Rattle.player_machine.specs.Answer.{answer};
 ghost use Rattle.player.specs.Values.{whole};
 ghost use Rattle.complexify.specs.Entry as Entry;
 ghost use Rattle.words.specs.Bytes.{bytesOf, wordsOf, stored};

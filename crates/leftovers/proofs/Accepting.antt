@@ -10,40 +10,42 @@ use borrow.Author.Tests.{ltb-false}
 use Rattle.mir.specs.declared.records.Instruction.{Instruction}
 use Rattle.mir.specs.Encode.{encodeAll}
 use Rattle.records.proofs.Round.{encodeAll-append}
+use Rattle.sheet.specs.declared.setup.Mode.{Mode}
+use Rattle.sheet.specs.Setup.{isStable}
 use Rattle.lowering.specs.Complexifier.{State, Out, then, unlisted}
 use Rattle.lowering.specs.Rerun.{rerun, complexify}
-use Rattle.lowering.specs.Lower.{barred, Ended, ended, lowerFrom}
+use Rattle.lowering.specs.Lower.{barred, Ended, ended, past, lowerFrom}
 
-pub record Wrote (stable : Bool) (room : ℕ) (is : List Instruction) (fault : ℕ) (bytes : List ℕ) (s : State) (e : Ended) : Type 0 where
+pub record Wrote (mode : Mode) (room : ℕ) (is : List Instruction) (fault : ℕ) (bytes : List ℕ) (s : State) (e : Ended) : Type 0 where
   pub sound : fault ≡ 0
-  pub listing : e .bytes ≡ bytes ++ encodeAll (complexify stable is s .records)
-  pub last : e .state ≡ complexify stable is s .after
+  pub listing : e .bytes ≡ bytes ++ encodeAll (complexify mode is s .records)
+  pub last : e .state ≡ complexify mode is s .after
   pub fits : length (e .bytes) ≤ room
 
-pub wrote : (stable : Bool) (room : ℕ) (is : List Instruction) (fault index : ℕ) (bytes : List ℕ) (s : State) → length bytes ≤ room
-    → lowerFrom stable room is fault index bytes s .number ≡ 0
-    → Wrote stable room is fault bytes s (lowerFrom stable room is fault index bytes s)
+pub wrote : (mode : Mode) (room : ℕ) (is : List Instruction) (fault : ℕ) (rest : List ℕ) (index : ℕ) (bytes : List ℕ) (s : State) → length bytes ≤ room
+    → lowerFrom mode room is fault rest index bytes s .number ≡ 0
+    → Wrote mode room is fault bytes s (lowerFrom mode room is fault rest index bytes s)
 unfolding lowerFrom complexify then unlisted
-wrote stable room [] fault index bytes s h e = record { sound = e; listing = sym (append-nil bytes); last = refl; fits = h }
-wrote stable room (i ∷ is) fault index bytes s h e =
-    go (barred stable i (s .real)) (ltb room (length bytes + length new)) refl e (wrote stable room is fault (suc index) (bytes ++ new) (o .after))
+wrote mode room [] fault rest index bytes s h e = record { sound = e; listing = sym (append-nil bytes); last = refl; fits = h }
+wrote mode room (i ∷ is) fault rest index bytes s h e =
+    go (barred (isStable mode) i (s .real)) (ltb room (length bytes + length new)) refl e (wrote mode room is fault (past rest) (suc index) (bytes ++ new) (o .after))
   where
     o : Out
-    o = rerun stable i s
+    o = rerun mode i s
 
     p : Out
-    p = complexify stable is (o .after)
+    p = complexify mode is (o .after)
 
     new : List ℕ
     new = encodeAll (o .records)
 
-    rest : Ended
-    rest = lowerFrom stable room is fault (suc index) (bytes ++ new) (o .after)
+    on : Ended
+    on = lowerFrom mode room is fault (past rest) (suc index) (bytes ++ new) (o .after)
 
     go : (x y : Bool) → ltb room (length bytes + length new) ≡ y
-        → cond x (ended 6 index bytes s) (cond y (ended 7 index bytes s) rest) .number ≡ 0
-        → (length (bytes ++ new) ≤ room → rest .number ≡ 0 → Wrote stable room is fault (bytes ++ new) (o .after) rest)
-        → Wrote stable room (i ∷ is) fault bytes s (cond x (ended 6 index bytes s) (cond y (ended 7 index bytes s) rest))
+        → cond x (ended 6 index bytes s) (cond y (ended 7 index bytes s) on) .number ≡ 0
+        → (length (bytes ++ new) ≤ room → on .number ≡ 0 → Wrote mode room is fault (bytes ++ new) (o .after) on)
+        → Wrote mode room (i ∷ is) fault bytes s (cond x (ended 6 index bytes s) (cond y (ended 7 index bytes s) on))
     go true y t e ih = absurd (omega arith)
     go false true t e ih = absurd (omega arith)
     go false false t e ih =

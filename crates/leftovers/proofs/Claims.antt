@@ -12,8 +12,8 @@ use Rattle.mir.specs.declared.records.Instruction.{Instruction}
 use Rattle.mir.specs.declared.records.Record.{Record}
 use Rattle.mir.specs.Encode.{encodeAll}
 use Rattle.sheet.specs.Instruction.{instructions}
-use Rattle.machine.specs.Machine.{Store, block, going, reach}
-use Rattle.machine.specs.Answer.{accept}
+use Rattle.player_machine.specs.Machine.{Store, block, going, reach}
+use Rattle.player_machine.specs.Answer.{accept}
 use Rattle.lowering.specs.declared.realness.Realness.{Realness}
 use Rattle.lowering.specs.Realness.{isRealReg}
 use Rattle.lowering.specs.Rerun.{complexify}
@@ -82,12 +82,12 @@ module _ (s : Sheet) (v : AllIn (length (s .constants)) (s .instructions)) (f : 
           omega arith
 
   -- every later instruction is reached
-  no-mixing : (i : ℕ) (σ : Store) → (Mixing l i σ → ⊥) → HalvesOk (s .stable) (drop i (s .instructions)) (upTo s i .after)
+  no-mixing : (i : ℕ) (σ : Store) → (Mixing l i σ → ⊥) → HalvesOk (s .mode) (drop i (s .instructions)) (upTo s i .after)
   unfolding l
-  no-mixing i σ g = halves (s .stable) (drop i (s .instructions)) (upTo s i .after) half-ok
+  no-mixing i σ g = halves (s .mode) (drop i (s .instructions)) (upTo s i .after) half-ok
     where
       half-ok : (n : ℕ) → n < length (drop i (s .instructions))
-          → HalfOk (complexify (s .stable) (take n (drop i (s .instructions))) (upTo s i .after) .after .real)
+          → HalfOk (complexify (s .mode) (take n (drop i (s .instructions))) (upTo s i .after) .after .real)
           (getD (drop i (s .instructions)) n Instruction.Nop)
       half-ok n h d a e x =
           subst (λ (ρ : Realness). isRealReg ρ d ≡ true) (sym (real-at s v' i n h)) (go (isRealReg (realAt s (i + n)) d) refl)

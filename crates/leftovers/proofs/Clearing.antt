@@ -1,12 +1,12 @@
 -- `ensure_complex` clears an imaginary half: the methods that begin with it.
 use mathlib.Core.Path.{_≡_, refl, sym, _∙_, subst}
 use mathlib.Core.Bool.{Bool, true, false, true≢false}
-use mathlib.Core.Logic.{_≢_, _⊎_, inl, inr}
+use mathlib.Core.Logic.{_⊎_, inl, inr}
 use mathlib.Core.List.{List, [], _∷_, map}
 use Prim.Native.Nat.{ℕ, _<_}
 use native.Mathlib.Omega.{arith}
 use native.Mathlib.Decide.{ℕ-discrete, decLt}
-use lib.ListN.{length, set, length-set, List·getD-eq-default}
+use lib.ListN.{length, getD, set, length-set, List·getD-eq-default}
 use lib.Seq.{getD-set-same, getD-set-other}
 use lib.Dec.{lit<}
 use Rattle.mir.specs.declared.ops.BinOp.{BinOp}
@@ -15,16 +15,18 @@ use Rattle.mir.specs.declared.records.Work.{Work}
 use Rattle.mir.specs.declared.records.Record.{Record}
 use Rattle.mir.specs.Register.{re, im}
 use Rattle.mir.specs.Place.{index}
-use Rattle.machine.specs.Machine.{Store, at, binWord, writes, put, exec, execs}
+use Rattle.mir.specs.Takes.{takesBin}
+use Rattle.player_machine.specs.Machine.{Store, at, binWord, writes, put, exec, execs}
 use Rattle.lowering.specs.declared.realness.Realness.{Realness}
 use Rattle.lowering.specs.Realness.{isRealReg, isRealLoc, setReg}
 use Rattle.lowering.specs.Lines.{ensureLines}
-use Rattle.lowering.specs.Lines.{neqLines, ifelseLines}
+use Rattle.lowering.specs.Lines.{compareLines, ifelseLines}
 use Rattle.lowering.specs.Complexifier as c
 use Rattle.lowering.specs.Complexifier.{State, then, emit}
 use Rattle.leftovers.specs.Kept.{Kept, kept-im}
-use Rattle.leftovers.proofs.Rows.{weaken, either, xor-zero}
-use Rattle.leftovers.proofs.Names.{rename, good, kept-new, leaf-agree, Span, span, general, ret, temp}
+use Rattle.player_machine.proofs.Drawing.{xor-zero}
+use Rattle.leftovers.proofs.Rows.{weaken, either}
+use Rattle.leftovers.proofs.Names.{rename, good, kept-new, leaf-agree, halves-apart, im-apart}
 use Rattle.mir.proofs.Decoding.{none}
 use Rattle.records.proofs.Holding.{Stacked}
 use Rattle.leftovers.proofs.Held.{all-listed}
@@ -35,41 +37,13 @@ use Rattle.leftovers.proofs.Methods.{Keeps}
 
 -- ---- clearing an imaginary half
 
--- the halves of the registers are apart
-pub halves-apart : (r d : ℕ) → re r ≢ im d
-halves-apart r d = go (span r) (span d)
+-- what was set is read again, also past the end where it is what is read there
+set-here : {A : Type 0} (l : List A) (i : ℕ) (a : A) → getD (set l i a) i a ≡ a
+set-here l i a = go (decLt i (length l))
   where
-    go : Span r → Span d → re r ≢ im d
-    go (general g e1 e2) (general h f1 f2) = omega arith
-    go (general g e1 e2) (ret h f1 f2) = omega arith
-    go (general g e1 e2) (temp h f1 f2) = omega arith
-    go (ret g e1 e2) (general h f1 f2) = omega arith
-    go (ret g e1 e2) (ret h f1 f2) = omega arith
-    go (ret g e1 e2) (temp h f1 f2) = omega arith
-    go (temp g e1 e2) (general h f1 f2) = omega arith
-    go (temp g e1 e2) (ret h f1 f2) = omega arith
-    go (temp g e1 e2) (temp h f1 f2) = omega arith
-
-pub im-apart : (r d : ℕ) → r < 32 → d < 32 → r ≢ d → im r ≢ im d
-im-apart r d hr hd n = go (span r) (span d)
-  where
-    go : Span r → Span d → im r ≢ im d
-    go (general g e1 e2) (general h f1 f2) = omega arith
-    go (general g e1 e2) (ret h f1 f2) = omega arith
-    go (general g e1 e2) (temp h f1 f2) = omega arith
-    go (ret g e1 e2) (general h f1 f2) = omega arith
-    go (ret g e1 e2) (ret h f1 f2) = omega arith
-    go (ret g e1 e2) (temp h f1 f2) = omega arith
-    go (temp g e1 e2) (general h f1 f2) = omega arith
-    go (temp g e1 e2) (ret h f1 f2) = omega arith
-    go (temp g e1 e2) (temp h f1 f2) = omega arith
-
-set-zero : (σ : Store) (i : ℕ) → at (set σ i 0) i ≡ 0
-set-zero σ i = go (decLt i (length σ))
-  where
-    go : Dec (i < length σ) → at (set σ i 0) i ≡ 0
-    go (yes h) = getD-set-same σ i 0 0 h
-    go (no h) = List·getD-eq-default (set σ i 0) 0 {n = i} (omega (arith, length-set σ i 0))
+    go : Dec (i < length l) → getD (set l i a) i a ≡ a
+    go (yes h) = getD-set-same l i a a h
+    go (no h) = List·getD-eq-default (set l i a) a {n = i} (omega (arith, length-set l i a))
 
 module _ (k : List ℕ) (B : List Work) (X Z : ℕ → Type 0) (H : Type 0) (s : State) (a : ℕ) (ha : a < 32) where
   clear-frame : Z a → (σ : Store) → Frame X Z σ (execs k (Work.Bi BinOp.Xor (im a) (im a) (im a) ∷ []) σ)
@@ -81,7 +55,7 @@ module _ (k : List ℕ) (B : List Work) (X Z : ℕ → Type 0) (H : Type 0) (s :
 
       go : Dec (r ≡ a)
           → (at (set σ (im a) v) (re r) ≡ at σ (re r)) × ((at (set σ (im a) v) (im r) ≡ at σ (im r)) ⊎ (Z r × (at (set σ (im a) v) (im r) ≡ 0)))
-      go (yes e) = (getD-set-other σ (im a) (re r) v 0 (halves-apart r a), inr (rw e z, rw (e, xor-zero (at σ (im a))) (set-zero σ (im a))))
+      go (yes e) = (getD-set-other σ (im a) (re r) v 0 (halves-apart r a), inr (rw e z, rw (e, xor-zero (at σ (im a))) (set-here σ (im a) 0)))
       go (no e) =
           (getD-set-other σ (im a) (re r) v 0 (halves-apart r a), inl (getD-set-other σ (im a) (im r) v 0 (im-apart r a (omega arith) ha e)))
 
@@ -105,11 +79,7 @@ module _ (k : List ℕ) (B : List Work) (X Z : ℕ → Type 0) (H : Type 0) (s :
 -- ---- the record of realness after a register is set complex
 
 pub complex-set : (ρ : Realness) (d : ℕ) → isRealReg (setReg ρ d false) d ≡ false
-complex-set ρ d = go (decLt d (length (ρ .regs)))
-  where
-    go : Dec (d < length (ρ .regs)) → isRealReg (setReg ρ d false) d ≡ false
-    go (yes h) = getD-set-same (ρ .regs) d false false h
-    go (no h) = List·getD-eq-default (set (ρ .regs) d false) false {n = d} (omega (arith, length-set (ρ .regs) d false))
+complex-set ρ d = set-here (ρ .regs) d false
 
 pub complex-stays : (ρ : Realness) (d r : ℕ) → isRealReg ρ r ≡ false → isRealReg (setReg ρ d false) r ≡ false
 complex-stays ρ d r e = go (ℕ-discrete r d)
@@ -146,11 +116,11 @@ module _ (k : List ℕ) (B : List Work) (Z : ℕ → Type 0) (H : Type 0) (s : S
       (ensure-keeps k B X Z H (c.ensureComplex a s .after) b hb
       (λ e. zb (real-before (s .real) a b (unfold c.ensureComplex emit in e))))
 
-  pub neq-keeps : Keeps k B (λ r. r ≡ d) Z H s (c.neq d a b s)
-  unfolding c.neq then emit c.ensureComplex good rename neqLines ρ₂
-  neq-keeps =
+  pub compare-keeps : (op by : BinOp) → takesBin true op ≡ true → takesBin true by ≡ true → Keeps k B (λ r. r ≡ d) Z H s (c.compare op by d a b s)
+  unfolding c.compare then emit c.ensureComplex good rename compareLines ρ₂
+  compare-keeps op by e f =
       join (both-keep (λ r. r ≡ d))
-      (leaf₂ k B Z H ρ₂ d a b hd ha hb false false true a-complex b-complex (neqLines 0 1 2) (neqLines d a b) tt refl tt)
+      (leaf₂ k B Z H ρ₂ d a b hd ha hb false false true a-complex b-complex (compareLines op by 0 1 2) (compareLines op by d a b) (simp (e, f) tt) refl tt)
 
   pub ifelse-keeps : (p : Loc) → index p < 256 → Stacked p → Keeps k B (λ r. r ≡ d) Z H s (c.ifelse d a b p s)
   unfolding c.ifelse then emit c.ensureComplex good rename ifelseLines ρ₂
@@ -158,4 +128,4 @@ module _ (k : List ℕ) (B : List Work) (Z : ℕ → Type 0) (H : Type 0) (s : S
       let z = isRealLoc (ρ₂ .places) p in
       join (both-keep (λ r. r ≡ d))
       (leaf k B Z H ρ₂ d a b p hd ha hb hp false false z false a-complex b-complex refl
-      (ifelseLines 0 1 2 (Loc.Stack 0)) (ifelseLines d a b p) tt refl (st, (st, tt)))
+      (ifelseLines 0 1 2 (Loc.Stack 2)) (ifelseLines d a b p) tt refl (st, (st, tt)))

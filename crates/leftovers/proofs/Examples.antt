@@ -21,9 +21,9 @@ use Rattle.mir.specs.Encode.{recordOf}
 use Rattle.sheet.specs.Setup.{setup}
 use Rattle.sheet.specs.Instruction.{instructionFrom}
 use Rattle.records.specs.Record.{recordFrom}
-use Rattle.machine.specs.Machine.{Store, at, uniWord, binWord, writes, put, exec, ticks, play, reach}
-use Rattle.machine.specs.Jumps.{breach}
-use Rattle.machine.specs.Answer.{answer}
+use Rattle.player_machine.specs.Machine.{Store, at, uniWord, binWord, writes, put, exec, ticks, play, reach}
+use Rattle.player_machine.specs.Jumps.{breach}
+use Rattle.player_machine.specs.Answer.{answer}
 use Rattle.lowering.specs.declared.realness.Realness.{Realness}
 use Rattle.lowering.specs.Realness.{isRealReg}
 use Rattle.lowering.specs.Lines.{realLines}

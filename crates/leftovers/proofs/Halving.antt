@@ -3,7 +3,7 @@ use mathlib.Core.Path.{_≡_, refl, sym, ap, _∙_}
 use mathlib.Core.Bool.{Bool, true, false, true≢false}
 use mathlib.Core.Logic.{_≢_}
 use mathlib.Core.List.{List, [], _∷_}
-use Prim.Native.Nat.{ℕ, suc, _<_}
+use Prim.Native.Nat.{ℕ, _<_}
 use native.Mathlib.Omega.{arith}
 use lib.ListN.{set, length-set}
 use lib.Seq.{getD-set-other, set-getD}
@@ -12,20 +12,20 @@ use Rattle.mir.specs.declared.ops.UniOp.{UniOp}
 use Rattle.mir.specs.declared.records.Loc.{Loc}
 use Rattle.mir.specs.declared.records.Work.{Work}
 use Rattle.mir.specs.Register.{im}
-use Rattle.machine.specs.Machine.{Store, at, place, uniWord, writes, put, exec, execs}
+use Rattle.player_machine.specs.Machine.{Store, at, uniWord, writes, put, exec, execs}
+use Rattle.sheet.specs.declared.setup.Mode.{Mode}
 use Rattle.lowering.specs.declared.realness.Realness.{Realness}
 use Rattle.lowering.specs.Realness.{isRealReg, isRealLoc, setReg}
 use Rattle.lowering.specs.Lines.{halfLines}
 use Rattle.lowering.specs.Complexifier as c
 use Rattle.lowering.specs.Complexifier.{State}
 use Rattle.leftovers.specs.Kept.{Kept, kept-re, kept-im, kept-word, kept-next}
-use Rattle.leftovers.proofs.Rows.{Agree, all-in, given, gives}
-use Rattle.leftovers.proofs.Names.{rename, good, lines-frame, leaf-agree, Span, span, general, ret, temp}
+use Rattle.leftovers.proofs.Rows.{Agree, all-in, given}
+use Rattle.leftovers.proofs.Names.{rename, good, lines-frame, leaf-agree, re-in, im-next, halves-apart, im-apart}
 use Rattle.leftovers.proofs.Held.{all-listed}
 use Rattle.leftovers.proofs.Names.{rename-held}
 use Rattle.leftovers.proofs.Stretch.{works-safe}
 use Rattle.leftovers.proofs.Methods.{Keeps, two}
-use Rattle.leftovers.proofs.Clearing.{halves-apart, im-apart}
 
 -- ---- Half
 
@@ -33,18 +33,8 @@ use Rattle.leftovers.proofs.Clearing.{halves-apart, im-apart}
 kept-apart : {ρ : Realness} {w : ℕ} (d : ℕ) → d < 32 → isRealReg ρ d ≡ true → Kept ρ w → w ≢ im d
 kept-apart d hd e (kept-re r h) = halves-apart r d
 kept-apart {ρ} d hd e (kept-im r h f) = im-apart r d h hd (λ q. true≢false (sym e ∙ ap (isRealReg ρ) (sym q) ∙ f))
-kept-apart d hd e (kept-word p h) = go (span d)
-  where
-    go : Span d → place p ≢ im d
-    go (general g e1 e2) = omega arith
-    go (ret g e1 e2) = omega arith
-    go (temp g e1 e2) = omega arith
-kept-apart d hd e (kept-next p h f) = go (span d)
-  where
-    go : Span d → suc (place p) ≢ im d
-    go (general g e1 e2) = omega arith
-    go (ret g e1 e2) = omega arith
-    go (temp g e1 e2) = omega arith
+kept-apart d hd e (kept-word p h) = omega (arith, im-next d, re-in d .0)
+kept-apart d hd e (kept-next p h f) = omega (arith, im-next d, re-in d .0)
 
 -- writing different bits to a word that is not kept
 set-apart : {C : ℕ → Type 0} {σ τ : Store} (i v u : ℕ) → ((w : ℕ) → C w → w ≢ i) → Agree C σ τ → Agree C (set σ i v) (set τ i u)
@@ -69,9 +59,9 @@ module _ (k : List ℕ) (B : List Work) (Z : ℕ → Type 0) (H : Type 0) (s : S
       let l = Work.Uni UniOp.Half 4 6 ∷ [] in
       rw set-back at (leaf-agree (s .real) d a a (Loc.Mem 0) hd ha ha (lit< tt) true true false e e refl k q l (rw (c refl) tt) h)
 
-  pub half-keeps : (H → isRealReg (s .real) a ≡ true → isRealReg (s .real) d ≡ true) → Keeps k B (λ r. r ≡ d) Z H s (c.half d a s)
-  unfolding c.half halfLines good rename given all-in gives all-listed
-  half-keeps c =
+  pub half-keeps : (m : Mode) → (H → isRealReg (s .real) a ≡ true → isRealReg (s .real) d ≡ true) → Keeps k B (λ r. r ≡ d) Z H s (c.half m d a s)
+  unfolding c.half halfLines good rename given all-in all-listed
+  half-keeps m c =
       works-safe (halfLines d a) (λ σ τ h g. half-agree (isRealReg (s .real) a) refl (c h) σ τ g)
       (lines-frame (λ r. r ≡ d) Z d a a (Loc.Mem 0) k (halfLines 0 1) tt (λ r h n. n))
       (λ few. rename-held d a a (Loc.Mem 0) k (halfLines 0 1) few (lit< tt) tt tt)

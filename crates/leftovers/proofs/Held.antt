@@ -9,7 +9,7 @@ use Rattle.mir.specs.declared.records.Loc.{Loc}
 use Rattle.mir.specs.declared.records.Work.{Work}
 use Rattle.mir.specs.declared.records.Record.{Record}
 use Rattle.mir.specs.Place.{index}
-use Rattle.records.specs.Takes.{takesUni, takesBin, takesFused}
+use Rattle.mir.specs.Takes.{takesUni, takesBin, takesFused}
 use Rattle.mir.proofs.Decoding.{none, and}
 use Rattle.records.proofs.Holding.{Saved, Stacked, Holds, AllHold}
 use Rattle.leftovers.proofs.Rows.{T→true, has, all-in, and-l, and-r, ren}
@@ -25,13 +25,13 @@ registers = 0 ∷ 1 ∷ 2 ∷ 3 ∷ 4 ∷ 5 ∷ 6 ∷ 7 ∷ 8 ∷ 9 ∷ 64 ∷ 6
 -- a line has an operation that a listing takes, and its registers' names are such
 unfoldable pub listed : Work → Bool
 unfolding all-in
-listed (Work.Uni op d a) = takesUni op && all-in (d ∷ a ∷ []) registers
-listed (Work.Bi op d a b) = takesBin op && all-in (d ∷ a ∷ b ∷ []) registers
+listed (Work.Uni op d a) = takesUni true op && all-in (d ∷ a ∷ []) registers
+listed (Work.Bi op d a b) = takesBin true op && all-in (d ∷ a ∷ b ∷ []) registers
 listed (Work.Mov d a) = all-in (d ∷ a ∷ []) registers
 listed (Work.Load d q) = all-in (d ∷ []) registers
 listed (Work.Save a q) = all-in (a ∷ []) registers
 listed (Work.LoadConst d i) = all-in (d ∷ []) registers
-listed (Work.Fused op d a b c) = takesFused op && all-in (d ∷ a ∷ b ∷ c ∷ []) registers
+listed (Work.Fused op d a b c) = takesFused true op && all-in (d ∷ a ∷ b ∷ c ∷ []) registers
 listed (Work.IfElse d a b q) = all-in (d ∷ a ∷ b ∷ []) registers
 listed (Work.LoadComplex x y q) = all-in (x ∷ y ∷ []) registers
 listed (Work.SaveComplex x y q) = all-in (x ∷ y ∷ []) registers
@@ -61,17 +61,19 @@ pub held-append : {count : ℕ} {rs rs' : List Record} → AllHold count rs → 
 held-append none k = k
 held-append (and h hs) k = and h (held-append hs k)
 
--- one record more
-hold : {count : ℕ} {rs : List Record} (r : Record) → Holds count r → AllHold count rs → AllHold count (r ∷ rs)
-hold r h hs = and h hs
-
-this : (w : Work) (l : List Work) → T (all-listed (w ∷ l)) → T (listed w)
-unfolding all-listed
-this w l t = and-l (listed w) (all-listed l) t
-
-rest : (w : Work) (l : List Work) → T (all-listed (w ∷ l)) → T (all-listed l)
-unfolding all-listed
-rest w l t = and-r (listed w) (all-listed l) t
+-- what the first of the lines asks, and what the others do
+split : (count : ℕ) (p : Loc) (w : Work) (l : List Work) → Asks count p (w ∷ l) → Asks count p (w ∷ []) × Asks count p l
+split count p (Work.Uni op d a) l h = (tt, h)
+split count p (Work.Bi op d a b) l h = (tt, h)
+split count p (Work.Mov d a) l h = (tt, h)
+split count p (Work.Load d q) l h = (tt, h)
+split count p (Work.Save a q) l h = ((h .0, tt), h .1)
+split count p (Work.LoadConst d i) l h = ((h .0, tt), h .1)
+split count p (Work.Fused op d a b c) l h = (tt, h)
+split count p (Work.IfElse d a b q) l h = ((h .0, tt), h .1)
+split count p (Work.LoadComplex x y q) l h = (tt, h)
+split count p (Work.SaveComplex x y q) l h = ((h .0, tt), h .1)
+split count p (Work.ComplexBi op x y x1 y1 x2 y2) l h = (tt, h)
 
 -- f says which register a name means, p is the place meant
 module _ (count : ℕ) (few : count ≤ 65536) (f : ℕ → ℕ) (p : Loc) (hp : index p < 256)
@@ -89,56 +91,32 @@ module _ (count : ℕ) (few : count ≤ 65536) (f : ℕ → ℕ) (p : Loc) (hp :
   after : (b : Bool) (xs : List ℕ) → T (b && all-in xs registers) → All (λ n. f n ≤ 65) xs
   after b xs t = lows xs (and-r b (all-in xs registers) t)
 
-  pub held-lines : (l : List Work) → T (all-listed l) → Asks count p l → AllHold count (map Record.Work (map (ren f (λ q. p)) l))
+  held-line : (w : Work) → T (listed w) → Asks count p (w ∷ []) → Holds count (Record.Work (ren f (λ q. p) w))
   unfolding listed ren
-  held-lines [] t h = none
-  held-lines (Work.Uni op d a ∷ l) t h =
-      let w = Work.Uni op d a in
-      let u = this w l t in
-      let r = after (takesUni op) (d ∷ a ∷ []) u in
-      hold (Record.Work (ren f (λ q. p) w)) (taken (takesUni op) (d ∷ a ∷ []) u, r .0, r .1 .0) (held-lines l (rest w l t) h)
-  held-lines (Work.Bi op d a b ∷ l) t h =
-      let w = Work.Bi op d a b in
-      let u = this w l t in
-      let r = after (takesBin op) (d ∷ a ∷ b ∷ []) u in
-      hold (Record.Work (ren f (λ q. p) w)) (taken (takesBin op) (d ∷ a ∷ b ∷ []) u, r .0, r .1 .0, r .1 .1 .0)
-      (held-lines l (rest w l t) h)
-  held-lines (Work.Mov d a ∷ l) t h =
-      let w = Work.Mov d a in
-      let r = lows (d ∷ a ∷ []) (this w l t) in
-      hold (Record.Work (ren f (λ q. p) w)) (r .0, r .1 .0) (held-lines l (rest w l t) h)
-  held-lines (Work.Load d q ∷ l) t h =
-      let w = Work.Load d q in
-      let r = lows (d ∷ []) (this w l t) in
-      hold (Record.Work (ren f (λ q. p) w)) (r .0, omega arith) (held-lines l (rest w l t) h)
-  held-lines (Work.Save a q ∷ l) t h =
-      let w = Work.Save a q in
-      let r = lows (a ∷ []) (this w l t) in
-      hold (Record.Work (ren f (λ q. p) w)) (r .0, h .0) (held-lines l (rest w l t) (h .1))
-  held-lines (Work.LoadConst d i ∷ l) t h =
-      let w = Work.LoadConst d i in
-      let r = lows (d ∷ []) (this w l t) in
-      hold (Record.Work (ren f (λ q. p) w)) (r .0, h .0, omega (arith, h .0)) (held-lines l (rest w l t) (h .1))
-  held-lines (Work.Fused op d a b c ∷ l) t h =
-      let w = Work.Fused op d a b c in
-      let u = this w l t in
-      let r = after (takesFused op) (d ∷ a ∷ b ∷ c ∷ []) u in
-      hold (Record.Work (ren f (λ q. p) w)) (taken (takesFused op) (d ∷ a ∷ b ∷ c ∷ []) u, r .0, r .1 .0, r .1 .1 .0, r .1 .1 .1 .0)
-      (held-lines l (rest w l t) h)
-  held-lines (Work.IfElse d a b q ∷ l) t h =
-      let w = Work.IfElse d a b q in
-      let r = lows (d ∷ a ∷ b ∷ []) (this w l t) in
-      hold (Record.Work (ren f (λ q. p) w)) (r .0, r .1 .0, r .1 .1 .0, h .0) (held-lines l (rest w l t) (h .1))
-  held-lines (Work.LoadComplex x y q ∷ l) t h =
-      let w = Work.LoadComplex x y q in
-      let r = lows (x ∷ y ∷ []) (this w l t) in
-      hold (Record.Work (ren f (λ q. p) w)) (r .0, r .1 .0, omega arith) (held-lines l (rest w l t) h)
-  held-lines (Work.SaveComplex x y q ∷ l) t h =
-      let w = Work.SaveComplex x y q in
-      let r = lows (x ∷ y ∷ []) (this w l t) in
-      hold (Record.Work (ren f (λ q. p) w)) (r .0, r .1 .0, h .0) (held-lines l (rest w l t) (h .1))
-  held-lines (Work.ComplexBi op x y x1 y1 x2 y2 ∷ l) t h =
-      let w = Work.ComplexBi op x y x1 y1 x2 y2 in
-      let r = lows (x ∷ y ∷ x1 ∷ y1 ∷ x2 ∷ y2 ∷ []) (this w l t) in
+  held-line (Work.Uni op d a) t h =
+      let r = after (takesUni true op) (d ∷ a ∷ []) t in
+      (taken (takesUni true op) (d ∷ a ∷ []) t, r .0, r .1 .0)
+  held-line (Work.Bi op d a b) t h =
+      let r = after (takesBin true op) (d ∷ a ∷ b ∷ []) t in
+      (taken (takesBin true op) (d ∷ a ∷ b ∷ []) t, r .0, r .1 .0, r .1 .1 .0)
+  held-line (Work.Mov d a) t h = let r = lows (d ∷ a ∷ []) t in (r .0, r .1 .0)
+  held-line (Work.Load d q) t h = let r = lows (d ∷ []) t in (r .0, omega arith)
+  held-line (Work.Save a q) t h = let r = lows (a ∷ []) t in (r .0, h .0)
+  held-line (Work.LoadConst d i) t h = let r = lows (d ∷ []) t in (r .0, h .0, omega (arith, h .0))
+  held-line (Work.Fused op d a b c) t h =
+      let r = after (takesFused true op) (d ∷ a ∷ b ∷ c ∷ []) t in
+      (taken (takesFused true op) (d ∷ a ∷ b ∷ c ∷ []) t, r .0, r .1 .0, r .1 .1 .0, r .1 .1 .1 .0)
+  held-line (Work.IfElse d a b q) t h = let r = lows (d ∷ a ∷ b ∷ []) t in (r .0, r .1 .0, r .1 .1 .0, h .0)
+  held-line (Work.LoadComplex x y q) t h = let r = lows (x ∷ y ∷ []) t in (r .0, r .1 .0, omega arith)
+  held-line (Work.SaveComplex x y q) t h = let r = lows (x ∷ y ∷ []) t in (r .0, r .1 .0, h .0)
+  held-line (Work.ComplexBi op x y x1 y1 x2 y2) t h =
+      let r = lows (x ∷ y ∷ x1 ∷ y1 ∷ x2 ∷ y2 ∷ []) t in
       let s = r .1 .1 in
-      hold (Record.Work (ren f (λ q. p) w)) (r .0, r .1 .0, s .0, s .1 .0, s .1 .1 .0, s .1 .1 .1 .0) (held-lines l (rest w l t) h)
+      (r .0, r .1 .0, s .0, s .1 .0, s .1 .1 .0, s .1 .1 .1 .0)
+
+  pub held-lines : (l : List Work) → T (all-listed l) → Asks count p l → AllHold count (map Record.Work (map (ren f (λ q. p)) l))
+  unfolding all-listed
+  held-lines [] t h = none
+  held-lines (w ∷ l) t h =
+      let q = split count p w l h in
+      and (held-line w (and-l (listed w) (all-listed l) t) (q .0)) (held-lines l (and-r (listed w) (all-listed l) t) (q .1))

@@ -13,24 +13,26 @@ use Rattle.mir.specs.declared.records.Work.{Work}
 use Rattle.mir.specs.declared.records.Instruction.{Instruction}
 use Rattle.mir.specs.Register.{re, im}
 use Rattle.mir.specs.Place.{index}
+use Rattle.sheet.specs.declared.setup.Mode.{Mode}
+use Rattle.sheet.specs.Setup.{isStable}
 use Rattle.lowering.specs.declared.realness.Realness.{Realness}
 use Rattle.lowering.specs.Realness.{isRealReg}
-use Rattle.lowering.specs.Lines.{realRootLines, eachLines}
+use Rattle.lowering.specs.Lines.{realRootLines}
 use Rattle.lowering.specs.Lines.{abs2Lines, timesILines, timesNegILines}
-use Rattle.lowering.specs.Lines.{realLines, imaginaryLines, conjugateLines, complexLines, orderLines, notLines}
+use Rattle.lowering.specs.Lines.{realLines, imaginaryLines, conjugateLines, complexLines, notLines}
 use Rattle.lowering.specs.Complexifier as c
-use Rattle.lowering.specs.Complexifier.{State, then, unlisted, copied, asReal, asComplex, bothAsReal, bothAsComplex}
+use Rattle.lowering.specs.Complexifier.{State, then, unlisted, copied, asReal, asComplex, bothAsComplex}
 use Rattle.lowering.specs.Rerun.{rerunUni, rerunBin, rerunFused, rerun}
 use Rattle.leftovers.proofs.Names.{rename, good}
 use Rattle.leftovers.proofs.Stretch.{join}
 use Rattle.records.proofs.Holding.{Saved, Stacked}
 use Rattle.leftovers.specs.Leftovers.{IsDestination, IsOperand}
-use Rattle.leftovers.proofs.Methods.{Keeps, two, unary, binary, settled, fmov-keeps, abs-keeps, recip-keeps, plus-keeps, minus-keeps}
-use Rattle.leftovers.proofs.Methods.{times-keeps, divide-keeps, arith-keeps, and-keeps, or-keeps, xor-keeps}
-use Rattle.leftovers.proofs.Clearing.{neq-keeps, ifelse-keeps}
+use Rattle.leftovers.proofs.Methods.{Keeps, two, unary, binary, settled, fmov-keeps, each-keeps, abs-keeps, recip-keeps, plus-keeps, minus-keeps}
+use Rattle.leftovers.proofs.Methods.{times-keeps, divide-keeps, arith-keeps, order-keeps, bits-keeps}
+use Rattle.leftovers.proofs.Clearing.{compare-keeps, ifelse-keeps}
 use Rattle.leftovers.proofs.Places.{load-keeps, save-keeps}
 use Rattle.leftovers.proofs.Halving.{half-keeps}
-use Rattle.leftovers.proofs.Root.{Block, unlisted-keeps, root-keeps, root-defines, is-not-zero-keeps, frame-any}
+use Rattle.leftovers.proofs.Root.{Block, unlisted-keeps, root-keeps, root-defines, compare-zero-keeps, frame-any}
 
 -- registers, places and constants within a sheet's limits
 abbrev pub InRange : ℕ → Instruction → Type 0
@@ -54,38 +56,38 @@ Cleared ρ i r = IsOperand i r × (isRealReg ρ r ≡ true)
 abbrev pub HalfOk : Realness → Instruction → Type 0
 HalfOk ρ i = (d a : ℕ) → i ≡ Instruction.Uni UniOp.Half d a → isRealReg ρ a ≡ true → isRealReg ρ d ≡ true
 
-module _ (k : List ℕ) (B : List Work) (m : Bool) (s : State) where
+module _ (k : List ℕ) (B : List Work) (m : Mode) (s : State) where
   real-root-keeps : (Z : ℕ → Type 0) (H : Type 0) (d a : ℕ) → d < 32 → a < 32 → (isRealReg (s .real) a ≡ true → Z a) → (x : Bool)
       → isRealReg (s .real) a ≡ x
-      → (c.realRoot m x d a s .after .rootDefined ≡ true → Block k B)
-      → length (c.realRoot m x d a s .after .consts) ≤ length k → Keeps k B (λ r. r ≡ d) Z H s (c.realRoot m x d a s)
-  unfolding c.realRoot realRootLines good rename re im
+      → (c.realRootBy (isStable m) x d a s .after .rootDefined ≡ true → Block k B)
+      → length (c.realRootBy (isStable m) x d a s .after .consts) ≤ length k → Keeps k B (λ r. r ≡ d) Z H s (c.realRootBy (isStable m) x d a s)
+  unfolding c.realRootBy realRootLines good rename re im
   real-root-keeps Z H d a hd ha z true e b hk =
       settled k B Z H s d a a hd ha ha true true true e e (Work.Uni UniOp.Root 4 6 ∷ []) _ (tt, refl, tt)
-  real-root-keeps Z H d a hd ha z false e b hk = root-keeps k B Z H s d a hd ha z (b (root-defines m d a s)) m hk
+  real-root-keeps Z H d a hd ha z false e b hk = root-keeps k B Z H s d a hd ha z (b (root-defines (isStable m) d a s)) (isStable m) hk
 
   uni-keeps : (Z : ℕ → Type 0) (H : Type 0) (op : UniOp) (d a : ℕ) → d < 32 → a < 32 → (isRealReg (s .real) a ≡ true → Z a)
       → (H → op ≡ UniOp.Half → isRealReg (s .real) a ≡ true → isRealReg (s .real) d ≡ true)
       → (rerunUni m op d a s .after .rootDefined ≡ true → Block k B) → length (rerunUni m op d a s .after .consts) ≤ length k
       → Keeps k B (λ r. r ≡ d) Z H s (rerunUni m op d a s)
-  unfolding rerunUni eachLines notLines realLines imaginaryLines conjugateLines abs2Lines timesILines timesNegILines good rename
-  uni-keeps Z H UniOp.Neg d a hd ha z h b hk = unary k B Z H s (eachLines UniOp.Neg) copied d a hd ha (tt, refl, tt) (tt, refl, tt)
+  unfolding rerunUni c.abs c.realRoot c.recip notLines realLines imaginaryLines conjugateLines abs2Lines timesILines timesNegILines good rename
+  uni-keeps Z H UniOp.Neg d a hd ha z h b hk = each-keeps k B Z H s d a hd ha UniOp.Neg refl
   uni-keeps Z H UniOp.Not d a hd ha z h b hk = unary k B Z H s notLines asReal d a hd ha (tt, refl, tt) (tt, refl, tt)
-  uni-keeps Z H UniOp.Abs d a hd ha z h b hk = abs-keeps k B Z H s d a hd ha m (isRealReg (s .real) a) refl hk
-  uni-keeps Z H UniOp.Root d a hd ha z h b hk = root-keeps k B Z H s d a hd ha z (b (root-defines m d a s)) m hk
+  uni-keeps Z H UniOp.Abs d a hd ha z h b hk = abs-keeps k B Z H s d a hd ha (isStable m) (isRealReg (s .real) a) refl hk
+  uni-keeps Z H UniOp.Root d a hd ha z h b hk = root-keeps k B Z H s d a hd ha z (b (root-defines (isStable m) d a s)) (isStable m) hk
   uni-keeps Z H UniOp.RealRoot d a hd ha z h b hk = real-root-keeps Z H d a hd ha z (isRealReg (s .real) a) refl b hk
-  uni-keeps Z H UniOp.Recip d a hd ha z h b hk = recip-keeps k B Z H s d a hd ha m (isRealReg (s .real) a) refl hk
-  uni-keeps Z H UniOp.Round d a hd ha z h b hk = unary k B Z H s (eachLines UniOp.Round) copied d a hd ha (tt, refl, tt) (tt, refl, tt)
+  uni-keeps Z H UniOp.Recip d a hd ha z h b hk = recip-keeps k B Z H s d a hd ha (isStable m) (isRealReg (s .real) a) refl hk
+  uni-keeps Z H UniOp.Round d a hd ha z h b hk = each-keeps k B Z H s d a hd ha UniOp.Round refl
   uni-keeps Z H UniOp.Floor d a hd ha z h b hk = unlisted-keeps k B _ Z H s
   uni-keeps Z H UniOp.Ceiling d a hd ha z h b hk = unlisted-keeps k B _ Z H s
   uni-keeps Z H UniOp.Trunc d a hd ha z h b hk = unlisted-keeps k B _ Z H s
   uni-keeps Z H UniOp.Real d a hd ha z h b hk = unary k B Z H s realLines asReal d a hd ha (tt, refl, tt) (tt, refl, tt)
   uni-keeps Z H UniOp.Imaginary d a hd ha z h b hk = unary k B Z H s imaginaryLines asReal d a hd ha (tt, refl, tt) (tt, refl, tt)
   uni-keeps Z H UniOp.Conjugate d a hd ha z h b hk = unary k B Z H s conjugateLines copied d a hd ha (tt, refl, tt) (tt, refl, tt)
-  uni-keeps Z H UniOp.Half d a hd ha z h b hk = half-keeps k B Z H s d a hd ha (λ x. h x refl)
+  uni-keeps Z H UniOp.Half d a hd ha z h b hk = half-keeps k B Z H s d a hd ha m (λ x. h x refl)
   uni-keeps Z H UniOp.IsZero d a hd ha z h b hk = unlisted-keeps k B _ Z H s
-  uni-keeps Z H UniOp.IsNotZero d a hd ha z h b hk = is-not-zero-keeps k B Z H s d a hd ha z
-  uni-keeps Z H UniOp.Sign d a hd ha z h b hk = unary k B Z H s (eachLines UniOp.Sign) copied d a hd ha (tt, refl, tt) (tt, refl, tt)
+  uni-keeps Z H UniOp.IsNotZero d a hd ha z h b hk = compare-zero-keeps k B Z H s d a hd ha z BinOp.NotEqual BinOp.Or refl refl
+  uni-keeps Z H UniOp.Sign d a hd ha z h b hk = each-keeps k B Z H s d a hd ha UniOp.Sign refl
   uni-keeps Z H UniOp.Abs2 d a hd ha z h b hk = unary k B Z H s abs2Lines copied d a hd ha (tt, refl, tt) (tt, refl, tt)
   uni-keeps Z H UniOp.TimesI d a hd ha z h b hk = unary k B Z H s timesILines asComplex d a hd ha (tt, refl, tt) (tt, refl, tt)
   uni-keeps Z H UniOp.TimesNegI d a hd ha z h b hk = unary k B Z H s timesNegILines asComplex d a hd ha (tt, refl, tt) (tt, refl, tt)
@@ -94,29 +96,27 @@ module _ (k : List ℕ) (B : List Work) (m : Bool) (s : State) where
       → (isRealReg (s .real) b ≡ true → Z b)
       → length (rerunBin m op d a b s .after .consts) ≤ length k
       → Keeps k B (λ r. r ≡ d) Z H s (rerunBin m op d a b s)
-  unfolding rerunBin orderLines complexLines good rename
+  unfolding rerunBin complexLines good rename
   bin-keeps Z H BinOp.Plus d a b hd ha hb za zb hk = plus-keeps k B Z H s d a b hd ha hb
   bin-keeps Z H BinOp.Minus d a b hd ha hb za zb hk = minus-keeps k B Z H s d a b hd ha hb
   bin-keeps Z H BinOp.Times d a b hd ha hb za zb hk = times-keeps k B Z H s d a b hd ha hb
   bin-keeps Z H BinOp.Divide d a b hd ha hb za zb hk = divide-keeps k B Z H s d a b hd ha hb m hk
-  bin-keeps Z H BinOp.GreaterThan d a b hd ha hb za zb hk =
-      binary k B Z H s (orderLines BinOp.GreaterThan) bothAsReal d a b hd ha hb (tt, refl, tt) (tt, refl, tt) (tt, refl, tt) (tt, refl, tt)
+  bin-keeps Z H BinOp.GreaterThan d a b hd ha hb za zb hk = order-keeps k B Z H s d a b hd ha hb BinOp.GreaterThan refl
   bin-keeps Z H BinOp.GreaterThanEqual d a b hd ha hb za zb hk = unlisted-keeps k B _ Z H s
-  bin-keeps Z H BinOp.LittleThan d a b hd ha hb za zb hk =
-      binary k B Z H s (orderLines BinOp.LittleThan) bothAsReal d a b hd ha hb (tt, refl, tt) (tt, refl, tt) (tt, refl, tt) (tt, refl, tt)
+  bin-keeps Z H BinOp.LittleThan d a b hd ha hb za zb hk = order-keeps k B Z H s d a b hd ha hb BinOp.LittleThan refl
   bin-keeps Z H BinOp.LittleThanEqual d a b hd ha hb za zb hk = unlisted-keeps k B _ Z H s
   bin-keeps Z H BinOp.Equal d a b hd ha hb za zb hk = unlisted-keeps k B _ Z H s
-  bin-keeps Z H BinOp.NotEqual d a b hd ha hb za zb hk = neq-keeps k B Z H s d a b hd ha hb za zb
-  bin-keeps Z H BinOp.And d a b hd ha hb za zb hk = and-keeps k B Z H s d a b hd ha hb
+  bin-keeps Z H BinOp.NotEqual d a b hd ha hb za zb hk = compare-keeps k B Z H s d a b hd ha hb za zb BinOp.NotEqual BinOp.Or refl refl
+  bin-keeps Z H BinOp.And d a b hd ha hb za zb hk = bits-keeps k B Z H s d a b hd ha hb BinOp.And refl
   bin-keeps Z H BinOp.AndNot d a b hd ha hb za zb hk = unlisted-keeps k B _ Z H s
-  bin-keeps Z H BinOp.Or d a b hd ha hb za zb hk = or-keeps k B Z H s d a b hd ha hb
-  bin-keeps Z H BinOp.Xor d a b hd ha hb za zb hk = xor-keeps k B Z H s d a b hd ha hb
+  bin-keeps Z H BinOp.Or d a b hd ha hb za zb hk = bits-keeps k B Z H s d a b hd ha hb BinOp.Or refl
+  bin-keeps Z H BinOp.Xor d a b hd ha hb za zb hk = bits-keeps k B Z H s d a b hd ha hb BinOp.Xor refl
   bin-keeps Z H BinOp.Complex d a b hd ha hb za zb hk =
       binary k B Z H s complexLines bothAsComplex d a b hd ha hb (tt, refl, tt) (tt, refl, tt) (tt, refl, tt) (tt, refl, tt)
 
   fused-keeps : (Z : ℕ → Type 0) (H : Type 0) (op : FusedOp) (d a b e : ℕ) → d < 32 → a < 32 → b < 32 → e < 32
       → Keeps k B (λ r. r ≡ d) Z H s (rerunFused op d a b e s)
-  unfolding rerunFused c.fusedMulAdd c.fusedMulSub c.fusedNegMulAdd c.fusedNegMulSub then eachLines good rename
+  unfolding rerunFused c.fusedMulAdd c.fusedMulSub c.fusedNegMulAdd c.fusedNegMulSub then
   fused-keeps Z H op d a b e hd ha hb he = go op
     where
       s' : State
@@ -131,14 +131,14 @@ module _ (k : List ℕ) (B : List Work) (m : Bool) (s : State) where
       go FusedOp.NegMulAdd = join times (minus-keeps k B Z H s' d e 30 hd he (lit< tt))
       go FusedOp.NegMulSub =
           join (join times (plus-keeps k B Z H s' d 30 e hd (lit< tt) he))
-          (unary k B Z H (c.plus d 30 e s' .after) (eachLines UniOp.Neg) copied d d hd hd (tt, refl, tt) (tt, refl, tt))
+          (each-keeps k B Z H (c.plus d 30 e s' .after) d d hd hd UniOp.Neg refl)
 
   load-const-keeps : (Z : ℕ → Type 0) (H : Type 0) (d i : ℕ) → d < 32 → i < length k → Keeps k B (λ r. r ≡ d) Z H s (c.loadConst d i s)
   unfolding c.loadConst good rename re im
   load-const-keeps Z H d i hd hi = settled k B Z H s d d d hd hd hd _ _ true refl refl (Work.LoadConst 4 i ∷ []) _ (tt, refl, (hi, tt))
 
 -- each instruction keeps the agreement, and spares the general registers
-pub rerun-keeps : (k : List ℕ) (B : List Work) (m : Bool) (i : Instruction) (s : State) → InRange (length k) i
+pub rerun-keeps : (k : List ℕ) (B : List Work) (m : Mode) (i : Instruction) (s : State) → InRange (length k) i
     → (rerun m i s .after .rootDefined ≡ true → Block k B) → length (rerun m i s .after .consts) ≤ length k
     → Keeps k B (IsDestination i) (Cleared (s .real) i) (HalfOk (s .real) i) s (rerun m i s)
 unfolding rerun then

@@ -7,8 +7,8 @@ use lib.ListN.{length}
 use lib.Dec.{eqb}
 use Rattle.mir.specs.declared.records.Work.{Work}
 use Rattle.mir.specs.declared.records.Record.{Record}
-use Rattle.machine.specs.Machine.{Store, writes, exec, execs, End, ticks, Way, going, seeking, play}
-use Rattle.machine.proofs.Reading.{put-length}
+use Rattle.player_machine.specs.Machine.{Store, writes, exec, execs, End, ticks, Way, going, seeking, play}
+use Rattle.player_machine.proofs.Drawing.{put-length}
 
 exec-length : (k : List ℕ) (w : Work) (σ : Store) → length (exec k w σ) ≡ length σ
 unfolding exec

@@ -13,17 +13,19 @@ use Rattle.mir.specs.declared.records.Work.{Work}
 use Rattle.mir.specs.declared.records.Record.{Record}
 use Rattle.mir.specs.declared.records.Instruction.{Instruction}
 use Rattle.mir.specs.Register.{re}
-use Rattle.machine.specs.Machine.{works, seek, isLabel, block}
+use Rattle.player_machine.specs.Machine.{works, seek, isLabel, block}
+use Rattle.sheet.specs.declared.setup.Mode.{Mode}
+use Rattle.sheet.specs.Setup.{isStable}
 use Rattle.lowering.specs.Realness.{isRealReg, isRealLoc}
 use Rattle.lowering.specs.Lines.{ensureLines, stableDivideLines, stableRecipLines, stableAbsLines}
 use Rattle.lowering.specs.Lines.{realRootLines, fmovLines, loadLines, saveLines, eachLines}
 use Rattle.lowering.specs.Lines.{absLines, abs2Lines, timesILines, timesNegILines, recipLines, halfLines}
 use Rattle.lowering.specs.Lines.{plusLines, minusLines, timesLines, divideLines}
-use Rattle.lowering.specs.Lines.{realLines, imaginaryLines, conjugateLines, complexLines, orderLines, neqLines, bitsLines, notLines, ifelseLines}
+use Rattle.lowering.specs.Lines.{realLines, imaginaryLines, conjugateLines, complexLines, orderLines, compareLines, bitsLines, notLines, ifelseLines}
 use Rattle.lowering.specs.Complexifier as c
 use Rattle.lowering.specs.Complexifier.{State, Out, then, unlisted, emit, byOne, byTwo, withThree, promoted, copied, asReal, asComplex}
 use Rattle.lowering.specs.Complexifier.{bothAsReal, bothAsComplex}
-use Rattle.lowering.specs.Rerun.{rerunUni, rerunBin, rerunFused, rerunArith, rerun, complexify}
+use Rattle.lowering.specs.Rerun.{compareZero, rerunUni, rerunBin, rerunFused, rerunArith, rerun, complexify}
 use Rattle.lowering.specs.Complexifier.{aroundBlock, threeLines, withReal, savedReal}
 use Rattle.leftovers.proofs.Methods.{two}
 use Rattle.leftovers.proofs.Constants.{Stable, min-positive, infinity, quarter, mask, floor, Grown, same, grown-then, grown-three}
@@ -104,37 +106,42 @@ quiet-load-const : (d i : ℕ) (s : State) → Quiet s (c.loadConst d i s)
 unfolding c.loadConst
 quiet-load-const d i s = record { rooted = refl; lines = Work.LoadConst (re d) i ∷ []; listed = refl; grown = same }
 
-quiet-abs : (m x : Bool) (d a : ℕ) (s : State) → Quiet s (c.abs m x d a s)
-unfolding c.abs
+quiet-abs : (m x : Bool) (d a : ℕ) (s : State) → Quiet s (c.absBy m x d a s)
+unfolding c.absBy
 quiet-abs m true d a s = record { rooted = refl; lines = absLines true d a; listed = refl; grown = same }
 quiet-abs true false d a s = quiet-three floor mask infinity (stableAbsLines d a) d s
 quiet-abs false false d a s = record { rooted = refl; lines = absLines false d a; listed = refl; grown = same }
 
-quiet-recip : (m x : Bool) (d a : ℕ) (s : State) → Quiet s (c.recip m x d a s)
-unfolding c.recip
+quiet-recip : (m x : Bool) (d a : ℕ) (s : State) → Quiet s (c.recipBy m x d a s)
+unfolding c.recipBy
 quiet-recip m true d a s = record { rooted = refl; lines = recipLines true d a; listed = refl; grown = same }
 quiet-recip true false d a s = quiet-three min-positive infinity quarter (stableRecipLines d a) d s
 quiet-recip false false d a s = record { rooted = refl; lines = recipLines false d a; listed = refl; grown = same }
 
-quiet-divide : (m x y : Bool) (d a b : ℕ) (s : State) → Quiet s (c.divideBy m x y d a b s)
+quiet-divide : (m : Mode) (x y : Bool) (d a b : ℕ) (s : State) → Quiet s (c.divideBy m x y d a b s)
 unfolding c.divideBy
 quiet-divide m x true d a b s = record { rooted = refl; lines = divideLines x true d a b; listed = refl; grown = same }
-quiet-divide true x false d a b s = quiet-three min-positive infinity quarter (stableDivideLines (ltb d 30) x d a b) d s
-quiet-divide false x false d a b s = record { rooted = refl; lines = divideLines x false d a b; listed = refl; grown = same }
+quiet-divide Mode.Stable x false d a b s = quiet-three min-positive infinity quarter (stableDivideLines (ltb d 30) x d a b) d s
+quiet-divide Mode.Plain x false d a b s = record { rooted = refl; lines = divideLines x false d a b; listed = refl; grown = same }
 
-quiet-arith : (m : Bool) (op : ArithOp) (d a b : ℕ) (s : State) → Quiet s (rerunArith m op d a b s)
+quiet-arith : (m : Mode) (op : ArithOp) (d a b : ℕ) (s : State) → Quiet s (rerunArith m op d a b s)
 unfolding rerunArith c.plus c.minus c.times c.divide
 quiet-arith m ArithOp.Plus d a b s = quiet-by₂ plusLines promoted d a b s
 quiet-arith m ArithOp.Minus d a b s = quiet-by₂ minusLines promoted d a b s
 quiet-arith m ArithOp.Times d a b s = quiet-by₂ timesLines promoted d a b s
 quiet-arith m ArithOp.Divide d a b s = quiet-divide m (isRealReg (s .real) a) (isRealReg (s .real) b) d a b s
 
-quiet-neq : (d a b : ℕ) (s : State) → Quiet s (c.neq d a b s)
-unfolding c.neq
-quiet-neq d a b s =
-    quiet-then s _ (λ s. emit s (neqLines d a b) d true)
+quiet-compare : (op join : BinOp) (d a b : ℕ) (s : State) → Quiet s (c.compare op join d a b s)
+unfolding c.compare
+quiet-compare op join d a b s =
+    quiet-then s _ (λ s. emit s (compareLines op join d a b) d true)
     (quiet-then s _ (c.ensureComplex b) (quiet-ensure a s) (quiet-ensure b _))
-    (record { rooted = refl; lines = neqLines d a b; listed = refl; grown = same })
+    (record { rooted = refl; lines = compareLines op join d a b; listed = refl; grown = same })
+
+quiet-compare-zero : (op join : BinOp) (d a : ℕ) (s : State) → Quiet s (compareZero op join d a s)
+unfolding c.bits
+quiet-compare-zero op join d a s =
+    quiet-then s _ (c.compare op join d a 31) (quiet-by₂ (bitsLines BinOp.Xor) promoted 31 31 31 s) (quiet-compare op join d a 31 _)
 
 quiet-ifelse : (d a b : ℕ) (p : Loc) (s : State) → Quiet s (c.ifelse d a b p s)
 unfolding c.ifelse
@@ -152,7 +159,7 @@ quiet-save a p s =
       after = withReal s (savedReal p (s .real));
     }) (quiet-ensure a s) (record { rooted = refl; lines = saveLines a p; listed = refl; grown = same })
 
-quiet-bin : (m : Bool) (op : BinOp) (d a b : ℕ) (s : State) → Quiet s (rerunBin m op d a b s)
+quiet-bin : (m : Mode) (op : BinOp) (d a b : ℕ) (s : State) → Quiet s (rerunBin m op d a b s)
 unfolding rerunBin c.plus c.minus c.times c.divide c.bits
 quiet-bin m BinOp.Plus d a b s = quiet-by₂ plusLines promoted d a b s
 quiet-bin m BinOp.Minus d a b s = quiet-by₂ minusLines promoted d a b s
@@ -163,7 +170,7 @@ quiet-bin m BinOp.GreaterThanEqual d a b s = quiet-none s
 quiet-bin m BinOp.LittleThan d a b s = quiet-by₂ (orderLines BinOp.LittleThan) bothAsReal d a b s
 quiet-bin m BinOp.LittleThanEqual d a b s = quiet-none s
 quiet-bin m BinOp.Equal d a b s = quiet-none s
-quiet-bin m BinOp.NotEqual d a b s = quiet-neq d a b s
+quiet-bin m BinOp.NotEqual d a b s = quiet-compare BinOp.NotEqual BinOp.Or d a b s
 quiet-bin m BinOp.And d a b s = quiet-by₂ (bitsLines BinOp.And) promoted d a b s
 quiet-bin m BinOp.AndNot d a b s = quiet-none s
 quiet-bin m BinOp.Or d a b s = quiet-by₂ (bitsLines BinOp.Or) promoted d a b s
@@ -233,19 +240,19 @@ root-said m d a s = unfold then in define-said m s o3 equal before more-consts (
         plain-append (o1 .records ++ Record.Call 1 ∷ []) (c.fmov d 30 (o2 .after) .records)
         (plain-append (o1 .records) (Record.Call 1 ∷ []) (quiet-plain q1) (refl, tt)) (quiet-plain q3)
 
-real-root-said : (m x : Bool) (d a : ℕ) (s : State) → Said s (c.realRoot m x d a s)
-unfolding c.realRoot
+real-root-said : (m x : Bool) (d a : ℕ) (s : State) → Said s (c.realRootBy m x d a s)
+unfolding c.realRootBy
 real-root-said m true d a s = quiet (record { rooted = refl; lines = realRootLines d a; listed = refl; grown = same })
 real-root-said m false d a s = root-said m d a s
 
-uni-said : (m : Bool) (op : UniOp) (d a : ℕ) (s : State) → Said s (rerunUni m op d a s)
-unfolding rerunUni c.half c.bits
+uni-said : (m : Mode) (op : UniOp) (d a : ℕ) (s : State) → Said s (rerunUni m op d a s)
+unfolding rerunUni c.half c.abs c.realRoot c.recip
 uni-said m UniOp.Neg d a s = quiet (quiet-by₁ (eachLines UniOp.Neg) copied d a s)
 uni-said m UniOp.Not d a s = quiet (quiet-by₁ notLines asReal d a s)
-uni-said m UniOp.Abs d a s = quiet (quiet-abs m (isRealReg (s .real) a) d a s)
-uni-said m UniOp.Root d a s = root-said m d a s
-uni-said m UniOp.RealRoot d a s = real-root-said m (isRealReg (s .real) a) d a s
-uni-said m UniOp.Recip d a s = quiet (quiet-recip m (isRealReg (s .real) a) d a s)
+uni-said m UniOp.Abs d a s = quiet (quiet-abs (isStable m) (isRealReg (s .real) a) d a s)
+uni-said m UniOp.Root d a s = root-said (isStable m) d a s
+uni-said m UniOp.RealRoot d a s = real-root-said (isStable m) (isRealReg (s .real) a) d a s
+uni-said m UniOp.Recip d a s = quiet (quiet-recip (isStable m) (isRealReg (s .real) a) d a s)
 uni-said m UniOp.Round d a s = quiet (quiet-by₁ (eachLines UniOp.Round) copied d a s)
 uni-said m UniOp.Floor d a s = quiet (quiet-none s)
 uni-said m UniOp.Ceiling d a s = quiet (quiet-none s)
@@ -255,14 +262,13 @@ uni-said m UniOp.Imaginary d a s = quiet (quiet-by₁ imaginaryLines asReal d a 
 uni-said m UniOp.Conjugate d a s = quiet (quiet-by₁ conjugateLines copied d a s)
 uni-said m UniOp.Half d a s = quiet (record { rooted = refl; lines = halfLines d a; listed = refl; grown = same })
 uni-said m UniOp.IsZero d a s = quiet (quiet-none s)
-uni-said m UniOp.IsNotZero d a s =
-    quiet (quiet-then s _ (c.neq d a 31) (quiet-by₂ (bitsLines BinOp.Xor) promoted 31 31 31 s) (quiet-neq d a 31 _))
+uni-said m UniOp.IsNotZero d a s = quiet (quiet-compare-zero BinOp.NotEqual BinOp.Or d a s)
 uni-said m UniOp.Sign d a s = quiet (quiet-by₁ (eachLines UniOp.Sign) copied d a s)
 uni-said m UniOp.Abs2 d a s = quiet (quiet-by₁ abs2Lines copied d a s)
 uni-said m UniOp.TimesI d a s = quiet (quiet-by₁ timesILines asComplex d a s)
 uni-said m UniOp.TimesNegI d a s = quiet (quiet-by₁ timesNegILines asComplex d a s)
 
-rerun-said : (m : Bool) (i : Instruction) (s : State) → Said s (rerun m i s)
+rerun-said : (m : Mode) (i : Instruction) (s : State) → Said s (rerun m i s)
 unfolding rerun
 rerun-said m Instruction.Nop s = quiet (quiet-none s)
 rerun-said m (Instruction.Uni op d a) s = uni-said m op d a s
@@ -288,7 +294,7 @@ pub data Shape (o : Out) : Type 0 where
       → (last : List Record) → Plain last → o .records ≡ first ++ (aroundBlock t ++ last) → Shape o
 
 -- the table only grows
-pub rerun-grows : (m : Bool) (i : Instruction) (s : State) → Grown (s .consts) (rerun m i s .after .consts)
+pub rerun-grows : (m : Mode) (i : Instruction) (s : State) → Grown (s .consts) (rerun m i s .after .consts)
 rerun-grows m i s = go (rerun-said m i s)
   where
     go : Said s (rerun m i s) → Grown (s .consts) (rerun m i s .after .consts)
@@ -296,13 +302,13 @@ rerun-grows m i s = go (rerun-said m i s)
     go (calls e r q g) = g
     go (opens n r first q t b e g) = g
 
-pub grows : (m : Bool) (l : List Instruction) (s : State) → Grown (s .consts) (complexify m l s .after .consts)
+pub grows : (m : Mode) (l : List Instruction) (s : State) → Grown (s .consts) (complexify m l s .after .consts)
 unfolding complexify then unlisted
 grows m [] s = same
 grows m (i ∷ l) s = grown-then (rerun-grows m i s) (grows m l (rerun m i s .after))
 
 -- behind the first Root only plain records follow
-pub stays : (m : Bool) (l : List Instruction) (s : State) → s .rootDefined ≡ true
+pub stays : (m : Mode) (l : List Instruction) (s : State) → s .rootDefined ≡ true
     → (complexify m l s .after .rootDefined ≡ true) × Plain (complexify m l s .records)
 unfolding complexify then unlisted
 stays m [] s e = (e, tt)
@@ -320,7 +326,7 @@ stays m (i ∷ l) s e = go (rerun-said m i s) (stays m l (rerun m i s .after))
     go (calls e r q g) ih = let h = ih r in (h .0, plain-append (o .records) (p .records) q (h .1))
     go (opens n r first q t b g h) ih = absurd (true≢false (sym e ∙ n))
 
-pub shape : (m : Bool) (l : List Instruction) (s : State) → s .rootDefined ≡ false → Shape (complexify m l s)
+pub shape : (m : Mode) (l : List Instruction) (s : State) → s .rootDefined ≡ false → Shape (complexify m l s)
 unfolding complexify then unlisted
 shape m [] s e = unrooted e [] refl
 shape m (i ∷ l) s e = go (rerun-said m i s) (shape m l (rerun m i s .after)) (stays m l (rerun m i s .after))
@@ -368,7 +374,7 @@ block-of first last t p =
     (works-before t (Record.Label 2 ∷ last))
 
 -- what a Call finds keeps the agreement: a listing with a Root holds the block once
-pub finds-block : (k : List ℕ) (m : Bool) (l : List Instruction) (s : State) → s .rootDefined ≡ false
+pub finds-block : (k : List ℕ) (m : Mode) (l : List Instruction) (s : State) → s .rootDefined ≡ false
     → complexify m l s .after .rootDefined ≡ true → Block k (block (complexify m l s .records))
 finds-block k m l s e h = go (shape m l s e)
   where

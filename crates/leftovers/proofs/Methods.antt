@@ -5,17 +5,21 @@ use mathlib.Core.List.{List}
 use Prim.Native.Nat.{ℕ, _≤_, _<_}
 use lib.ListN.{length}
 use lib.Dec.{T, ltb}
+use Rattle.mir.specs.declared.ops.UniOp.{UniOp}
 use Rattle.mir.specs.declared.ops.BinOp.{BinOp}
 use Rattle.mir.specs.declared.ops.ArithOp.{ArithOp}
 use Rattle.mir.specs.declared.records.Loc.{Loc}
 use Rattle.mir.specs.declared.records.Work.{Work}
+use Rattle.mir.specs.Register.{re, im}
+use Rattle.mir.specs.Takes.{takesUni, takesBin}
+use Rattle.sheet.specs.declared.setup.Mode.{Mode}
 use Rattle.lowering.specs.Realness.{isRealReg}
 use Rattle.lowering.specs.Lines.{stableExponent, stableDivisorScale, scaledDivide, stableDivideLines, stableRecipLines, stableAbsLines}
-use Rattle.lowering.specs.Lines.{fmovLines}
+use Rattle.lowering.specs.Lines.{fmovLines, eachLines}
 use Rattle.lowering.specs.Lines.{absLines, recipLines, plusLines, minusLines, timesLines, divideLines}
-use Rattle.lowering.specs.Lines.{bitsLines}
+use Rattle.lowering.specs.Lines.{orderLines, bitsLines}
 use Rattle.lowering.specs.Complexifier as c
-use Rattle.lowering.specs.Complexifier.{State, Out, emit, byOne, byTwo, withThree, promoted}
+use Rattle.lowering.specs.Complexifier.{State, Out, emit, byOne, byTwo, withThree, copied, promoted, bothAsReal}
 use Rattle.lowering.specs.Rerun.{rerunArith}
 use Rattle.leftovers.proofs.Names.{rename, good}
 use Rattle.lowering.specs.Complexifier.{threeConsts}
@@ -88,17 +92,22 @@ module _ (k : List ℕ) (B : List Work) (Z : ℕ → Type 0) (H : Type 0) (s : S
     unfolding c.fmov fmovLines good rename
     fmov-keeps = unary fmovLines (λ x. x) d a hd ha (tt, refl, tt) (tt, refl, tt)
 
-    pub abs-keeps : (m x : Bool) → isRealReg (s .real) a ≡ x → length (c.abs m x d a s .after .consts) ≤ length k
-        → Keeps k B (λ r. r ≡ d) Z H s (c.abs m x d a s)
-    unfolding c.abs absLines stableAbsLines stableExponent good rename
+    -- each operation that a listing takes
+    pub each-keeps : (op : UniOp) → takesUni true op ≡ true → Keeps k B (λ r. r ≡ d) Z H s (byOne (eachLines op) copied d a s)
+    unfolding eachLines good rename
+    each-keeps op e = unary (eachLines op) copied d a hd ha (simp e tt, refl, tt) (simp e tt, refl, tt)
+
+    pub abs-keeps : (m x : Bool) → isRealReg (s .real) a ≡ x → length (c.absBy m x d a s .after .consts) ≤ length k
+        → Keeps k B (λ r. r ≡ d) Z H s (c.absBy m x d a s)
+    unfolding c.absBy absLines stableAbsLines stableExponent good rename re im
     abs-keeps m true e hk = settled d a a hd ha ha true true true e e (absLines true 0 1) _ (tt, refl, tt)
     abs-keeps false false e hk = settled d a a hd ha ha false false false e e (absLines false 0 1) _ (tt, refl, tt)
     abs-keeps true false e hk =
         three _ _ _ (stableAbsLines 0 1) (stableAbsLines d a) d a a hd ha ha false false e e hk (λ i j q hi hj hq. (tt, refl, (hi, (hj, (hq, tt)))))
 
-    pub recip-keeps : (m x : Bool) → isRealReg (s .real) a ≡ x → length (c.recip m x d a s .after .consts) ≤ length k
-        → Keeps k B (λ r. r ≡ d) Z H s (c.recip m x d a s)
-    unfolding c.recip recipLines stableRecipLines stableDivisorScale stableExponent good rename
+    pub recip-keeps : (m x : Bool) → isRealReg (s .real) a ≡ x → length (c.recipBy m x d a s .after .consts) ≤ length k
+        → Keeps k B (λ r. r ≡ d) Z H s (c.recipBy m x d a s)
+    unfolding c.recipBy recipLines stableRecipLines stableDivisorScale stableExponent good rename re im
     recip-keeps m true e hk = settled d a a hd ha ha true true true e e (recipLines true 0 1) _ (tt, refl, tt)
     recip-keeps false false e hk = settled d a a hd ha ha false false false e e (recipLines false 0 1) _ (tt, refl, tt)
     recip-keeps true false e hk =
@@ -106,16 +115,16 @@ module _ (k : List ℕ) (B : List Work) (Z : ℕ → Type 0) (H : Type 0) (s : S
         (λ i j q hi hj hq. (tt, refl, (hi, (hj, (hq, tt)))))
 
   module _ (d a b : ℕ) (hd : d < 32) (ha : a < 32) (hb : b < 32) where
-    divide-by-keeps : (m x y : Bool) → isRealReg (s .real) a ≡ x → isRealReg (s .real) b ≡ y
+    divide-by-keeps : (m : Mode) (x y : Bool) → isRealReg (s .real) a ≡ x → isRealReg (s .real) b ≡ y
         → length (c.divideBy m x y d a b s .after .consts) ≤ length k → Keeps k B (λ r. r ≡ d) Z H s (c.divideBy m x y d a b s)
-    unfolding c.divideBy divideLines stableDivideLines stableDivisorScale scaledDivide stableExponent good rename
+    unfolding c.divideBy divideLines stableDivideLines stableDivisorScale scaledDivide stableExponent good rename re im
     divide-by-keeps m true true ex ey hk = settled d a b hd ha hb true true true ex ey (divideLines true true 0 1 2) _ (tt, refl, tt)
     divide-by-keeps m false true ex ey hk = settled d a b hd ha hb false true false ex ey (divideLines false true 0 1 2) _ (tt, refl, tt)
-    divide-by-keeps false true false ex ey hk =
+    divide-by-keeps Mode.Plain true false ex ey hk =
         settled d a b hd ha hb true false false ex ey (divideLines true false 0 1 2) _ (tt, refl, tt)
-    divide-by-keeps false false false ex ey hk =
+    divide-by-keeps Mode.Plain false false ex ey hk =
         settled d a b hd ha hb false false false ex ey (divideLines false false 0 1 2) _ (tt, refl, tt)
-    divide-by-keeps true x false ex ey hk =
+    divide-by-keeps Mode.Stable x false ex ey hk =
         three _ _ _ (stableDivideLines (ltb d 30) x 0 1 2) (stableDivideLines (ltb d 30) x d a b) d a b hd ha hb x false ex ey hk
         (λ i j q hi hj hq.
         four (λ g x. Fits k d a b x false false (stableDivideLines g x 0 1 2 i j q) (stableDivideLines g x d a b i j q))
@@ -134,12 +143,12 @@ module _ (k : List ℕ) (B : List Work) (Z : ℕ → Type 0) (H : Type 0) (s : S
     unfolding c.times timesLines good rename
     times-keeps = binary timesLines promoted d a b hd ha hb (tt, refl, tt) (tt, refl, tt) (tt, refl, tt) (tt, refl, tt)
 
-    pub divide-keeps : (m : Bool) → length (c.divide m d a b s .after .consts) ≤ length k
+    pub divide-keeps : (m : Mode) → length (c.divide m d a b s .after .consts) ≤ length k
         → Keeps k B (λ r. r ≡ d) Z H s (c.divide m d a b s)
     unfolding c.divide
     divide-keeps m hk = divide-by-keeps m (isRealReg (s .real) a) (isRealReg (s .real) b) refl refl hk
 
-    pub arith-keeps : (m : Bool) (op : ArithOp) → length (rerunArith m op d a b s .after .consts) ≤ length k
+    pub arith-keeps : (m : Mode) (op : ArithOp) → length (rerunArith m op d a b s .after .consts) ≤ length k
         → Keeps k B (λ r. r ≡ d) Z H s (rerunArith m op d a b s)
     unfolding rerunArith
     arith-keeps m ArithOp.Plus hk = plus-keeps
@@ -147,14 +156,10 @@ module _ (k : List ℕ) (B : List Work) (Z : ℕ → Type 0) (H : Type 0) (s : S
     arith-keeps m ArithOp.Times hk = times-keeps
     arith-keeps m ArithOp.Divide hk = divide-keeps m hk
 
-    pub and-keeps : Keeps k B (λ r. r ≡ d) Z H s (c.bits BinOp.And d a b s)
-    unfolding c.bits bitsLines good rename
-    and-keeps = binary (bitsLines BinOp.And) promoted d a b hd ha hb (tt, refl, tt) (tt, refl, tt) (tt, refl, tt) (tt, refl, tt)
+    pub order-keeps : (op : BinOp) → takesBin true op ≡ true → Keeps k B (λ r. r ≡ d) Z H s (byTwo (orderLines op) bothAsReal d a b s)
+    unfolding orderLines good rename
+    order-keeps op e = binary (orderLines op) bothAsReal d a b hd ha hb (simp e tt, refl, tt) (simp e tt, refl, tt) (simp e tt, refl, tt) (simp e tt, refl, tt)
 
-    pub or-keeps : Keeps k B (λ r. r ≡ d) Z H s (c.bits BinOp.Or d a b s)
+    pub bits-keeps : (op : BinOp) → takesBin true op ≡ true → Keeps k B (λ r. r ≡ d) Z H s (c.bits op d a b s)
     unfolding c.bits bitsLines good rename
-    or-keeps = binary (bitsLines BinOp.Or) promoted d a b hd ha hb (tt, refl, tt) (tt, refl, tt) (tt, refl, tt) (tt, refl, tt)
-
-    pub xor-keeps : Keeps k B (λ r. r ≡ d) Z H s (c.bits BinOp.Xor d a b s)
-    unfolding c.bits bitsLines good rename
-    xor-keeps = binary (bitsLines BinOp.Xor) promoted d a b hd ha hb (tt, refl, tt) (tt, refl, tt) (tt, refl, tt) (tt, refl, tt)
+    bits-keeps op e = binary (bitsLines op) promoted d a b hd ha hb (simp e tt, refl, tt) (simp e tt, refl, tt) (simp e tt, refl, tt) (simp e tt, refl, tt)

@@ -1,36 +1,54 @@
--- The check of Rows at the registers of an instruction: the names 4 to 9 are the halves of d, a and b, and 10 and 11 the words of its place.
+-- The check of Rows at the registers of an instruction. Its lines are written for registers 0, 1 and 2, whose halves are 4 to 9, and for the
+-- place Stack 2, whose words are 70 and 71: these are the names of the halves of d, a and b and of the words of p.
 use mathlib.Core.Path.{_≡_, refl, sym, ap, _∙_, subst}
 use mathlib.Core.Bool.{Bool, true, false, cond, _&&_, _||_, true≢false}
-use mathlib.Core.Logic.{_≢_, _⊎_, inl, inr}
+use mathlib.Core.Logic.{_≢_, _⊎_, ⊎-elim, inl, inr}
 use mathlib.Core.List.{List, [], _∷_, map}
-use Prim.Native.Nat.{ℕ, suc, _+_, _*_, _≤_, _<_}
+use Prim.Native.Nat.{ℕ, suc, _+_, _*_, _%_, _≤_, _<_}
+use native.Mathlib.Nat.{mul-mod-right, suc-mod}
 use native.Mathlib.Omega.{arith}
 use native.Mathlib.Decide.{ℕ-discrete, decLt}
-use lib.ListN.{length, getD}
+use lib.ListN.{length, getD, List·getD-eq-default}
 use lib.Seq.{getD-set-same, getD-set-other, set-out}
-use lib.Dec.{T, lit≤, eqb, ltb, ltb→lt, lt→ltb, eqb→eq}
+use lib.Dec.{T, eqb, ltb, eqb→eq}
+use borrow.Author.Tests.{lt-ltb, le-ltb, ne-eqb}
 use Rattle.mir.specs.declared.records.Loc.{Loc}
 use Rattle.mir.specs.declared.records.Work.{Work}
 use Rattle.mir.specs.declared.records.Record.{Record}
 use Rattle.mir.specs.Register.{re, im}
 use Rattle.records.proofs.Holding.{AllHold}
-use Rattle.mir.specs.Place.{index}
-use Rattle.machine.specs.Machine.{Store, at, place, execs}
+use Rattle.mir.specs.Place.{class, index}
+use Rattle.player_machine.specs.Machine.{Store, at, place, execs}
 use Rattle.lowering.specs.declared.realness.Realness.{Realness}
 use Rattle.lowering.specs.Realness.{isRealReg, isRealLoc, setReg}
 use Rattle.leftovers.specs.Kept.{Kept, kept-re, kept-im, kept-word, kept-next}
-use Rattle.leftovers.proofs.Rows.{Agree, weaken, T→true, has, all-in, check, known, given, needs, gives, isXor, ren, Named}
+use Rattle.leftovers.proofs.Rows.{Agree, weaken, has, all-in, check, known, given, ren, Named}
 use Rattle.leftovers.proofs.Held.{All, registers, all-listed, Asks, held-lines}
 use Rattle.leftovers.proofs.Rows.{or-cases, and-l, and-r, either, steps-agree, steps-keep}
 
+-- the word that a name means: Temp, scratch and Ret mean themselves, a place's real word means p's, and its imaginary word p's
 unfoldable pub name : ℕ → ℕ → ℕ → Loc → ℕ → ℕ
-name d a b p n = getD (0 ∷ 1 ∷ 2 ∷ 3 ∷ re d ∷ im d ∷ re a ∷ im a ∷ re b ∷ im b ∷ place p ∷ suc (place p) ∷ []) n n
+name d a b p n =
+    getD (0 ∷ 1 ∷ 2 ∷ 3 ∷ re d ∷ im d ∷ re a ∷ im a ∷ re b ∷ im b ∷ []) n
+    (cond (ltb n 66) n (cond (eqb (n % 2) 0) (place p) (suc (place p))))
 
--- in lines written for registers 0, 1 and 2 the one place is named 10, its imaginary word 11
-abbrev pub ten : Loc → ℕ
-ten q = 10
+module _ (d a b : ℕ) (p q : Loc) where
+  name-from : (n x : ℕ) → 66 ≤ n → n % 2 ≡ x → name d a b p n ≡ cond (eqb x 0) (place p) (suc (place p))
+  unfolding name
+  name-from n x h e =
+      List·getD-eq-default (0 ∷ 1 ∷ 2 ∷ 3 ∷ re d ∷ im d ∷ re a ∷ im a ∷ re b ∷ im b ∷ []) _ {n = n} (omega arith)
+      ∙ rw (le-ltb n 66 h, e)
 
--- the lines l, written for registers 0, 1 and 2, at registers d, a, b and place p
+  even : place q ≡ 2 * (33 + (256 * class q + index q))
+  even = omega arith
+
+  pub name-real : name d a b p (place q) ≡ place p
+  name-real = name-from (place q) 0 (omega arith) (rw even (mul-mod-right 2 _))
+
+  pub name-imaginary : name d a b p (suc (place q)) ≡ suc (place p)
+  name-imaginary = name-from (suc (place q)) 1 (omega arith) (suc-mod (place q) 2 ∙ rw (even, mul-mod-right))
+
+-- the lines l at registers d, a, b and place p
 unfoldable pub rename : ℕ → ℕ → ℕ → Loc → List Work → List Work
 unfolding ren name re im
 rename d a b p l = map (ren (name d a b p) (λ q. p)) l
@@ -48,68 +66,72 @@ in-all n (x ∷ xs) ys h m =
 
 -- ---- the halves
 
-pub no→false : (b : Bool) → (T b → ⊥) → b ≡ false
-no→false true h = absurd (h tt)
-no→false false h = refl
+-- the imaginary half of a register stands behind its real half
+pub im-next : (r : ℕ) → im r ≡ suc (re r)
+unfolding re im
+im-next r = go (ltb r 30) (eqb r 30)
+  where
+    go : (x y : Bool) → cond x (5 + 2 * r) (cond y 65 1) ≡ suc (cond x (4 + 2 * r) (cond y 64 0))
+    go true y = omega arith
+    go false true = refl
+    go false false = refl
 
-pub re-gen : (r : ℕ) → r < 30 → re r ≡ 4 + 2 * r
-unfolding re
-re-gen r h = rw (T→true (ltb r 30) (lt→ltb r 30 h))
-
-pub im-gen : (r : ℕ) → r < 30 → im r ≡ 5 + 2 * r
-unfolding im
-im-gen r h = rw (T→true (ltb r 30) (lt→ltb r 30 h))
-
+-- the halves of Ret stand behind those of the general registers, and Temp's first
 pub data Span (d : ℕ) : Type 0 where
-  general : d < 30 → re d ≡ 4 + 2 * d → im d ≡ 5 + 2 * d → Span d
-  ret : d ≡ 30 → re d ≡ 64 → im d ≡ 65 → Span d
-  temp : 30 < d → re d ≡ 0 → im d ≡ 1 → Span d
+  upper : d < 31 → re d ≡ 4 + 2 * d → Span d
+  temp : 30 < d → re d ≡ 0 → Span d
 
 pub span : (d : ℕ) → Span d
-unfolding re im
+unfolding re
 span d = go (decLt d 30) (ℕ-discrete d 30)
   where
     go : Dec (d < 30) → Dec (d ≡ 30) → Span d
-    go (yes h) e = general h (re-gen d h) (im-gen d h)
-    go (no h) (yes e) = ret e (rw e) (rw e)
-    go (no h) (no e) =
-        let e1 = no→false (ltb d 30) (λ t. h (ltb→lt d 30 t)) in
-        let e2 = no→false (eqb d 30) (λ t. e (eqb→eq d 30 t)) in
-        temp (omega arith) (rw (e1, e2)) (rw (e1, e2))
+    go (yes h) e = upper (omega arith) (rw (lt-ltb d 30 h))
+    go (no h) (yes e) = upper (omega arith) (rw e)
+    go (no h) (no e) = temp (omega arith) (rw (le-ltb d 30 (omega arith), ne-eqb d 30 e))
 
--- halves are registers of a listing, and not scratch
-pub re-in : (r : ℕ) → (re r ≤ 65) × (re r ≢ 2) × (re r ≢ 3)
+-- halves are registers of a listing, and not scratch; the real ones are even
+pub re-in : (r : ℕ) → (re r ≤ 64) × (re r ≢ 2) × (re r % 2 ≡ 0)
 re-in r = go (span r)
   where
-    go : Span r → (re r ≤ 65) × (re r ≢ 2) × (re r ≢ 3)
-    go (general h e1 e2) = omega arith
-    go (ret h e1 e2) = omega arith
-    go (temp h e1 e2) = omega arith
+    go : Span r → (re r ≤ 64) × (re r ≢ 2) × (re r % 2 ≡ 0)
+    go (upper h e) = omega arith
+    go (temp h e) = omega arith
 
-pub im-in : (r : ℕ) → (im r ≤ 65) × (im r ≢ 2) × (im r ≢ 3)
-im-in r = go (span r)
+pub re-gen : (r : ℕ) → r < 31 → re r ≡ 4 + 2 * r
+re-gen r h = go (span r)
   where
-    go : Span r → (im r ≤ 65) × (im r ≢ 2) × (im r ≢ 3)
-    go (general h e1 e2) = omega arith
-    go (ret h e1 e2) = omega arith
-    go (temp h e1 e2) = omega arith
+    go : Span r → re r ≡ 4 + 2 * r
+    go (upper l e) = e
+    go (temp l e) = absurd (omega arith)
+
+-- the halves of registers are apart
+pub halves-apart : (r d : ℕ) → re r ≢ im d
+halves-apart r d = omega (arith, im-next d, re-in r .2, re-in d .2)
+
+pub im-apart : (r d : ℕ) → r < 32 → d < 32 → r ≢ d → im r ≢ im d
+im-apart r d hr hd n = go (span r) (span d)
+  where
+    go : Span r → Span d → im r ≢ im d
+    go (upper g e) (upper h f) = omega (arith, im-next r, im-next d)
+    go (upper g e) (temp h f) = omega (arith, im-next r, im-next d)
+    go (temp g e) (upper h f) = omega (arith, im-next r, im-next d)
+    go (temp g e) (temp h f) = omega arith
 
 -- what the lines may write: scratch, Temp, Ret, the destination and the place
 abbrev pub free : List ℕ
-free = 0 ∷ 1 ∷ 2 ∷ 3 ∷ 4 ∷ 5 ∷ 10 ∷ 11 ∷ 64 ∷ 65 ∷ []
+free = 0 ∷ 1 ∷ 2 ∷ 3 ∷ 4 ∷ 5 ∷ 64 ∷ 65 ∷ 70 ∷ 71 ∷ []
 
 -- a general register other than the destination is none of these
 pub apart : (d a b : ℕ) (p : Loc) (r w : ℕ) → r < 30 → r ≢ d → (w ≡ re r) ⊎ (w ≡ im r) → All (λ n. name d a b p n ≢ w) free
 unfolding name
-apart d a b p r w h n e = go (span d) (either (λ e. inl (e ∙ re-gen r h)) (λ e. inr (e ∙ im-gen r h)) e)
+apart d a b p r w h n e = go (span d) (⊎-elim (λ e. inl (e ∙ re-gen r (omega arith))) (λ e. inr (e ∙ im-next r ∙ ap suc (re-gen r (omega arith)))) e)
   where
-    go : Span d → (w ≡ 4 + 2 * r) ⊎ (w ≡ 5 + 2 * r) → All (λ n. name d a b p n ≢ w) free
-    go (general g e1 e2) (inl e) = omega arith
-    go (general g e1 e2) (inr e) = omega arith
-    go (ret g e1 e2) (inl e) = omega arith
-    go (ret g e1 e2) (inr e) = omega arith
-    go (temp g e1 e2) (inl e) = omega arith
-    go (temp g e1 e2) (inr e) = omega arith
+    go : Span d → (w ≡ 4 + 2 * r) ⊎ (w ≡ suc (4 + 2 * r)) → All (λ n. name d a b p n ≢ w) free
+    go (upper g f) (inl e) = omega (arith, im-next d)
+    go (upper g f) (inr e) = omega (arith, im-next d)
+    go (temp g f) (inl e) = omega (arith, im-next d)
+    go (temp g f) (inr e) = omega (arith, im-next d)
 
 -- ---- the words that are kept, after a register's record has changed
 
@@ -138,13 +160,13 @@ kept-new d (kept-next p h e) = inl (kept-next p h e)
 
 -- from names st that are kept, lines that pass the check leave the kept words and all known names agreed
 pub lines-agree : (ρ : Realness) (d a b : ℕ) (p : Loc) (k : List ℕ) (st : List ℕ) (l : List Work) {σ τ : Store}
-    → All (λ n. Kept ρ (name d a b p n)) st → T (check ten st l)
+    → All (λ n. Kept ρ (name d a b p n)) st → T (check st l)
     → Agree (Kept ρ) σ τ
-    → Agree (Named (name d a b p) ten (λ q. p) (unfold name in λ q. refl) (unfold name in λ q. refl) (Kept ρ) (known ten st l))
+    → Agree (Named (name d a b p) (λ q. p) (name-real d a b p) (name-imaginary d a b p) (Kept ρ) (known st l))
     (execs k (rename d a b p l) σ) (execs k (rename d a b p l) τ)
 unfolding name Named rename
 lines-agree ρ d a b p k st l h c g =
-    steps-agree (name d a b p) ten (λ q. p) (λ q. refl) (λ q. refl) k (Kept ρ) st l c
+    steps-agree (name d a b p) (λ q. p) (name-real d a b p) (name-imaginary d a b p) k (Kept ρ) st l c
     (weaken (λ w. elim [ inl q ↦ q | inr m ↦ subst (Kept ρ) (m .2) (pick-all (λ n. Kept ρ (name d a b p n)) st (m .0) h (m .1)) ]) g)
 
 -- From σ to τ the pair of a general register outside X does not change, save that the imaginary half of one in Z is cleared.
@@ -154,13 +176,13 @@ Frame X Z σ τ =
 
 -- lines that write only what is free leave every general register but the destination
 pub lines-keep : (d a b : ℕ) (p : Loc) (k : List ℕ) (l : List Work) (σ : Store) (r w : ℕ)
-    → T (all-in (given ten l) free) → r < 30 → r ≢ d → (w ≡ re r) ⊎ (w ≡ im r) → at (execs k (rename d a b p l) σ) w ≡ at σ w
+    → T (all-in (given l) free) → r < 30 → r ≢ d → (w ≡ re r) ⊎ (w ≡ im r) → at (execs k (rename d a b p l) σ) w ≡ at σ w
 unfolding name rename
 lines-keep d a b p k l σ r w h hr n e =
-    steps-keep (name d a b p) ten (λ q. p) (λ q. refl) (λ q. refl) k σ w l
-    (λ m t. pick-all (λ n. name d a b p n ≢ w) free m (apart d a b p r w hr n e) (in-all m (given ten l) free h t))
+    steps-keep (name d a b p) (λ q. p) (name-real d a b p) (name-imaginary d a b p) k σ w l
+    (λ m t. pick-all (λ n. name d a b p n ≢ w) free m (apart d a b p r w hr n e) (in-all m (given l) free h t))
 
-pub lines-frame : (X Z : ℕ → Type 0) (d a b : ℕ) (p : Loc) (k : List ℕ) (l : List Work) → T (all-in (given ten l) free)
+pub lines-frame : (X Z : ℕ → Type 0) (d a b : ℕ) (p : Loc) (k : List ℕ) (l : List Work) → T (all-in (given l) free)
     → ((r : ℕ) → r < 30 → (X r → ⊥) → r ≢ d) → (σ : Store) → Frame X Z σ (execs k (rename d a b p l) σ)
 lines-frame X Z d a b p k l t out σ r h n =
     let q = out r h n in
@@ -168,35 +190,22 @@ lines-frame X Z d a b p k l t out σ r h n =
 
 -- the names that are known at its start: real halves, the place's real word, and what x, y and z (a, b and the place are real) leave
 abbrev pub start : Bool → Bool → Bool → List ℕ
-start x y z = 4 ∷ 6 ∷ 8 ∷ 10 ∷ cond x 4 7 ∷ cond y 4 9 ∷ cond z 4 11 ∷ []
+start x y z = 4 ∷ 6 ∷ 8 ∷ 70 ∷ cond x 4 7 ∷ cond y 4 9 ∷ cond z 4 71 ∷ []
 
 -- the one computed test: lines l draw on what is known, leave d's imaginary half known unless it becomes real (g), write only what is
 -- free, and a listing takes them
 unfoldable pub good : Bool → Bool → Bool → Bool → List Work → Bool
-unfolding check known given all-in needs gives isXor all-listed
-good x y z g l = (check ten (start x y z) l && ((g || has 5 (known ten (start x y z) l)) && all-in (given ten l) free)) && all-listed l
+unfolding check known given all-in all-listed
+good x y z g l = (check (start x y z) l && ((g || has 5 (known (start x y z) l)) && all-in (given l) free)) && all-listed l
 
-module _ (x y z g : Bool) (l : List Work) (h : T (good x y z g l)) where
-  flows : T (check ten (start x y z) l && ((g || has 5 (known ten (start x y z) l)) && all-in (given ten l) free))
-  unfolding good
-  flows = and-l (check ten (start x y z) l && ((g || has 5 (known ten (start x y z) l)) && all-in (given ten l) free)) (all-listed l) h
+four-tests : (a b c d : Bool) → T ((a && (b && c)) && d) → T a × T b × T c × T d
+four-tests true true true true h = (tt, tt, tt, tt)
 
-  pub good-check : T (check ten (start x y z) l)
-  good-check = and-l (check ten (start x y z) l) ((g || has 5 (known ten (start x y z) l)) && all-in (given ten l) free) flows
-
-  ends : T ((g || has 5 (known ten (start x y z) l)) && all-in (given ten l) free)
-  ends = and-r (check ten (start x y z) l) ((g || has 5 (known ten (start x y z) l)) && all-in (given ten l) free) flows
-
-  pub good-known : T (g || has 5 (known ten (start x y z) l))
-  good-known = and-l (g || has 5 (known ten (start x y z) l)) (all-in (given ten l) free) ends
-
-  pub good-free : T (all-in (given ten l) free)
-  good-free = and-r (g || has 5 (known ten (start x y z) l)) (all-in (given ten l) free) ends
-
-  pub good-listed : T (all-listed l)
-  unfolding good
-  good-listed =
-      and-r (check ten (start x y z) l && ((g || has 5 (known ten (start x y z) l)) && all-in (given ten l) free)) (all-listed l) h
+-- each part of the test
+pub good-parts : (x y z g : Bool) (l : List Work) → T (good x y z g l)
+    → T (check (start x y z) l) × T (g || has 5 (known (start x y z) l)) × T (all-in (given l) free) × T (all-listed l)
+unfolding good
+good-parts x y z g l h = four-tests (check (start x y z) l) (g || has 5 (known (start x y z) l)) (all-in (given l) free) (all-listed l) h
 
 module _ (ρ : Realness) (d a b : ℕ) (p : Loc) (hd : d < 32) (ha : a < 32) (hb : b < 32) (hp : index p < 256)
     (x y z : Bool) (ex : isRealReg ρ a ≡ x) (ey : isRealReg ρ b ≡ y) (ez : isRealLoc (ρ .places) p ≡ z) where
@@ -212,7 +221,7 @@ module _ (ρ : Realness) (d a b : ℕ) (p : Loc) (hd : d < 32) (ha : a < 32) (hb
       at-b true e = kept-re d hd
       at-b false e = kept-im b hb e
 
-      at-p : (x : Bool) → isRealLoc (ρ .places) p ≡ x → Kept ρ (name d a b p (cond x 4 11))
+      at-p : (x : Bool) → isRealLoc (ρ .places) p ≡ x → Kept ρ (name d a b p (cond x 4 71))
       at-p true e = kept-re d hd
       at-p false e = kept-next p hp e
 
@@ -220,10 +229,11 @@ module _ (ρ : Realness) (d a b : ℕ) (p : Loc) (hd : d < 32) (ha : a < 32) (hb
       → Agree (Kept (setReg ρ d g)) (execs k (rename d a b p l) σ) (execs k (rename d a b p l) τ)
   unfolding name Named
   leaf-agree k g l {σ} {τ} h ag =
-      weaken (out g (good-known x y z g l h)) (lines-agree ρ d a b p k (start x y z) l start-kept (good-check x y z g l h) ag)
+      let t = good-parts x y z g l h in
+      weaken (out g (t .1)) (lines-agree ρ d a b p k (start x y z) l start-kept (t .0) ag)
     where
-      out : (g : Bool) → T (g || has 5 (known ten (start x y z) l)) → (w : ℕ) → Kept (setReg ρ d g) w
-          → Named (name d a b p) ten (λ q. p) (λ q. refl) (λ q. refl) (Kept ρ) (known ten (start x y z) l) w
+      out : (g : Bool) → T (g || has 5 (known (start x y z) l)) → (w : ℕ) → Kept (setReg ρ d g) w
+          → Named (name d a b p) (λ q. p) (name-real d a b p) (name-imaginary d a b p) (Kept ρ) (known (start x y z) l) w
       out true t w q = inl (kept-up d q)
       out false t w q = either (λ q. inl q) (λ e. inr (5, t, e)) (kept-new d q)
 
@@ -231,9 +241,7 @@ module _ (ρ : Realness) (d a b : ℕ) (p : Loc) (hd : d < 32) (ha : a < 32) (hb
 names-low : (d a b : ℕ) (p : Loc) → All (λ n. name d a b p n ≤ 65) registers
 unfolding name
 names-low d a b p =
-    let halves : All (λ n. name d a b p n ≤ 65) (4 ∷ 5 ∷ 6 ∷ 7 ∷ 8 ∷ 9 ∷ 64 ∷ 65 ∷ []) =
-    (re-in d .0, (im-in d .0, (re-in a .0, (im-in a .0, (re-in b .0, (im-in b .0, (lit≤ tt, (lit≤ tt, tt)))))))) in
-    (lit≤ tt, (lit≤ tt, (lit≤ tt, (lit≤ tt, halves))))
+    omega (arith, re-in d .0, im-next d, re-in a .0, im-next a, re-in b .0, im-next b)
 
 pub rename-held : (d a b : ℕ) (p : Loc) (k : List ℕ) (l : List Work) → length k ≤ 65536 → index p < 256 → T (all-listed l)
     → Asks (length k) p l

@@ -10,14 +10,14 @@ use Rattle.mir.specs.declared.records.Loc.{Loc}
 use Rattle.mir.specs.declared.records.Work.{Work}
 use Rattle.mir.specs.declared.records.Record.{Record}
 use Rattle.mir.specs.Place.{index}
-use Rattle.machine.specs.Machine.{place}
+use Rattle.player_machine.specs.Machine.{place}
 use Rattle.lowering.specs.declared.realness.Realness.{Realness}
 use Rattle.lowering.specs.Realness.{isRealReg, isRealLoc, withoutLoc, setReg}
 use Rattle.lowering.specs.Lines.{loadLines, saveLines}
 use Rattle.lowering.specs.Complexifier as c
 use Rattle.lowering.specs.Complexifier.{State, then, emit}
 use Rattle.leftovers.specs.Kept.{Kept, kept-re, kept-im, kept-word, kept-next}
-use Rattle.leftovers.proofs.Rows.{weaken, either, Named, all-in, given, gives, check, known, needs, isXor}
+use Rattle.leftovers.proofs.Rows.{weaken, either, Named, all-in, given, check, known}
 use Rattle.leftovers.proofs.Names.{rename, good, name, lines-agree, lines-frame}
 use Rattle.records.proofs.Holding.{Saved}
 use Rattle.leftovers.proofs.Held.{all-listed}
@@ -38,11 +38,11 @@ load-keeps k B Z H s d p hd hp = go (isRealLoc (s .real .places) p) (isRealReg (
     go : (z x : Bool) → isRealLoc (s .real .places) p ≡ z → isRealReg (s .real) d ≡ x
         → Safe k B (λ r. r ≡ d) Z H (s .real) (map Record.Work (loadLines z d p)) (setReg (s .real) d z)
     go true x e q =
-        leaf k B Z H (s .real) d d d p hd hd hd hp x x true true q q e (loadLines true 0 (Loc.Stack 0)) (loadLines true d p) tt refl tt
+        leaf k B Z H (s .real) d d d p hd hd hd hp x x true true q q e (loadLines true 0 (Loc.Stack 2)) (loadLines true d p) tt refl tt
     go false true e q =
-        leaf k B Z H (s .real) d d d p hd hd hd hp true true false false q q e (loadLines false 0 (Loc.Stack 0)) (loadLines false d p) tt refl tt
+        leaf k B Z H (s .real) d d d p hd hd hd hp true true false false q q e (loadLines false 0 (Loc.Stack 2)) (loadLines false d p) tt refl tt
     go false false e q =
-        leaf k B Z H (s .real) d d d p hd hd hd hp false false false false q q e (loadLines false 0 (Loc.Stack 0)) (loadLines false d p) tt refl tt
+        leaf k B Z H (s .real) d d d p hd hd hd hp false false false false q q e (loadLines false 0 (Loc.Stack 2)) (loadLines false d p) tt refl tt
 
 kept-saved : {ρ : Realness} {w : ℕ} (p : Loc) → index p < 256 → Kept (savedReal p ρ) w → Kept ρ w ⊎ (suc (place p) ≡ w)
 unfolding isRealLoc withoutLoc
@@ -62,16 +62,16 @@ kept-saved {ρ} (Loc.Stack i) l (kept-next (Loc.Param j) h e) =
 
 module _ (k : List ℕ) (B : List Work) (X Z : ℕ → Type 0) (H : Type 0) (a : ℕ) (p : Loc) (ha : a < 32) (hp : index p < 256) (sv : Saved p) where
   store-keeps : (ρ : Realness) → isRealReg ρ a ≡ false → Safe k B X Z H ρ (map Record.Work (saveLines a p)) (savedReal p ρ)
-  unfolding saveLines all-listed rename name Named check known given all-in needs gives isXor
+  unfolding saveLines all-listed rename name Named check known given all-in
   store-keeps ρ e =
       works-safe (saveLines a p)
-      (λ σ τ _ g. weaken (λ w q. either (λ q. inl q) (λ e. inr (11, tt, e)) (kept-saved p hp q))
+      (λ σ τ _ g. weaken (λ w q. either (λ q. inl q) (λ e. inr (71, tt, e)) (kept-saved p hp q))
       (lines-agree ρ 31 a a p k (6 ∷ 7 ∷ []) l (kept-re a ha, (kept-im a ha e, tt)) tt g))
       (lines-frame X Z 31 a a p k l tt (λ r h n. omega arith))
       (λ few. rename-held 31 a a p k l few hp tt (sv, tt))
     where
       l : List Work
-      l = Work.SaveComplex 6 7 (Loc.Stack 0) ∷ []
+      l = Work.SaveComplex 6 7 (Loc.Stack 2) ∷ []
 
   pub save-keeps : (s : State) → (isRealReg (s .real) a ≡ true → Z a) → Keeps k B X Z H s (c.saveTo a p s)
   unfolding c.saveTo then c.ensureComplex emit

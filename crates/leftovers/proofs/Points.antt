@@ -1,6 +1,6 @@
 -- A whole play of a whole sheet, by its points.
 use mathlib.Core.Path.{_≡_, refl, sym, ap, _∙_, subst}
-use mathlib.Core.Bool.{Bool, true}
+use mathlib.Core.Bool.{true}
 use mathlib.Core.List.{List, [], _∷_, _++_, append-assoc, append-nil}
 use mathlib.Core.Option.{Option, some}
 use Prim.Native.Nat.{ℕ, suc, _+_, _-_, _≤_, _<_}
@@ -11,7 +11,8 @@ use lib.Seq.{drop-append-seam, take-add, take-suc, split-at, getD-drop}
 use Rattle.mir.specs.declared.records.Work.{Work}
 use Rattle.mir.specs.declared.records.Record.{Record}
 use Rattle.mir.specs.declared.records.Instruction.{Instruction}
-use Rattle.machine.specs.Machine.{Store, block, End, ticks, going, play, reach}
+use Rattle.player_machine.specs.Machine.{Store, block, End, ticks, going, play, reach}
+use Rattle.sheet.specs.declared.setup.Mode.{Mode}
 use Rattle.lowering.specs.declared.realness.Realness.{Realness}
 use Rattle.lowering.specs.Complexifier.{State, Out, then, unlisted}
 use Rattle.lowering.specs.Rerun.{rerun, complexify}
@@ -19,7 +20,7 @@ use Rattle.lowering.specs.Lower.{startState}
 use Rattle.leftovers.specs.Leftovers.{Sheet, upTo, point, realAt, IsDestination, Spares}
 use Rattle.leftovers.specs.Kept.{Kept}
 use Rattle.leftovers.proofs.Rows.{Agree}
-use Rattle.leftovers.proofs.Stretch.{Safe, join}
+use Rattle.leftovers.proofs.Stretch.{Safe, join, loosen}
 use Rattle.leftovers.proofs.Methods.{Keeps}
 use Rattle.leftovers.proofs.Root.{Block, unlisted-keeps}
 use Rattle.leftovers.proofs.Instructions.{InRange, Cleared, HalfOk, rerun-keeps}
@@ -38,12 +39,12 @@ all-in-split count (i ∷ l) l' v =
     ((v .0, r .0), r .1)
 
 -- none of these instructions, lowered from s, is a Half of a real register into a complex one
-abbrev pub HalvesOk : Bool → List Instruction → State → Type 0
+abbrev pub HalvesOk : Mode → List Instruction → State → Type 0
 HalvesOk m [] s = Unit {0}
 HalvesOk m (i ∷ l) s = HalfOk (s .real) i × HalvesOk m l (rerun m i s .after)
 
 -- it is enough to look at each by its index
-pub halves : (m : Bool) (l : List Instruction) (s : State)
+pub halves : (m : Mode) (l : List Instruction) (s : State)
     → ((n : ℕ) → n < length l → HalfOk (complexify m (take n l) s .after .real) (getD l n Instruction.Nop)) → HalvesOk m l s
 unfolding complexify then unlisted
 halves m [] s f = tt
@@ -56,17 +57,9 @@ Any r = Unit {0}
 
 loose : {k : List ℕ} {B : List Work} {X Z : ℕ → Type 0} {H : Type 0} {ρ ρ' : Realness} {rs : List Record} (H' : Type 0)
     → (H' → H) → Safe k B X Z H ρ rs ρ' → Safe k B Any Any H' ρ rs ρ'
-loose H' f s = record {
-  F = s .F;
-  n = s .n;
-  plays = s .plays;
-  stands = s .stands;
-  agree = λ h g. s .agree (f h) g;
-  frame = λ σ r h x. absurd (x tt);
-  held = s .held;
-}
+loose H' f s = loosen f (λ r h n. (λ x. n tt, λ z. tt)) s
 
-pub all-keep : (k : List ℕ) (B : List Work) (m : Bool) (l : List Instruction) (s : State) → AllIn (length k) l
+pub all-keep : (k : List ℕ) (B : List Work) (m : Mode) (l : List Instruction) (s : State) → AllIn (length k) l
     → (complexify m l s .after .rootDefined ≡ true → Block k B) → length (complexify m l s .after .consts) ≤ length k
     → Keeps k B Any Any (HalvesOk m l s) s (complexify m l s)
 unfolding complexify then
@@ -79,7 +72,7 @@ all-keep k B m (i ∷ l) s v b hk =
     (loose (HalvesOk m (i ∷ l) s) (λ h. h .1) (all-keep k B m l (rerun m i s .after) (v .1) b hk))
 
 -- the listing of instructions in two parts
-pub complexify-append : (m : Bool) (l l' : List Instruction) (s : State)
+pub complexify-append : (m : Mode) (l l' : List Instruction) (s : State)
     → complexify m (l ++ l') s ≡ then (complexify m l s) (complexify m l')
 unfolding complexify then unlisted
 complexify-append m [] l' s = refl
@@ -103,7 +96,7 @@ complexify-append m (i ∷ l) l' s =
         (record { records = (o .records ++ p .records) ++ q .records; after = q .after })
     regroup = λ j. record { records = sym (append-assoc (o .records) (p .records) (q .records)) j; after = q .after }
 
-pub complexify-snoc : (m : Bool) (l : List Instruction) (i : Instruction) (s : State)
+pub complexify-snoc : (m : Mode) (l : List Instruction) (i : Instruction) (s : State)
     → complexify m (l ++ i ∷ []) s ≡ then (complexify m l s) (rerun m i)
 unfolding complexify then unlisted
 complexify-snoc m l i s =
@@ -121,7 +114,7 @@ some-inj e = cc
 
 -- the lowering of a sheet's instructions, playing on from point i, and where it stands at point j
 abbrev pub whole : Sheet → Out
-whole s = complexify (s .stable) (s .instructions) (startState (s .places) (s .constants))
+whole s = complexify (s .mode) (s .instructions) (startState (s .places) (s .constants))
 
 abbrev pub playFrom : Sheet → ℕ → Store → End
 playFrom s i σ = play (whole s .after .consts) (block (whole s .records)) going (drop (point s i) (whole s .records)) σ
@@ -135,16 +128,16 @@ unfolding then
 point-below s i =
     let b = startState (s .places) (s .constants) in
     let l = s .instructions in
-    let p = complexify (s .stable) (take i l) b in
-    let q = complexify (s .stable) (drop i l) (p .after) in
+    let p = complexify (s .mode) (take i l) b in
+    let q = complexify (s .mode) (drop i l) (p .after) in
     let e : length (whole s .records) ≡ length (p .records ++ q .records) =
-    ap (λ (l : List Instruction). length (complexify (s .stable) l b .records)) (sym (take-append-drop i l))
-    ∙ ap (λ (o : Out). length (o .records)) (complexify-append (s .stable) (take i l) (drop i l) b) in
+    ap (λ (l : List Instruction). length (complexify (s .mode) l b .records)) (sym (take-append-drop i l))
+    ∙ ap (λ (o : Out). length (o .records)) (complexify-append (s .mode) (take i l) (drop i l) b) in
     omega (arith, e, length-append (p .records) (q .records))
 
 module _ (s : Sheet) (v : AllIn (length (whole s .after .consts)) (s .instructions)) where
-  m : Bool
-  m = s .stable
+  m : Mode
+  m = s .mode
 
   l : List Instruction
   l = s .instructions
@@ -170,7 +163,7 @@ module _ (s : Sheet) (v : AllIn (length (whole s .after .consts)) (s .instructio
 
   fine : whole s .after .rootDefined ≡ true → Block k B
   unfolding k B
-  fine t = finds-block (whole s .after .consts) (s .stable) (s .instructions) (startState (s .places) (s .constants)) refl t
+  fine t = finds-block (whole s .after .consts) (s .mode) (s .instructions) (startState (s .places) (s .constants)) refl t
 
   all-left : (i : ℕ) → AllIn (length k) (drop i l)
   unfolding l k
@@ -189,7 +182,7 @@ module _ (s : Sheet) (v : AllIn (length (whole s .after .consts)) (s .instructio
       ap (λ (r : List Record). play k B going r σ) (from-point i ∙ sym (append-nil (left i .records))) ∙ rest-keeps i .plays [] σ
       ∙ (unfold play ticks in λ j. record { store = rest-keeps i .F σ; played = add-zero (rest-keeps i .n) j })
 
-  pub play-on : (i : ℕ) (σ τ : Store) → Agree (Kept (realAt s i)) σ τ → HalvesOk (s .stable) (drop i (s .instructions)) (upTo s i .after)
+  pub play-on : (i : ℕ) (σ τ : Store) → Agree (Kept (realAt s i)) σ τ → HalvesOk (s .mode) (drop i (s .instructions)) (upTo s i .after)
       → (playFrom s i σ .played ≡ playFrom s i τ .played) × Agree (Kept (whole s .after .real)) (playFrom s i σ .store) (playFrom s i τ .store)
   unfolding m l
   play-on i σ τ g h =
@@ -226,7 +219,7 @@ module _ (s : Sheet) (v : AllIn (length (whole s .after .consts)) (s .instructio
         ap (λ (l : List Instruction). complexify m l (startState (s .places) (s .constants))) (take-add i n l)
         ∙ complexify-append m (take i l) (take n L) (startState (s .places) (s .constants))
 
-    pub real-at : complexify (s .stable) (take n (drop i (s .instructions))) (upTo s i .after) .after .real ≡ realAt s (i + n)
+    pub real-at : complexify (s .mode) (take n (drop i (s .instructions))) (upTo s i .after) .after .real ≡ realAt s (i + n)
     unfolding p q m l L
     real-at = ap (λ (o : Out). o .after .real) (sym at-point)
 

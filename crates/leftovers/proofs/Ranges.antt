@@ -1,7 +1,7 @@
 -- The instructions that are read from a sheet name registers, places and constants within its limits.
 use Prim.Native.Nat.{ℕ, zero, suc, pred, _<_}
-use mathlib.Core.Path.{_≡_, refl, subst}
-use mathlib.Core.Bool.{false}
+use mathlib.Core.Path.{_≡_, refl}
+use mathlib.Core.Bool.{Bool, true, false, cond}
 use mathlib.Core.List.{List, [], _∷_}
 use native.Mathlib.Omega.{arith}
 use lib.Dec.{ltb, leb, eqb}
@@ -9,165 +9,108 @@ use borrow.Author.Tests.{ltb-false, leb-false}
 use Rattle.mir.specs.declared.records.Loc.{Loc}
 use Rattle.mir.specs.declared.records.Instruction.{Instruction}
 use Rattle.mir.specs.Place.{index}
-use Rattle.mir.specs.Operation.{uniAt, binAt, arithAt, fusedAt, uniTaken, binTaken, arithTaken, fusedTaken}
-use Rattle.mir.specs.Read.{Read, got, refused, registers}
+use Rattle.mir.specs.Operation.{uniOps, binOps, arithOps, fusedOps, taken}
+use Rattle.mir.specs.Takes.{takesUni, takesBin, takesArith, takesFused}
+use Rattle.mir.specs.Read.{Read, got, refused, refuse, andThen, above, registers}
+use Rattle.mir.proofs.Passing.{or-left, or-right}
 use Rattle.mir.specs.Field.{byteAt, wordAt, takesKind, headFrom, placeAt, savePlace, condPlace}
 use Rattle.mir.specs.Decode.{onto, decodedFrom}
-use Rattle.mir.proofs.Passing.{passed, then, got-same, clash}
-use Rattle.sheet.specs.Takes.{takesUni, takesBin, takesArith, takesFused}
-use Rattle.sheet.specs.Instruction.{uniFrom, biFrom, movFrom, loadFrom, saveFrom, loadConstFrom, fusedFrom, ifElseFrom}
-use Rattle.sheet.specs.Instruction.{loadMathFrom, loadConstMathFrom}
 use Rattle.sheet.specs.Instruction.{fieldsFrom, instructionFrom}
 use Rattle.records.proofs.Holding.{Saved, Stacked}
-use Rattle.records.proofs.Held.{by, place-index, save-held, cond-held}
+use Rattle.records.proofs.Held.{place-index, save-held, cond-held}
 use Rattle.leftovers.proofs.Held.{All}
 use Rattle.leftovers.proofs.Instructions.{InRange}
 use Rattle.leftovers.proofs.Points.{AllIn}
 
--- registers that were not refused
-record Low {A : Type 0} (xs : List ℕ) (r : Read A) (a : A) : Type 0 where
-  low : All (λ x. x < 32) xs
-  rest : r ≡ got a
+-- what is read, if it is not refused, is as P says
+data IfRead {A : Type 0} (P : A → Type 0) : Read A → Type 0 where
+  read : {a : A} → P a → IfRead P (got a)
+  told : {n : ℕ} → IfRead P (refused n)
 
-lows : {A : Type 0} (xs : List ℕ) (r : Read A) (a : A) → registers 31 xs r ≡ got a → Low xs r a
-lows [] r a e = record { low = tt; rest = e }
-lows (x ∷ xs) r a e =
-    let p = passed (ltb 31 x) 3 (registers 31 xs r) a e in
-    let q = lows xs r a (p .rest) in
-    let h = ltb-false 31 x (p .test) in
-    record { low = (omega arith, q .low); rest = q .rest }
+-- by the tests and the parts of a reader
+tested : {A : Type 0} {P : A → Type 0} (b : Bool) (n : ℕ) {r : Read A} → (b ≡ false → IfRead P r) → IfRead P (refuse b n r)
+tested true n h = told
+tested false n h = h refl
+
+parted : {A B : Type 0} {P : B → Type 0} (x : Read A) {f : A → Read B} → ((a : A) → x ≡ got a → IfRead P (f a)) → IfRead P (andThen x f)
+parted (got a) h = h a refl
+parted (refused n) h = told
+
+chosen : {A : Type 0} {P : A → Type 0} (b : Bool) {x y : Read A} → IfRead P x → IfRead P y → IfRead P (cond b x y)
+chosen true h k = h
+chosen false h k = k
+
+all-low : (xs : List ℕ) → above 31 xs ≡ false → All (λ x. x < 32) xs
+all-low [] e = tt
+all-low (x ∷ xs) e =
+    let h = ltb-false 31 x (or-left (ltb 31 x) (above 31 xs) e) in
+    (omega arith, all-low xs (or-right (ltb 31 x) (above 31 xs) e))
+
+limited : {A : Type 0} {P : A → Type 0} (xs : List ℕ) {r : Read A} → (All (λ x. x < 32) xs → IfRead P r) → IfRead P (registers 31 xs r)
+limited xs h = tested (above 31 xs) 3 (λ e. h (all-low xs e))
 
 -- places that were not refused
 place-in : (s : List ℕ) (i : ℕ) (p : Loc) → placeAt s i ≡ got p → index p < 256
 place-in s i p e = let h = place-index s i p e in omega arith
 
-abbrev SavedIn : Loc → Type 0
-SavedIn p = (index p < 256) × Saved p
-
-saved-in : (p : Loc) → Saved p → SavedIn p
+saved-in : (p : Loc) → Saved p → (index p < 256) × Saved p
 saved-in (Loc.Stack n) h = (omega arith, h)
 saved-in (Loc.Mem n) h = (omega arith, h)
-saved-in (Loc.Param n) h = absurd h
 
-saved : (s : List ℕ) (i : ℕ) (p : Loc) → savePlace s i ≡ got p → SavedIn p
-saved s i p e = saved-in p (save-held s i p e)
-
-abbrev StackedIn : Loc → Type 0
-StackedIn p = (index p < 256) × Stacked p
-
-stacked-in : (p : Loc) → Stacked p → StackedIn p
+stacked-in : (p : Loc) → Stacked p → (index p < 256) × Stacked p
 stacked-in (Loc.Stack n) h = (omega arith, h)
-stacked-in (Loc.Mem n) h = absurd h
-stacked-in (Loc.Param n) h = absurd h
 
-stacked : (s : List ℕ) (i : ℕ) (p : Loc) → condPlace s i ≡ got p → StackedIn p
-stacked s i p e = stacked-in p (cond-held s i p e)
+-- kind by kind
+in-range : (count kind : ℕ) (s : List ℕ) → IfRead (InRange count) (fieldsFrom count kind s)
+unfolding fieldsFrom
+in-range count kind s =
+    let b = byteAt s in
+    chosen (eqb kind 0) (read tt)
+    (chosen (eqb kind 1)
+    (parted (taken (takesUni false) uniOps (b 4)) (λ op e. limited (b 5 ∷ b 6 ∷ []) (λ l. read {a = Instruction.Uni op (b 5) (b 6)} (l .0, l .1 .0))))
+    (chosen (eqb kind 2)
+    (parted (taken (takesBin false) binOps (b 4)) (λ op e. limited (b 5 ∷ b 6 ∷ b 7 ∷ [])
+    (λ l. read {a = Instruction.Bi op (b 5) (b 6) (b 7)} (l .0, l .1 .0, l .1 .1 .0))))
+    (chosen (eqb kind 3) (limited (b 4 ∷ b 5 ∷ []) (λ l. read {a = Instruction.Mov (b 4) (b 5)} (l .0, l .1 .0)))
+    (chosen (eqb kind 4)
+    (limited (b 4 ∷ []) (λ l. parted (placeAt s 5) (λ p e. read {a = Instruction.Load (b 4) p} (l .0, place-in s 5 p e))))
+    (chosen (eqb kind 5)
+    (limited (b 4 ∷ [])
+    (λ l. parted (savePlace s 5) (λ p e. let q = saved-in p (save-held s 5 p e) in read {a = Instruction.Save (b 4) p} (l .0, q .0, q .1))))
+    (chosen (eqb kind 6)
+    (limited (b 4 ∷ [])
+    (λ l. tested (leb count (wordAt s 5)) 5
+    (λ e. read {a = Instruction.LoadConst (b 4) (wordAt s 5)} (l .0, leb-false count (wordAt s 5) e))))
+    (chosen (eqb kind 7)
+    (parted (taken (takesFused false) fusedOps (b 4)) (λ op e. limited (b 5 ∷ b 6 ∷ b 7 ∷ b 8 ∷ [])
+    (λ l. read {a = Instruction.Fused op (b 5) (b 6) (b 7) (b 8)} (l .0, l .1 .0, l .1 .1 .0, l .1 .1 .1 .0))))
+    (chosen (eqb kind 8)
+    (limited (b 4 ∷ b 5 ∷ b 6 ∷ [])
+    (λ l. parted (condPlace s 7)
+    (λ p e. let q = stacked-in p (cond-held s 7 p e) in
+    read {a = Instruction.IfElse (b 4) (b 5) (b 6) p} (l .0, l .1 .0, l .1 .1 .0, q .0, q .1))))
+    (chosen (eqb kind 9)
+    (parted (taken (takesArith) arithOps (b 4)) (λ op e. limited (b 5 ∷ b 6 ∷ [])
+    (λ l. parted (placeAt s 7) (λ p e. read {a = Instruction.LoadMath op (b 5) (b 6) p} (l .0, l .1 .0, place-in s 7 p e)))))
+    (chosen (eqb kind 10)
+    (parted (taken (takesArith) arithOps (b 4)) (λ op e. limited (b 5 ∷ b 6 ∷ [])
+    (λ l. tested (leb count (wordAt s 7)) 5
+    (λ e. read {a = Instruction.LoadConstMath op (b 5) (b 6) (wordAt s 7)} (l .0, l .1 .0, leb-false count (wordAt s 7) e)))))
+    told))))))))))
 
-module _ (count : ℕ) (s : List ℕ) (i : Instruction) where
-  range-uni : uniFrom s ≡ got i → InRange count i
-  unfolding uniFrom
-  range-uni e =
-      let t = then (uniTaken takesUni (uniAt (byteAt s 4))) _ i e in
-      let l = lows (byteAt s 5 ∷ byteAt s 6 ∷ []) _ i (t .rest) in
-      subst (InRange count) (got-same _ i (l .rest)) (l .low .0, l .low .1 .0)
-
-  range-bi : biFrom s ≡ got i → InRange count i
-  unfolding biFrom
-  range-bi e =
-      let t = then (binTaken takesBin (binAt (byteAt s 4))) _ i e in
-      let l = lows (byteAt s 5 ∷ byteAt s 6 ∷ byteAt s 7 ∷ []) _ i (t .rest) in
-      subst (InRange count) (got-same _ i (l .rest)) (l .low .0, l .low .1 .0, l .low .1 .1 .0)
-
-  range-mov : movFrom s ≡ got i → InRange count i
-  unfolding movFrom
-  range-mov e =
-      let l = lows (byteAt s 4 ∷ byteAt s 5 ∷ []) _ i e in
-      subst (InRange count) (got-same _ i (l .rest)) (l .low .0, l .low .1 .0)
-
-  range-load : loadFrom s ≡ got i → InRange count i
-  unfolding loadFrom
-  range-load e =
-      let l = lows (byteAt s 4 ∷ []) _ i e in
-      let t = then (placeAt s 5) _ i (l .rest) in
-      subst (InRange count) (got-same _ i (t .rest)) (l .low .0, place-in s 5 (t .first) (t .found))
-
-  range-save : saveFrom s ≡ got i → InRange count i
-  unfolding saveFrom
-  range-save e =
-      let l = lows (byteAt s 4 ∷ []) _ i e in
-      let t = then (savePlace s 5) _ i (l .rest) in
-      let p = saved s 5 (t .first) (t .found) in
-      subst (InRange count) (got-same _ i (t .rest)) (l .low .0, p .0, p .1)
-
-  range-load-const : loadConstFrom count s ≡ got i → InRange count i
-  unfolding loadConstFrom
-  range-load-const e =
-      let l = lows (byteAt s 4 ∷ []) _ i e in
-      let p = passed (leb count (wordAt s 5)) 5 _ i (l .rest) in
-      subst (InRange count) (got-same _ i (p .rest)) (l .low .0, leb-false count (wordAt s 5) (p .test))
-
-  range-fused : fusedFrom s ≡ got i → InRange count i
-  unfolding fusedFrom
-  range-fused e =
-      let t = then (fusedTaken takesFused (fusedAt (byteAt s 4))) _ i e in
-      let l = lows (byteAt s 5 ∷ byteAt s 6 ∷ byteAt s 7 ∷ byteAt s 8 ∷ []) _ i (t .rest) in
-      subst (InRange count) (got-same _ i (l .rest)) (l .low .0, l .low .1 .0, l .low .1 .1 .0, l .low .1 .1 .1 .0)
-
-  range-if-else : ifElseFrom s ≡ got i → InRange count i
-  unfolding ifElseFrom
-  range-if-else e =
-      let l = lows (byteAt s 4 ∷ byteAt s 5 ∷ byteAt s 6 ∷ []) _ i e in
-      let t = then (condPlace s 7) _ i (l .rest) in
-      let p = stacked s 7 (t .first) (t .found) in
-      subst (InRange count) (got-same _ i (t .rest)) (l .low .0, l .low .1 .0, l .low .1 .1 .0, p .0, p .1)
-
-  range-load-math : loadMathFrom s ≡ got i → InRange count i
-  unfolding loadMathFrom
-  range-load-math e =
-      let u = then (arithTaken takesArith (arithAt (byteAt s 4))) _ i e in
-      let l = lows (byteAt s 5 ∷ byteAt s 6 ∷ []) _ i (u .rest) in
-      let t = then (placeAt s 7) _ i (l .rest) in
-      subst (InRange count) (got-same _ i (t .rest)) (l .low .0, l .low .1 .0, place-in s 7 (t .first) (t .found))
-
-  range-load-const-math : loadConstMathFrom count s ≡ got i → InRange count i
-  unfolding loadConstMathFrom
-  range-load-const-math e =
-      let u = then (arithTaken takesArith (arithAt (byteAt s 4))) _ i e in
-      let l = lows (byteAt s 5 ∷ byteAt s 6 ∷ []) _ i (u .rest) in
-      let p = passed (leb count (wordAt s 7)) 5 _ i (l .rest) in
-      subst (InRange count) (got-same _ i (p .rest)) (l .low .0, l .low .1 .0, leb-false count (wordAt s 7) (p .test))
-
-  range-fields : (kind : ℕ) → fieldsFrom count kind s ≡ got i → InRange count i
-  unfolding fieldsFrom
-  range-fields kind e =
-      by (eqb kind 0) (got Instruction.Nop) _ i e (λ e. subst (InRange count) (got-same Instruction.Nop i e) tt) (λ e.
-      by (eqb kind 1) (uniFrom s) _ i e range-uni (λ e.
-      by (eqb kind 2) (biFrom s) _ i e range-bi (λ e.
-      by (eqb kind 3) (movFrom s) _ i e range-mov (λ e.
-      by (eqb kind 4) (loadFrom s) _ i e range-load (λ e.
-      by (eqb kind 5) (saveFrom s) _ i e range-save (λ e.
-      by (eqb kind 6) (loadConstFrom count s) _ i e range-load-const (λ e.
-      by (eqb kind 7) (fusedFrom s) _ i e range-fused (λ e.
-      by (eqb kind 8) (ifElseFrom s) _ i e range-if-else (λ e.
-      by (eqb kind 9) (loadMathFrom s) _ i e range-load-math (λ e.
-      by (eqb kind 10) (loadConstMathFrom count s) _ i e range-load-const-math (λ e.
-      absurd (clash 2 i e))))))))))))
-
-  pub in-range : instructionFrom count s ≡ got i → InRange count i
-  unfolding instructionFrom
-  in-range e =
-      let t = then (headFrom (takesKind false) s) (λ kind. fieldsFrom count kind s) i e in
-      range-fields (t .first) (t .rest)
+one-in-range : (count : ℕ) (s : List ℕ) → IfRead (InRange count) (instructionFrom count s)
+unfolding instructionFrom
+one-in-range count s = parted (headFrom (takesKind false) s) (λ kind e. in-range count kind s)
 
 -- all that are read one after the other
 pub all-in-range : (count : ℕ) (s : List ℕ) (k : ℕ) → AllIn count (decodedFrom (instructionFrom count) s k .items)
 unfolding decodedFrom
 all-in-range count [] k = tt
 all-in-range count (b ∷ s) (suc k) = all-in-range count s k
-all-in-range count (b ∷ s) zero = go (instructionFrom count (b ∷ s)) refl (all-in-range count s (pred (wordAt (b ∷ s) 0)))
+all-in-range count (b ∷ s) zero =
+    go (instructionFrom count (b ∷ s)) (one-in-range count (b ∷ s)) (all-in-range count s (pred (wordAt (b ∷ s) 0)))
   where
-    go : (r : Read Instruction) → instructionFrom count (b ∷ s) ≡ r
-        → AllIn count (decodedFrom (instructionFrom count) s (pred (wordAt (b ∷ s) 0)) .items)
+    go : (r : Read Instruction) → IfRead (InRange count) r → AllIn count (decodedFrom (instructionFrom count) s (pred (wordAt (b ∷ s) 0)) .items)
         → AllIn count (onto r (λ a. decodedFrom (instructionFrom count) s (pred (wordAt (b ∷ s) 0))) .items)
-    go (got i) e ih = (in-range count (b ∷ s) i e, ih)
-    go (refused n) e ih = tt
+    go (got i) (read h) ih = (h, ih)
+    go (refused n) told ih = tt

@@ -1,4 +1,4 @@
--- Root: the Call, the block that it plays and that the play passes over where it stands; and IsNotZero.
+-- Root: the Call, the block that it plays and that the play passes over where it stands; and the comparison with zero.
 use mathlib.Core.Path.{_≡_, refl, subst}
 use mathlib.Core.Bool.{and-self, Bool, true, false, _&&_}
 use mathlib.Core.Logic.{_⊎_, inl, inr}
@@ -14,26 +14,28 @@ use Rattle.mir.specs.declared.records.Loc.{Loc}
 use Rattle.mir.specs.declared.records.Work.{Work}
 use Rattle.mir.specs.declared.records.Record.{Record}
 use Rattle.mir.specs.Register.{re, im}
-use Rattle.machine.specs.Machine.{Store, at, execs, ticks, going, seeking, play, reach}
+use Rattle.mir.specs.Takes.{takesBin}
+use Rattle.player_machine.specs.Machine.{Store, at, execs, ticks, going, seeking, play, reach}
 use Rattle.lowering.specs.declared.realness.Realness.{Realness}
 use Rattle.lowering.specs.Realness.{isRealReg, setReg}
 use Rattle.lowering.specs.Lines.{stableExponent}
 use Rattle.lowering.specs.Lines.{stableRootMagnitude, plainRootMagnitude, rootBlock}
 use Rattle.lowering.specs.Complexifier as c
 use Rattle.lowering.specs.Complexifier.{State, then, unlisted, emit, byOne, byTwo}
+use Rattle.lowering.specs.Rerun.{compareZero}
 use Rattle.leftovers.specs.Kept.{Kept, kept-re, kept-im}
-use Rattle.leftovers.proofs.Rows.{Agree, weaken, either, Named, all-in, given, gives, check, known, needs, isXor, has}
-use Rattle.leftovers.proofs.Names.{ten, rename, name, free, kept-new, lines-agree, lines-keep}
+use Rattle.leftovers.proofs.Rows.{Agree, weaken, either, Named, all-in, given, check, known, has}
+use Rattle.leftovers.proofs.Names.{rename, name, free, kept-new, lines-agree, lines-keep}
 use Rattle.mir.proofs.Decoding.{none, and}
 use Rattle.records.proofs.Holding.{AllHold}
 use Rattle.lowering.specs.Complexifier.{INFINITY, EXP_MASK_FINITE, FLOOR_FINITE}
 use Rattle.leftovers.proofs.Held.{all-listed, held-append}
 use Rattle.leftovers.proofs.Constants.{three-found}
 use Rattle.leftovers.proofs.Names.{rename-held}
-use Rattle.leftovers.proofs.Stretch.{Safe, join, works-safe, ticks-ticks}
+use Rattle.leftovers.proofs.Stretch.{Safe, join, loosen, works-safe, ticks-ticks}
 use Rattle.lowering.specs.Complexifier.{aroundBlock}
-use Rattle.leftovers.proofs.Methods.{Keeps, fmov-keeps, xor-keeps}
-use Rattle.leftovers.proofs.Clearing.{ensure-keeps, neq-keeps, complex-set}
+use Rattle.leftovers.proofs.Methods.{Keeps, fmov-keeps, bits-keeps}
+use Rattle.leftovers.proofs.Clearing.{ensure-keeps, compare-keeps, complex-set}
 
 -- ---- Root
 
@@ -45,7 +47,7 @@ pub record Block (k : List ℕ) (B : List Work) : Type 0 where
 
 -- both kinds of block are fine, and with whatever constants
 module _ (k : List ℕ) (t : List Work) where
-  pub block-fine : T (check ten (0 ∷ 1 ∷ []) t) → T (has 65 (known ten (0 ∷ 1 ∷ []) t)) → T (all-in (given ten t) free)
+  pub block-fine : T (check (0 ∷ 1 ∷ []) t) → T (has 65 (known (0 ∷ 1 ∷ []) t)) → T (all-in (given t) free)
       → rename 30 31 31 (Loc.Stack 2) t ≡ t → Block k t
   unfolding name Named re im
   block-fine c h f e =
@@ -60,18 +62,18 @@ module _ (k : List ℕ) (t : List Work) where
       }
 
 stable-block : (k : List ℕ) (i j q : ℕ) → Block k (rootBlock (stableRootMagnitude i j q))
-unfolding rename check known given all-in needs gives isXor rootBlock stableRootMagnitude stableExponent
+unfolding rename check known given all-in rootBlock stableRootMagnitude stableExponent re im
 stable-block k i j q = block-fine k (rootBlock (stableRootMagnitude i j q)) tt tt tt refl
 
 pub root-block-fine : (k : List ℕ) (m : Bool) (consts : List ℕ) → Block k (c.blockOf m consts)
-unfolding c.blockOf rename check known given all-in needs gives isXor rootBlock plainRootMagnitude
+unfolding c.blockOf rename check known given all-in rootBlock plainRootMagnitude re im
 root-block-fine k true consts = stable-block k _ _ _
 root-block-fine k false consts = block-fine k (rootBlock plainRootMagnitude) tt tt tt refl
 
 -- a listing can hold the block, where the table has its constants
 block-held : (k : List ℕ) (m : Bool) (consts : List ℕ) → length (c.blockConsts m consts) ≤ length k → length k ≤ 65536
     → AllHold (length k) (map Record.Work (c.blockOf m consts))
-unfolding c.blockOf c.blockConsts rename all-listed rootBlock plainRootMagnitude stableRootMagnitude stableExponent
+unfolding c.blockOf c.blockConsts rename all-listed rootBlock plainRootMagnitude stableRootMagnitude stableExponent re im
 block-held k true consts hk few =
     let h = three-found FLOOR_FINITE EXP_MASK_FINITE INFINITY consts (length k) hk in
     rename-held 30 31 31 (Loc.Stack 2) k (c.blockOf true consts) few (lit< tt) tt
@@ -160,19 +162,7 @@ define-keeps k B X Z H false m s hk = around-keeps k B X Z H (c.blockOf m (s .co
 -- what writes only to Temp or Ret frames every destination
 pub frame-any : {k : List ℕ} {B : List Work} {Z : ℕ → Type 0} {H : Type 0} {ρ ρ' : Realness} {rs : List Record} (X : ℕ → Type 0) (e : ℕ)
     → 30 ≤ e → Safe k B (λ r. r ≡ e) Z H ρ rs ρ' → Safe k B X Z H ρ rs ρ'
-frame-any X e h s =
-    record {
-      F = s .F;
-      n = s .n;
-      plays = s .plays;
-      stands = s .stands;
-      agree = s .agree;
-      frame = λ σ r g n. s .frame σ r g (λ q. go r g q);
-      held = s .held;
-    }
-  where
-    go : (r : ℕ) → r < 30 → r ≡ e → ⊥
-    go r g q = omega arith
+frame-any X e h s = loosen (λ h. h) (λ r g n. (λ q. omega arith, λ z. z)) s
 
 module _ (k : List ℕ) (B : List Work) (Z : ℕ → Type 0) (H : Type 0) (s : State) (d a : ℕ) (hd : d < 32) (ha : a < 32)
     (z : isRealReg (s .real) a ≡ true → Z a) (b : Block k B) where
@@ -210,24 +200,16 @@ root-defines m d a s = define-defines m s4 (s4 .rootDefined) refl
 -- a cleared register that is none of the general ones frames all
 frame-clear : {k : List ℕ} {B : List Work} {X Z Z' : ℕ → Type 0} {H : Type 0} {ρ ρ' : Realness} {rs : List Record}
     → ((r : ℕ) → r < 30 → Z' r → Z r) → Safe k B X Z' H ρ rs ρ' → Safe k B X Z H ρ rs ρ'
-frame-clear {X} {Z} {Z'} f s = record {
-  F = s .F;
-  n = s .n;
-  plays = s .plays;
-  stands = s .stands;
-  agree = s .agree;
-  frame = λ σ r g n. let p = s .frame σ r g n in (p .0, either (λ e. inl e) (λ z. inr (f r g (z .0), z .1)) (p .1));
-  held = s .held;
-}
+frame-clear f s = loosen (λ h. h) (λ r g n. (n, f r g)) s
 
 module _ (k : List ℕ) (B : List Work) (Z : ℕ → Type 0) (H : Type 0) (s : State) (d a : ℕ) (hd : d < 32) (ha : a < 32)
     (z : isRealReg (s .real) a ≡ true → Z a) where
-  pub is-not-zero-keeps : Keeps k B (λ r. r ≡ d) Z H s (then (c.bits BinOp.Xor 31 31 31 s) (c.neq d a 31))
+  pub compare-zero-keeps : (op by : BinOp) → takesBin true op ≡ true → takesBin true by ≡ true → Keeps k B (λ r. r ≡ d) Z H s (compareZero op by d a s)
   unfolding then c.bits byTwo emit
-  is-not-zero-keeps =
-      join (frame-any (λ r. r ≡ d) 31 (lit≤ tt) (xor-keeps k B Z H s 31 31 31 (lit< tt) (lit< tt) (lit< tt)))
+  compare-zero-keeps op by e f =
+      join (frame-any (λ r. r ≡ d) 31 (lit≤ tt) (bits-keeps k B Z H s 31 31 31 (lit< tt) (lit< tt) (lit< tt) BinOp.Xor refl))
       (frame-clear {Z' = λ r. Z r ⊎ (30 ≤ r)} (λ r g. elim [ inl q ↦ q | inr q ↦ absurd (omega arith) ])
-      (neq-keeps k B (λ r. Z r ⊎ (30 ≤ r)) H _ d a 31 hd ha (lit< tt) (λ e. inl (z (back e))) (λ e. inr (lit≤ tt))))
+      (compare-keeps k B (λ r. Z r ⊎ (30 ≤ r)) H _ d a 31 hd ha (lit< tt) (λ e. inl (z (back e))) (λ e. inr (lit≤ tt)) op by e f))
     where
       back : isRealReg (setReg (s .real) 31 (isRealReg (s .real) 31 && isRealReg (s .real) 31)) a ≡ true → isRealReg (s .real) a ≡ true
       back e = rw (and-self (isRealReg (s .real) 31), set-getD (s .real .regs) 31 false) at e

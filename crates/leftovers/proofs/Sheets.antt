@@ -15,9 +15,9 @@ use Rattle.sheet.proofs.Setting.{right, length-constants}
 use Rattle.records.specs.Record.{records}
 use Rattle.records.proofs.Holding.{AllHold}
 use Rattle.records.proofs.Round.{round}
-use Rattle.machine.specs.Machine.{Store, block}
-use Rattle.machine.specs.Jumps.{breach}
-use Rattle.machine.specs.Answer.{accept, answer}
+use Rattle.player_machine.specs.Machine.{Store, block}
+use Rattle.player_machine.specs.Jumps.{breach}
+use Rattle.player_machine.specs.Answer.{accept, answer}
 use Rattle.lowering.specs.Lower.{startState, lowerSheet}
 use Rattle.mir.specs.Decode.{decoded}
 use Rattle.leftovers.proofs.Accepting.{wrote}
@@ -52,18 +52,18 @@ all-in-more n m h (i ∷ l) v = (in-more n m h i (v .0), all-in-more n m h l (v 
 
 module _ (s : Sheet) (v : AllIn (length (s .constants)) (s .instructions)) (f : length (s .constants) ≤ 251) where
   longer : length (s .constants) ≤ length (whole s .after .consts)
-  longer = grown-length (grows (s .stable) (s .instructions) (startState (s .places) (s .constants)))
+  longer = grown-length (grows (s .mode) (s .instructions) (startState (s .places) (s .constants)))
 
   pub table : length (whole s .after .consts) ≤ 256
-  table = omega (arith, grown-few (grows (s .stable) (s .instructions) (startState (s .places) (s .constants))))
+  table = omega (arith, grown-few (grows (s .mode) (s .instructions) (startState (s .places) (s .constants))))
 
   pub all-in : AllIn (length (whole s .after .consts)) (s .instructions)
   all-in = all-in-more (length (s .constants)) (length (whole s .after .consts)) longer (s .instructions) v
 
   held : AllHold (length (whole s .after .consts)) (whole s .records)
   held =
-      all-keep (whole s .after .consts) (block (whole s .records)) (s .stable) (s .instructions) (startState (s .places) (s .constants)) all-in
-      (finds-block (whole s .after .consts) (s .stable) (s .instructions) (startState (s .places) (s .constants)) refl) (le-refl _)
+      all-keep (whole s .after .consts) (block (whole s .records)) (s .mode) (s .instructions) (startState (s .places) (s .constants)) all-in
+      (finds-block (whole s .after .consts) (s .mode) (s .instructions) (startState (s .places) (s .constants)) refl) (le-refl _)
       .held (omega (arith, table))
 
   pub read-back : records (length (whole s .after .consts)) (encodeAll (whole s .records)) ≡ record { items = whole s .records; fault = 0 }
@@ -76,7 +76,7 @@ module _ (s : Sheet) (v : AllIn (length (s .constants)) (s .instructions)) (f : 
   answers room i σ h =
       let rs = whole s .records in
       let k = whole s .after .consts in
-      let b = no-breach (s .stable) (s .instructions) (startState (s .places) (s .constants)) refl in
+      let b = no-breach (s .mode) (s .instructions) (startState (s .places) (s .constants)) refl in
       rw (
         le-ltb 65536 (length (encodeAll rs)) room,
         le-ltb 256 (length k) table,
@@ -107,7 +107,7 @@ sound bytes room a =
     let u = setup bytes in
     let s = sheetOf bytes in
     let rest = drop (u .start) bytes in
-    let w = wrote (s .stable) room (s .instructions) (instructions (u .count) rest .fault) 0 [] (startState (s .places) (s .constants)) (omega arith) (a .number) in
+    let w = wrote (s .mode) room (s .instructions) (instructions (u .count) rest .fault) rest 0 [] (startState (s .places) (s .constants)) (omega arith) (a .number) in
     let n = length-constants bytes (u .count) 0 in
     record {
       same = λ j. record { sheet = s; listing = w .listing j; constants = w .last j .consts; last = w .last j .real };

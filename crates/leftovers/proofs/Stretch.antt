@@ -1,7 +1,7 @@
 -- Stretches of a listing that keep the agreement of two stores and spare general registers, and how they join.
 use mathlib.Core.Path.{_≡_, refl, sym, ap, _∙_}
 use mathlib.Core.Bool.{Bool, false}
-use mathlib.Core.Logic.{_⊎_, inl, inr}
+use mathlib.Core.Logic.{_⊎_, ⊎-map, inl, inr}
 use mathlib.Core.List.{List, [], _∷_, _++_, map, append-assoc}
 use Prim.Native.Nat.{ℕ, _+_, _≤_, _<_}
 use native.Mathlib.Nat.{add-assoc, suc-add, zero-add}
@@ -13,13 +13,13 @@ use Rattle.mir.specs.declared.records.Work.{Work}
 use Rattle.mir.specs.declared.records.Record.{Record}
 use Rattle.mir.specs.Place.{index}
 use Rattle.records.proofs.Holding.{AllHold}
-use Rattle.machine.specs.Machine.{Store, exec, execs, End, ticks, going, play, reach}
+use Rattle.player_machine.specs.Machine.{Store, exec, execs, End, ticks, going, play, reach}
 use Rattle.lowering.specs.declared.realness.Realness.{Realness}
 use Rattle.lowering.specs.Realness.{isRealReg, isRealLoc, setReg}
 use Rattle.leftovers.specs.Kept.{Kept}
 use Rattle.leftovers.proofs.Rows.{Agree}
 use Rattle.leftovers.proofs.Held.{Asks, held-append}
-use Rattle.leftovers.proofs.Names.{Frame, rename, good, good-free, good-listed, leaf-agree, lines-frame, rename-held}
+use Rattle.leftovers.proofs.Names.{Frame, rename, good, good-parts, leaf-agree, lines-frame, rename-held}
 
 -- The records rs, played where the realness is ρ, do F to the store and count n, whatever follows; after them the realness is ρ'.
 -- The frame holds in any case, the agreement under H (about Half). A listing can hold the records.
@@ -63,6 +63,21 @@ join {k} {b} {rs} {rs'} s t =
       held = λ few. held-append (s .held few) (t .held few);
     }
 
+-- more may be changed and cleared, under what asks more
+pub loosen : {k : List ℕ} {b : List Work} {X X' Z Z' : ℕ → Type 0} {H H' : Type 0} {ρ ρ' : Realness} {rs : List Record}
+    → (H' → H) → ((r : ℕ) → r < 30 → (X' r → ⊥) → (X r → ⊥) × (Z r → Z' r))
+    → Safe k b X Z H ρ rs ρ' → Safe k b X' Z' H' ρ rs ρ'
+loosen f g s = record {
+  F = s .F;
+  n = s .n;
+  plays = s .plays;
+  stands = s .stands;
+  agree = λ h a. s .agree (f h) a;
+  frame =
+      λ σ r h n. let p = s .frame σ r h (g r h n .0) in (p .0, ⊎-map (λ e. e) (λ z. (g r h n .1 (z .0), z .1)) (p .1));
+  held = s .held;
+}
+
 -- ---- working records in a row
 
 pub works-play : (k : List ℕ) (b : List Work) (l : List Work) (rest : List Record) (σ : Store)
@@ -101,11 +116,12 @@ module _ (k : List ℕ) (B : List Work) (Z : ℕ → Type 0) (H : Type 0) (ρ : 
       → T (good x y z g l) → rename d a b p l ≡ l' → Asks (length k) p l
       → Safe k B (λ r. r ≡ d) Z H ρ (map Record.Work l') (setReg ρ d g)
   leaf x y z g ex ey ez l l' t e q =
+      let s = good-parts x y z g l t in
       rw (← e)
       (works-safe (rename d a b p l)
       (λ σ τ _ h. leaf-agree ρ d a b p hd ha hb hp x y z ex ey ez k g l t h)
-      (lines-frame (λ r. r ≡ d) Z d a b p k l (good-free x y z g l t) (λ r h n. n))
-      (λ few. rename-held d a b p k l few hp (good-listed x y z g l t) q))
+      (lines-frame (λ r. r ≡ d) Z d a b p k l (s .2) (λ r h n. n))
+      (λ few. rename-held d a b p k l few hp (s .3) q))
 
 -- without a place
 module _ (k : List ℕ) (B : List Work) (Z : ℕ → Type 0) (H : Type 0) (ρ : Realness)

@@ -10,14 +10,13 @@ use lib.Dec.{lit<, lit≤}
 use Rattle.mir.specs.declared.records.Loc.{Loc}
 use Rattle.mir.specs.Register.{re, im}
 use Rattle.mir.specs.Place.{class, index}
-use Rattle.machine.specs.Machine.{Store, at, place}
+use Rattle.player_machine.specs.Machine.{Store, at, place}
 use Rattle.lowering.specs.declared.realness.Realness.{Realness}
 use Rattle.lowering.specs.Realness.{isRealReg, isRealLoc, fresh}
 use Rattle.leftovers.specs.Leftovers.{Leftover, scratch0, scratch1, half, word, Alike}
 use Rattle.leftovers.specs.Kept.{Parted, Kept, kept-re, kept-im, kept-word, kept-next}
 use Rattle.leftovers.proofs.Rows.{Agree}
-use Rattle.leftovers.proofs.Names.{re-gen, im-gen, re-in, im-in}
-use Rattle.leftovers.proofs.Clearing.{halves-apart, im-apart}
+use Rattle.leftovers.proofs.Names.{re-gen, im-next, re-in, halves-apart, im-apart}
 
 -- ---- none is both
 
@@ -45,20 +44,20 @@ place-apart p p' h h' e =
 
 clash : {ρ : Realness} {w w' : ℕ} → Kept ρ w → Leftover ρ w' → w ≢ w'
 clash (kept-re r h) scratch0 e = re-in r .1 e
-clash (kept-re r h) scratch1 e = re-in r .2 e
+clash (kept-re r h) scratch1 e = omega (arith, re-in r .2)
 clash (kept-re r h) (half r' h' q) e = halves-apart r r' e
 clash (kept-re r h) (word p hp q) e = omega (arith, re-in r .0)
-clash (kept-im r h n) scratch0 e = im-in r .1 e
-clash (kept-im r h n) scratch1 e = im-in r .2 e
+clash (kept-im r h n) scratch0 e = omega (arith, im-next r, re-in r .2)
+clash (kept-im r h n) scratch1 e = omega (arith, im-next r, re-in r .1)
 clash {ρ} (kept-im r h n) (half r' h' q) e = im-apart r r' h h' (λ x. true≢false (sym q ∙ ap (isRealReg ρ) (sym x) ∙ n)) e
-clash (kept-im r h n) (word p hp q) e = omega (arith, im-in r .0)
+clash (kept-im r h n) (word p hp q) e = omega (arith, im-next r, re-in r .0)
 clash (kept-word p hp) scratch0 e = omega arith
 clash (kept-word p hp) scratch1 e = omega arith
-clash (kept-word p hp) (half r h q) e = omega (arith, im-in r .0)
+clash (kept-word p hp) (half r h q) e = omega (arith, im-next r, re-in r .0)
 clash (kept-word p hp) (word p' hp' q) e = omega arith
 clash (kept-next p hp n) scratch0 e = omega arith
 clash (kept-next p hp n) scratch1 e = omega arith
-clash (kept-next p hp n) (half r h q) e = omega (arith, im-in r .0)
+clash (kept-next p hp n) (half r h q) e = omega (arith, im-next r, re-in r .0)
 clash {ρ} (kept-next p hp n) (word p' hp' q) e =
     true≢false (sym q ∙ ap (isRealLoc (ρ .places)) (sym (place-apart p p' hp hp' (omega arith))) ∙ n)
 
@@ -100,7 +99,7 @@ spot-of-general w l h = go (ℕ-discrete (w % 2) 0)
 
     go : Dec (w % 2 ≡ 0) → Spot w
     go (yes e) = real-half r (omega arith) (omega (arith, re-gen r (omega arith)))
-    go (no e) = imaginary-half r (omega arith) (omega (arith, im-gen r (omega arith)))
+    go (no e) = imaginary-half r (omega arith) (omega (arith, im-next r, re-gen r (omega arith)))
 
 spot : (w : ℕ) → w < 1602 → Spot w
 spot w h = go (decLt w 4) (decLt w 64) (decLt w 66)
@@ -145,14 +144,14 @@ either-one ρ w h = go (spot w h)
 -- both kinds of words lie in the store
 kept-within : {ρ : Realness} {w : ℕ} → Kept ρ w → w < 1602
 kept-within (kept-re r h) = omega (arith, re-in r .0)
-kept-within (kept-im r h n) = omega (arith, im-in r .0)
+kept-within (kept-im r h n) = omega (arith, im-next r, re-in r .0)
 kept-within (kept-word p h) = omega (arith, class-below p)
 kept-within (kept-next p h n) = omega (arith, class-below p)
 
 leftover-within : {ρ : Realness} {w : ℕ} → Leftover ρ w → w < 1602
 leftover-within scratch0 = lit< tt
 leftover-within scratch1 = lit< tt
-leftover-within (half r h e) = omega (arith, im-in r .0)
+leftover-within (half r h e) = omega (arith, im-next r, re-in r .0)
 leftover-within (word p h e) = omega (arith, class-below p)
 
 pub parted : (ρ : Realness) → Parted (Kept ρ) (Leftover ρ)

@@ -4,7 +4,7 @@ use Prim.Native.Nat.{ℕ}
 use mathlib.Core.Path.{_≡_}
 use mathlib.Core.List.{List, [], _∷_, _++_}
 use lib.ListN.{set, replicate}
-use Rattle.machine.specs.Machine.{Store}
+use Rattle.player_machine.specs.Machine.{Store}
 use Rattle.leftovers.specs.Leftovers.{lowered, Mixing, EndAlike, Given}
 
 -- the store of zeros

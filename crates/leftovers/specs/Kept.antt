@@ -6,7 +6,7 @@ use mathlib.Core.Logic.{_⊎_}
 use Rattle.mir.specs.declared.records.Loc.{Loc}
 use Rattle.mir.specs.Register.{re, im}
 use Rattle.mir.specs.Place.{index}
-use Rattle.machine.specs.Machine.{place}
+use Rattle.player_machine.specs.Machine.{place}
 use Rattle.lowering.specs.declared.realness.Realness.{Realness}
 use Rattle.lowering.specs.Realness.{isRealReg, isRealLoc}
 

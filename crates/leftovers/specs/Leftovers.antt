@@ -1,7 +1,7 @@
 -- Leftovers (document 01): demand 3, one claim about the bytes that lowering writes and that playing reads.
 use Prim.Native.Nat.{ℕ, suc, _-_, _≤_, _<_}
 use mathlib.Core.Path.{_≡_}
-use mathlib.Core.Bool.{Bool, true, false}
+use mathlib.Core.Bool.{true, false}
 use mathlib.Core.Logic.{_⊎_}
 use mathlib.Core.List.{List}
 use mathlib.Core.Option.{Option, none, some}
@@ -12,11 +12,12 @@ use Rattle.mir.specs.declared.records.Instruction.{Instruction}
 use Rattle.mir.specs.declared.records.Record.{Record}
 use Rattle.mir.specs.Register.{re, im, T0, T1}
 use Rattle.mir.specs.Place.{index}
+use Rattle.sheet.specs.declared.setup.Mode.{Mode}
 use Rattle.sheet.specs.Setup.{setup, constantsOf}
 use Rattle.sheet.specs.Instruction.{instructions}
 use Rattle.records.specs.Record.{records}
-use Rattle.machine.specs.Machine.{Store, at, place, going, block, reach}
-use Rattle.machine.specs.Answer.{Answer, answer}
+use Rattle.player_machine.specs.Machine.{Store, at, place, going, block, reach}
+use Rattle.player_machine.specs.Answer.{Answer, answer}
 use Rattle.lowering.specs.declared.realness.Realness.{Realness}
 use Rattle.lowering.specs.Realness.{isRealReg, isRealLoc}
 use Rattle.lowering.specs.Complexifier.{Out}
@@ -43,7 +44,7 @@ pub record Alike (ρ : Realness) (σ τ : Store) : Type 0 where
 
 -- what a sheet holds: its mode, its header's bytes of realness, its own constants and its instructions
 pub record Sheet : Type 0 where
-  pub stable : Bool
+  pub mode : Mode
   pub places : List ℕ
   pub constants : List ℕ
   pub instructions : List Instruction
@@ -53,7 +54,7 @@ abbrev pub sheetOf : List ℕ → Sheet
 sheetOf bytes =
     let u = setup bytes in
     record {
-      stable = u .stable;
+      mode = u .mode;
       places = u .places;
       constants = constantsOf bytes (u .count);
       instructions = instructions (u .count) (drop (u .start) bytes) .items;
@@ -82,7 +83,7 @@ lowered bytes room =
 
 -- the lowering of the first i instructions
 abbrev pub upTo : Sheet → ℕ → Out
-upTo s i = complexify (s .stable) (take i (s .instructions)) (startState (s .places) (s .constants))
+upTo s i = complexify (s .mode) (take i (s .instructions)) (startState (s .places) (s .constants))
 
 -- "the record index where the listing of the first i instructions ends; the realness then is the one held after those i"
 abbrev pub point : Sheet → ℕ → ℕ

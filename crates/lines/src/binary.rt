@@ -3,7 +3,7 @@ ghost use mathlib.Core.Bool.{false};
 ghost use mathlib.Core.List.{map};
 ghost use Rattle.mir.specs.Encode.{buf};
 ghost use Rattle.mir.specs.declared.records.Record.{Record};
-ghost use Rattle.lowering.specs.Lines.{plusLines, minusLines, timesLines, divideLines, complexLines, orderLines, neqLines, bitsLines, ifelseLines};
+ghost use Rattle.lowering.specs.Lines.{plusLines, minusLines, timesLines, divideLines, complexLines, orderLines, compareLines, bitsLines, ifelseLines};
 ghost use Rattle.lines.specs.Lists.{Lists};
 use super::emit::bi;
 use super::emit::complex_bi;
@@ -113,15 +113,23 @@ pub fn order_lines(out: &mut [u8], at: usize, op: BinOp, d: u8, a: u8, b: u8) ->
     bi(out, at, op, Part::Re(d), Part::Re(a), Part::Re(b))
 }
 
-// `neq`, behind `ensure_complex` of both
-pub fn neq_lines(out: &mut [u8], at: usize, d: u8, a: u8, b: u8) -> usize
-    ensures { λ r. ⌜ Lists (buf (now (out .entry)) at) (map Record.Work (neqLines d a b)) (buf (now (out .exit)) r) ⌝ }
+// `eq`, `neq`, behind `ensure_complex` of both
+pub fn compare_lines(
+    out: &mut [u8],
+    at: usize,
+    op: BinOp,
+    join: BinOp,
+    d: u8,
+    a: u8,
+    b: u8,
+) -> usize
+    ensures { λ r. ⌜ Lists (buf (now (out .entry)) at) (map Record.Work (compareLines op join d a b)) (buf (now (out .exit)) r) ⌝ }
 {
     let c = Part::Im(d);
-    let at = bi(out, at, BinOp::NotEqual, c, Part::Im(a), Part::Im(b));
+    let at = bi(out, at, op, c, Part::Im(a), Part::Im(b));
     let e = Part::Re(d);
-    let at = bi(out, at, BinOp::NotEqual, e, Part::Re(a), Part::Re(b));
-    bi(out, at, BinOp::Or, e, e, c)
+    let at = bi(out, at, op, e, Part::Re(a), Part::Re(b));
+    bi(out, at, join, e, e, c)
 }
 
 // `and`, `or`, `xor`

@@ -10,13 +10,13 @@ use Rattle.mir.specs.declared.records.Work.{Work}
 use Rattle.mir.specs.declared.records.Record.{Record}
 use Rattle.mir.specs.Length.{lengthOf}
 use Rattle.mir.specs.Encode.{recordOf, encode}
-use Rattle.mir.specs.Read.{Read, got, refused, refuse, andThen, registers}
-use Rattle.mir.specs.Operation.{uniAt, binAt, arithAt, fusedAt, uniTaken, binTaken, arithTaken, fusedTaken}
+use Rattle.mir.specs.Read.{Read, got, refused, refuse, andThen, above, registers}
+use Rattle.mir.specs.Operation.{uniOps, binOps, arithOps, fusedOps, taken}
 use Rattle.mir.specs.Field.{wordAt, takesKind, headFrom, placeAt, savePlace, condPlace}
 use Rattle.mir.specs.Decode.{readAt}
 use Rattle.mir.proofs.Passing.{either, passed, then, got-same, clash}
 use Rattle.mir.proofs.Heads.{headed}
-use Rattle.records.specs.Takes.{takesUni, takesBin, takesArith, takesFused}
+use Rattle.mir.specs.Takes.{takesUni, takesBin, takesArith, takesFused}
 use Rattle.records.specs.Record.{fieldsFrom, recordFrom, recordAt}
 
 -- what is read has k bytes
@@ -35,8 +35,7 @@ module _ {k : ℕ} where
   tested false n p = p
 
   named : (limit : ℕ) (xs : List ℕ) {x : Read Record} → Makes k x → Makes k (registers limit xs x)
-  named limit [] p = p
-  named limit (x ∷ xs) p = tested (ltb limit x) 3 (named limit xs p)
+  named limit xs p = tested (above limit xs) 3 p
 
   after : {A : Type 0} (x : Read A) {f : A → Read Record} → ((a : A) → Makes k (f a)) → Makes k (andThen x f)
   after (got a) p = p a
@@ -56,17 +55,17 @@ module _ (count : ℕ) (s : List ℕ) where
   fields-size : (kind : ℕ) → Makes (lengthOf kind) (fieldsFrom count kind s)
   unfolding fieldsFrom recordOf
   fields-size kind =
-      chosen 1 kind (after (uniTaken takesUni (uniAt (byte 4))) (λ op. named 65 (byte 5 ∷ byte 6 ∷ []) (made (Record.Work (Work.Uni op (byte 5) (byte 6))) refl)))
-      (chosen 2 kind (after (binTaken takesBin (binAt (byte 4))) (λ op. named 65 (byte 5 ∷ byte 6 ∷ byte 7 ∷ []) (made (Record.Work (Work.Bi op (byte 5) (byte 6) (byte 7))) refl)))
+      chosen 1 kind (after (taken (takesUni true) uniOps (byte 4)) (λ op. named 65 (byte 5 ∷ byte 6 ∷ []) (made (Record.Work (Work.Uni op (byte 5) (byte 6))) refl)))
+      (chosen 2 kind (after (taken (takesBin true) binOps (byte 4)) (λ op. named 65 (byte 5 ∷ byte 6 ∷ byte 7 ∷ []) (made (Record.Work (Work.Bi op (byte 5) (byte 6) (byte 7))) refl)))
       (chosen 3 kind (named 65 (byte 4 ∷ byte 5 ∷ []) (made (Record.Work (Work.Mov (byte 4) (byte 5))) refl))
       (chosen 4 kind (named 65 (byte 4 ∷ []) (after (placeAt s 5) (λ loc. made (Record.Work (Work.Load (byte 4) loc)) refl)))
       (chosen 5 kind (named 65 (byte 4 ∷ []) (after (savePlace s 5) (λ loc. made (Record.Work (Work.Save (byte 4) loc)) refl)))
       (chosen 6 kind (named 65 (byte 4 ∷ []) (tested (leb count (wordAt s 5)) 5 (made (Record.Work (Work.LoadConst (byte 4) (wordAt s 5))) refl)))
-      (chosen 7 kind (after (fusedTaken takesFused (fusedAt (byte 4))) (λ op. named 65 (byte 5 ∷ byte 6 ∷ byte 7 ∷ byte 8 ∷ []) (made (Record.Work (Work.Fused op (byte 5) (byte 6) (byte 7) (byte 8))) refl)))
+      (chosen 7 kind (after (taken (takesFused true) fusedOps (byte 4)) (λ op. named 65 (byte 5 ∷ byte 6 ∷ byte 7 ∷ byte 8 ∷ []) (made (Record.Work (Work.Fused op (byte 5) (byte 6) (byte 7) (byte 8))) refl)))
       (chosen 8 kind (named 65 (byte 4 ∷ byte 5 ∷ byte 6 ∷ []) (after (condPlace s 7) (λ loc. made (Record.Work (Work.IfElse (byte 4) (byte 5) (byte 6) loc)) refl)))
       (chosen 11 kind (named 65 (byte 4 ∷ byte 5 ∷ []) (after (placeAt s 6) (λ loc. made (Record.Work (Work.LoadComplex (byte 4) (byte 5) loc)) refl)))
       (chosen 12 kind (named 65 (byte 4 ∷ byte 5 ∷ []) (after (savePlace s 6) (λ loc. made (Record.Work (Work.SaveComplex (byte 4) (byte 5) loc)) refl)))
-      (chosen 13 kind (after (arithTaken takesArith (arithAt (byte 4))) (λ op. named 65 (byte 5 ∷ byte 6 ∷ byte 7 ∷ byte 8 ∷ byte 9 ∷ byte 10 ∷ []) (made (Record.Work (Work.ComplexBi op (byte 5) (byte 6) (byte 7) (byte 8) (byte 9) (byte 10))) refl)))
+      (chosen 13 kind (after (taken takesArith arithOps (byte 4)) (λ op. named 65 (byte 5 ∷ byte 6 ∷ byte 7 ∷ byte 8 ∷ byte 9 ∷ byte 10 ∷ []) (made (Record.Work (Work.ComplexBi op (byte 5) (byte 6) (byte 7) (byte 8) (byte 9) (byte 10))) refl)))
       (chosen 14 kind (tested (ltb 2 (byte 4)) 2 (made (Record.Label (byte 4)) refl))
       (chosen 15 kind (tested (ltb 2 (byte 4)) 2 (made (Record.Branch (byte 4)) refl))
       (chosen 16 kind (tested (ltb 2 (byte 4)) 2 (made (Record.Call (byte 4)) refl))

@@ -10,13 +10,14 @@ use Rattle.mir.specs.declared.records.Loc.{Loc}
 use Rattle.mir.specs.declared.records.Work.{Work}
 use Rattle.mir.specs.declared.records.Record.{Record}
 use Rattle.mir.specs.Register.{re, Ret, Temp}
+use Rattle.sheet.specs.declared.setup.Mode.{Mode}
 use Rattle.lowering.specs.declared.realness.Realness.{Realness}
-use Rattle.lowering.specs.Realness.{isRealReg, isRealLoc, setReg, setLocComplex}
+use Rattle.lowering.specs.Realness.{real, complex, isRealReg, isRealLoc, setReg, setLocComplex}
 use Rattle.lowering.specs.Pushes as mir
 use Rattle.lowering.specs.Lines.{ensureLines, stableDivideLines, stableRecipLines, stableAbsLines, stableRootMagnitude, fmovLines}
 use Rattle.lowering.specs.Lines.{loadLines, saveLines, eachLines, absLines, abs2Lines, timesILines, timesNegILines, plainRootMagnitude}
 use Rattle.lowering.specs.Lines.{rootBlock, realRootLines, recipLines, halfLines, plusLines, minusLines, timesLines, divideLines}
-use Rattle.lowering.specs.Lines.{realLines, imaginaryLines, conjugateLines, complexLines, orderLines, neqLines, bitsLines, notLines, ifelseLines}
+use Rattle.lowering.specs.Lines.{realLines, imaginaryLines, conjugateLines, complexLines, orderLines, compareLines, bitsLines, notLines, ifelseLines}
 
 -- the fields of `Complexifier` that change: `real_regs` with `real_locs`, `root_defined`, and the constants of its `mir`
 pub record State : Type 0 where
@@ -41,7 +42,7 @@ then o f = record { records = o .records ++ f (o .after) .records; after = f (o 
 unfoldable pub unlisted : State → Out
 unlisted s = record { records = []; after = s }
 
--- lines listed, and register d recorded as real (true) or complex (false)
+-- lines listed, and register d recorded as real or complex
 unfoldable pub emit : State → List Work → ℕ → Bool → Out
 emit s lines d f = record { records = map Record.Work lines; after = withReal s (setReg (s .real) d f) }
 
@@ -60,24 +61,24 @@ abbrev pub copied : Bool → Bool
 copied x = x
 
 abbrev pub asReal : Bool → Bool
-asReal x = true
+asReal x = real
 
 abbrev pub asComplex : Bool → Bool
-asComplex x = false
+asComplex x = complex
 
 abbrev pub promoted : Bool → Bool → Bool
 promoted x y = x && y
 
 abbrev pub bothAsReal : Bool → Bool → Bool
-bothAsReal x y = true
+bothAsReal x y = real
 
 abbrev pub bothAsComplex : Bool → Bool → Bool
-bothAsComplex x y = false
+bothAsComplex x y = complex
 
 -- `ensure_complex`
 unfoldable pub ensureComplex : ℕ → State → Out
 unfolding emit ensureLines
-ensureComplex d s = emit s (ensureLines (isRealReg (s .real) d) d) d false
+ensureComplex d s = emit s (ensureLines (isRealReg (s .real) d) d) d complex
 
 -- ---- stable_math
 
@@ -127,7 +128,7 @@ threeLines u v w lines k =
 unfoldable pub withThree : ℕ → ℕ → ℕ → (ℕ → ℕ → ℕ → List Work) → ℕ → State → Out
 unfolding emit stableConst
 withThree u v w lines d s =
-    emit (withConsts s (threeConsts u v w (s .consts))) (threeLines u v w lines (s .consts)) d false
+    emit (withConsts s (threeConsts u v w (s .consts))) (threeLines u v w lines (s .consts)) d complex
 
 -- `stable_divide`, `stable_recip`, and `stable_abs` with the record that `abs` leaves; x: a is recorded as real
 unfoldable pub stableDivide : Bool → ℕ → ℕ → ℕ → State → Out
@@ -152,7 +153,7 @@ fmov d a s = byOne fmovLines copied d a s
 -- `load_const`
 unfoldable pub loadConst : ℕ → ℕ → State → Out
 unfolding emit
-loadConst d idx s = emit s (mir.loadConst (re d) idx ∷ []) d true
+loadConst d idx s = emit s (mir.loadConst (re d) idx ∷ []) d real
 
 -- `load_mem`, `load_param`, `load_stack`
 unfoldable pub loadFrom : ℕ → Loc → State → Out
@@ -172,15 +173,19 @@ saveTo a p s =
     (λ s. record { records = map Record.Work (saveLines a p); after = withReal s (savedReal p (s .real)) })
 
 -- `abs`, by mode (true: stable) and by the realness of a: "Abs of a complex register yields a complex record"
-unfoldable pub abs : Bool → Bool → ℕ → ℕ → State → Out
+unfoldable pub absBy : Bool → Bool → ℕ → ℕ → State → Out
 unfolding emit absLines stableAbs
-abs m true d a s = emit s (absLines true d a) d true
-abs true false d a s = stableAbs d a s
-abs false false d a s = emit s (absLines false d a) d false
+absBy stable true d a s = emit s (absLines true d a) d real
+absBy true false d a s = stableAbs d a s
+absBy false false d a s = emit s (absLines false d a) d complex
+
+unfoldable pub abs : Bool → ℕ → ℕ → State → Out
+unfolding absBy
+abs stable d a s = absBy stable (isRealReg (s .real) a) d a s
 
 -- `call_funclet("@complex_root")`
 unfoldable pub callRoot : State → Out
-callRoot s = record { records = Record.Call 1 ∷ []; after = withReal s (setReg (s .real) Ret false) }
+callRoot s = record { records = Record.Call 1 ∷ []; after = withReal s (setReg (s .real) Ret complex) }
 
 -- the block of `root` between its labels: Branch 2, Label 1, the block, Branch 0, Label 2
 abbrev pub aroundBlock : List Work → List Record
@@ -202,36 +207,44 @@ blockConsts false k = k
 -- it to the destination, be that Ret itself, left it so.
 unfoldable pub defineRoot : Bool → Bool → State → Out
 unfolding blockOf blockConsts unlisted
-defineRoot true m s = unlisted s
-defineRoot false m s =
+defineRoot true stable s = unlisted s
+defineRoot false stable s =
     record {
-      records = aroundBlock (blockOf m (s .consts));
-      after = record { real = s .real; rootDefined = true; consts = blockConsts m (s .consts) };
+      records = aroundBlock (blockOf stable (s .consts));
+      after = record { real = s .real; rootDefined = true; consts = blockConsts stable (s .consts) };
     }
 
 -- `root`
 unfoldable pub root : Bool → ℕ → ℕ → State → Out
 unfolding then ensureComplex fmov callRoot defineRoot
-root m d a s =
-    then (then (then (then (ensureComplex a s) (fmov Temp a)) callRoot) (fmov d Ret)) (λ s. defineRoot (s .rootDefined) m s)
+root stable d a s =
+    then (then (then (then (ensureComplex a s) (fmov Temp a)) callRoot) (fmov d Ret)) (λ s. defineRoot (s .rootDefined) stable s)
 
 -- `real_root`, by the realness of a
-unfoldable pub realRoot : Bool → Bool → ℕ → ℕ → State → Out
+unfoldable pub realRootBy : Bool → Bool → ℕ → ℕ → State → Out
 unfolding emit realRootLines root
-realRoot m true d a s = emit s (realRootLines d a) d true
-realRoot m false d a s = root m d a s
+realRootBy stable true d a s = emit s (realRootLines d a) d real
+realRootBy stable false d a s = root stable d a s
+
+unfoldable pub realRoot : Bool → ℕ → ℕ → State → Out
+unfolding realRootBy
+realRoot stable d a s = realRootBy stable (isRealReg (s .real) a) d a s
 
 -- `recip`, by mode and by the realness of a
-unfoldable pub recip : Bool → Bool → ℕ → ℕ → State → Out
+unfoldable pub recipBy : Bool → Bool → ℕ → ℕ → State → Out
 unfolding emit recipLines stableRecip
-recip m true d a s = emit s (recipLines true d a) d true
-recip true false d a s = stableRecip d a s
-recip false false d a s = emit s (recipLines false d a) d false
+recipBy stable true d a s = emit s (recipLines true d a) d real
+recipBy true false d a s = stableRecip d a s
+recipBy false false d a s = emit s (recipLines false d a) d complex
+
+unfoldable pub recip : Bool → ℕ → ℕ → State → Out
+unfolding recipBy
+recip stable d a s = recipBy stable (isRealReg (s .real) a) d a s
 
 -- `half`: "Half never changes a record"
-unfoldable pub half : ℕ → ℕ → State → Out
+unfoldable pub half : Mode → ℕ → ℕ → State → Out
 unfolding halfLines
-half d a s = record { records = map Record.Work (halfLines d a); after = s }
+half mode d a s = record { records = map Record.Work (halfLines d a); after = s }
 
 -- `plus`, `minus`, `times`
 unfoldable pub plus : ℕ → ℕ → ℕ → State → Out
@@ -247,20 +260,20 @@ unfolding byTwo timesLines
 times d a b s = byTwo timesLines promoted d a b s
 
 -- `divide`, by mode and by the realness of a and b
-unfoldable pub divideBy : Bool → Bool → Bool → ℕ → ℕ → ℕ → State → Out
+unfoldable pub divideBy : Mode → Bool → Bool → ℕ → ℕ → ℕ → State → Out
 unfolding emit divideLines stableDivide
-divideBy m x true d a b s = emit s (divideLines x true d a b) d x
-divideBy true x false d a b s = stableDivide x d a b s
-divideBy false x false d a b s = emit s (divideLines x false d a b) d false
+divideBy mode x true d a b s = emit s (divideLines x true d a b) d x
+divideBy Mode.Stable x false d a b s = stableDivide x d a b s
+divideBy Mode.Plain x false d a b s = emit s (divideLines x false d a b) d complex
 
-unfoldable pub divide : Bool → ℕ → ℕ → ℕ → State → Out
+unfoldable pub divide : Mode → ℕ → ℕ → ℕ → State → Out
 unfolding divideBy
-divide m d a b s = divideBy m (isRealReg (s .real) a) (isRealReg (s .real) b) d a b s
+divide mode d a b s = divideBy mode (isRealReg (s .real) a) (isRealReg (s .real) b) d a b s
 
--- `neq`
-unfoldable pub neq : ℕ → ℕ → ℕ → State → Out
-unfolding then ensureComplex emit neqLines
-neq d a b s = then (then (ensureComplex a s) (ensureComplex b)) (λ s. emit s (neqLines d a b) d true)
+-- `eq`, `neq`, by the comparison and what joins the halves
+unfoldable pub compare : BinOp → BinOp → ℕ → ℕ → ℕ → State → Out
+unfolding then ensureComplex emit compareLines
+compare op join d a b s = then (then (ensureComplex a s) (ensureComplex b)) (λ s. emit s (compareLines op join d a b) d real)
 
 -- `and`, `or`, `xor`
 unfoldable pub bits : BinOp → ℕ → ℕ → ℕ → State → Out
@@ -287,4 +300,4 @@ fusedNegMulSub d a b c s = then (then (times Ret a b s) (plus d Ret c)) (byOne (
 -- `ifelse`
 unfoldable pub ifelse : ℕ → ℕ → ℕ → Loc → State → Out
 unfolding then ensureComplex emit ifelseLines
-ifelse d a b p s = then (then (ensureComplex a s) (ensureComplex b)) (λ s. emit s (ifelseLines d a b p) d false)
+ifelse d a b p s = then (then (ensureComplex a s) (ensureComplex b)) (λ s. emit s (ifelseLines d a b p) d complex)

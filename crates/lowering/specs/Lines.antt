@@ -7,7 +7,7 @@ use Rattle.mir.specs.declared.ops.UniOp.{UniOp}
 use Rattle.mir.specs.declared.ops.BinOp.{BinOp}
 use Rattle.mir.specs.declared.records.Loc.{Loc}
 use Rattle.mir.specs.declared.records.Work.{Work}
-use Rattle.mir.specs.Register.{re, im, T0, T1}
+use Rattle.mir.specs.Register.{re, im, Ret, Temp, T0, T1}
 use Rattle.lowering.specs.Pushes as mir
 
 -- `ensure_complex`
@@ -62,26 +62,26 @@ scaledDivide false d a b a' b' c' d' =
 -- `stable_divide`, by whether d is general: then the scaled dividend goes to Temp's pair and the divisor to d's, else the other way
 unfoldable pub stableDivideLines : Bool → Bool → ℕ → ℕ → ℕ → ℕ → ℕ → ℕ → List Work
 unfolding stableDivisorScale scaledDivide
-stableDivideLines true x d a b i j q = stableDivisorScale (re b) (im b) i j q ++ scaledDivide x d a b 0 1 (re d) (im d)
-stableDivideLines false x d a b i j q = stableDivisorScale (re b) (im b) i j q ++ scaledDivide x d a b (re d) (im d) 0 1
+stableDivideLines true x d a b i j q = stableDivisorScale (re b) (im b) i j q ++ scaledDivide x d a b (re Temp) (im Temp) (re d) (im d)
+stableDivideLines false x d a b i j q = stableDivisorScale (re b) (im b) i j q ++ scaledDivide x d a b (re d) (im d) (re Temp) (im Temp)
 
 -- `stable_recip`
 unfoldable pub stableRecipLines : ℕ → ℕ → ℕ → ℕ → ℕ → List Work
 unfolding stableDivisorScale
 stableRecipLines d a i j q =
     stableDivisorScale (re a) (im a) i j q
-    ++ mir.times 0 (re a) T0
-    ∷ mir.times 1 (im a) T0
-    ∷ mir.times T1 0 0
-    ∷ mir.fusedMulAdd T1 1 1 T1
-    ∷ mir.divide 0 0 T1
-    ∷ mir.divide 1 1 T1
-    ∷ mir.neg 1 1
-    ∷ mir.times (re d) 0 T0
-    ∷ mir.times (im d) 1 T0
+    ++ mir.times (re Temp) (re a) T0
+    ∷ mir.times (im Temp) (im a) T0
+    ∷ mir.times T1 (re Temp) (re Temp)
+    ∷ mir.fusedMulAdd T1 (im Temp) (im Temp) T1
+    ∷ mir.divide (re Temp) (re Temp) T1
+    ∷ mir.divide (im Temp) (im Temp) T1
+    ∷ mir.neg (im Temp) (im Temp)
+    ∷ mir.times (re d) (re Temp) T0
+    ∷ mir.times (im d) (im Temp) T0
     ∷ []
 
--- `stable_abs`: the constants are 2^-1021, 2^1023, then infinity; 64 is Ret
+-- `stable_abs`: the constants are 2^-1021, 2^1023, then infinity
 unfoldable pub stableAbsLines : ℕ → ℕ → ℕ → ℕ → ℕ → List Work
 unfolding stableExponent
 stableAbsLines d a i j q =
@@ -89,37 +89,37 @@ stableAbsLines d a i j q =
     ++ mir.loadConst T1 q
     ∷ mir.xor T1 T0 T1
     ∷ mir.half T1 T1
-    ∷ mir.times 64 (re a) T1
+    ∷ mir.times (re Ret) (re a) T1
     ∷ mir.times T1 (im a) T1
-    ∷ mir.times 64 64 64
+    ∷ mir.times (re Ret) (re Ret) (re Ret)
     ∷ mir.times T1 T1 T1
-    ∷ mir.plus 64 64 T1
-    ∷ mir.root 64 64
-    ∷ mir.times (re d) 64 T0
+    ∷ mir.plus (re Ret) (re Ret) T1
+    ∷ mir.root (re Ret) (re Ret)
+    ∷ mir.times (re d) (re Ret) T0
     ∷ mir.xor (im d) (im d) (im d)
     ∷ []
 
--- `stable_root_magnitude`: the constants of `stable_abs`; 0 and 1 are Temp's halves, 64 is Ret
+-- `stable_root_magnitude`: the constants of `stable_abs`
 unfoldable pub stableRootMagnitude : ℕ → ℕ → ℕ → List Work
 unfolding stableExponent
 stableRootMagnitude i j q =
-    stableExponent 0 1 i j
+    stableExponent (re Temp) (im Temp) i j
     ++ mir.root T0 T0
     ∷ mir.and T0 T0 T1
     ∷ mir.times T1 T0 T0
-    ∷ mir.loadConst 64 q
-    ∷ mir.xor T1 T1 64
+    ∷ mir.loadConst (re Ret) q
+    ∷ mir.xor T1 T1 (re Ret)
     ∷ mir.half T1 T1
-    ∷ mir.times 64 0 T1
-    ∷ mir.times T1 1 T1
-    ∷ mir.times 0 64 64
-    ∷ mir.fusedMulAdd 0 T1 T1 0
-    ∷ mir.root 0 0
-    ∷ mir.abs T1 64
-    ∷ mir.plus 0 0 T1
-    ∷ mir.half 0 0
-    ∷ mir.root 0 0
-    ∷ mir.times T0 0 T0
+    ∷ mir.times (re Ret) (re Temp) T1
+    ∷ mir.times T1 (im Temp) T1
+    ∷ mir.times (re Temp) (re Ret) (re Ret)
+    ∷ mir.fusedMulAdd (re Temp) T1 T1 (re Temp)
+    ∷ mir.root (re Temp) (re Temp)
+    ∷ mir.abs T1 (re Ret)
+    ∷ mir.plus (re Temp) (re Temp) T1
+    ∷ mir.half (re Temp) (re Temp)
+    ∷ mir.root (re Temp) (re Temp)
+    ∷ mir.times T0 (re Temp) T0
     ∷ []
 
 -- ---- moves and places
@@ -176,34 +176,34 @@ unfoldable pub timesNegILines : Bool → ℕ → ℕ → List Work
 timesNegILines true d a = mir.neg (im d) (re a) ∷ mir.xor (re d) (re d) (re d) ∷ []
 timesNegILines false d a = mir.fmov T1 (im a) ∷ mir.neg (im d) (re a) ∷ mir.fmov (re d) T1 ∷ []
 
--- the block of `root`: what it computes first in plain mode; 0 and 1 are Temp's halves
+-- the block of `root`: what it computes first in plain mode
 unfoldable pub plainRootMagnitude : List Work
 plainRootMagnitude =
-    mir.times T0 0 0
-    ∷ mir.fusedMulAdd T0 1 1 T0
+    mir.times T0 (re Temp) (re Temp)
+    ∷ mir.fusedMulAdd T0 (im Temp) (im Temp) T0
     ∷ mir.root T0 T0
-    ∷ mir.abs T1 0
+    ∷ mir.abs T1 (re Temp)
     ∷ mir.plus T0 T0 T1
     ∷ mir.half T0 T0
     ∷ mir.root T0 T0
     ∷ []
 
--- the block of `root` from its label to `ret`: 64 and 65 are Ret's halves
+-- the block of `root` from its label to `ret`
 unfoldable pub rootBlock : List Work → List Work
 rootBlock magnitude =
     mir.xor T0 T0 T0
-    ∷ mir.lt T0 T0 0
+    ∷ mir.lt T0 T0 (re Temp)
     ∷ mir.save T0 (Loc.Stack 2)
     ∷ (magnitude
-    ++ mir.divide T1 1 T0
+    ++ mir.divide T1 (im Temp) T0
     ∷ mir.half T1 T1
-    ∷ mir.eq 0 T1 T1
-    ∷ mir.and T1 T1 0
-    ∷ mir.ifelse 0 T0 T1 (Loc.Stack 2)
-    ∷ mir.ifelse 1 T1 T0 (Loc.Stack 2)
-    ∷ mir.sign T0 0
-    ∷ mir.xor 64 0 T0
-    ∷ mir.xor 65 1 T0
+    ∷ mir.eq (re Temp) T1 T1
+    ∷ mir.and T1 T1 (re Temp)
+    ∷ mir.ifelse (re Temp) T0 T1 (Loc.Stack 2)
+    ∷ mir.ifelse (im Temp) T1 T0 (Loc.Stack 2)
+    ∷ mir.sign T0 (re Temp)
+    ∷ mir.xor (re Ret) (re Temp) T0
+    ∷ mir.xor (im Ret) (im Temp) T0
     ∷ [])
 
 -- `real_root` of a real register
@@ -248,18 +248,18 @@ timesLines true false d a b = mir.times (im d) (re a) (im b) ∷ mir.times (re d
 timesLines false true d a b = mir.times (im d) (im a) (re b) ∷ mir.times (re d) (re a) (re b) ∷ []
 timesLines false false d a b = mir.timesComplex (re d) (im d) (re a) (im a) (re b) (im b) ∷ []
 
--- `divide`, by a complex register in plain mode; 0 is the real half of Temp
+-- `divide`, by a complex register in plain mode
 unfoldable pub divideLines : Bool → Bool → ℕ → ℕ → ℕ → List Work
 divideLines true true d a b = mir.divide (re d) (re a) (re b) ∷ []
 divideLines false true d a b = mir.divide (im d) (im a) (re b) ∷ mir.divide (re d) (re a) (re b) ∷ []
 divideLines true false d a b =
     mir.times T0 (re b) (re b)
-    ∷ mir.fusedMulAdd 0 (im b) (im b) T0
+    ∷ mir.fusedMulAdd (re Temp) (im b) (im b) T0
     ∷ mir.times T0 (re a) (re b)
     ∷ mir.times T1 (re a) (im b)
     ∷ mir.neg (im d) T1
-    ∷ mir.divide (im d) (im d) 0
-    ∷ mir.divide (re d) T0 0
+    ∷ mir.divide (im d) (im d) (re Temp)
+    ∷ mir.divide (re d) T0 (re Temp)
     ∷ []
 divideLines false false d a b = mir.divideComplex (re d) (im d) (re a) (im a) (re b) (im b) ∷ []
 
@@ -285,12 +285,12 @@ complexLines x y d a b = mir.fmov (im d) (re b) ∷ mir.fmov (re d) (re a) ∷ [
 unfoldable pub orderLines : BinOp → Bool → Bool → ℕ → ℕ → ℕ → List Work
 orderLines op x y d a b = Work.Bi op (re d) (re a) (re b) ∷ []
 
--- `neq`, behind `ensure_complex` of both
-unfoldable pub neqLines : ℕ → ℕ → ℕ → List Work
-neqLines d a b =
-    mir.neq (im d) (im a) (im b)
-    ∷ mir.neq (re d) (re a) (re b)
-    ∷ mir.or (re d) (re d) (im d)
+-- `eq` (Equal, joined by And) and `neq` (NotEqual, joined by Or), behind `ensure_complex` of both
+unfoldable pub compareLines : BinOp → BinOp → ℕ → ℕ → ℕ → List Work
+compareLines op join d a b =
+    Work.Bi op (im d) (im a) (im b)
+    ∷ Work.Bi op (re d) (re a) (re b)
+    ∷ Work.Bi join (re d) (re d) (im d)
     ∷ []
 
 -- `and`, `or`, `xor`

@@ -8,9 +8,13 @@ use Rattle.mir.specs.declared.ops.UniOp.{UniOp}
 use Rattle.mir.specs.declared.ops.BinOp.{BinOp}
 use Rattle.mir.specs.declared.ops.ArithOp.{ArithOp}
 use Rattle.mir.specs.declared.records.Instruction.{Instruction}
+use Rattle.mir.specs.Operation.{uniNumber, binNumber}
+use Rattle.mir.specs.Takes.{oneOf}
 use Rattle.mir.specs.Register.{Ret, Temp}
 use Rattle.mir.specs.Encode.{encodeAll}
-use Rattle.sheet.specs.Setup.{setup, constantsOf}
+use Rattle.mir.specs.Field.{wordAt}
+use Rattle.sheet.specs.declared.setup.Mode.{Mode}
+use Rattle.sheet.specs.Setup.{isStable, setup, constantsOf}
 use Rattle.sheet.specs.Instruction.{instructions}
 use Rattle.lowering.specs.declared.realness.Realness.{Realness}
 use Rattle.lowering.specs.Realness.{isRealReg, isRealLoc, fresh}
@@ -26,44 +30,11 @@ barredDivide stable a b real = stable && (not real && not (isGeneral a && isGene
 
 -- "or Abs of a complex Ret"
 abbrev pub barredUni : Bool → UniOp → ℕ → Realness → Bool
-barredUni stable UniOp.Neg a ρ = false
-barredUni stable UniOp.Not a ρ = false
-barredUni stable UniOp.Abs a ρ = stable && (eqb a Ret && not (isRealReg ρ a))
-barredUni stable UniOp.Root a ρ = false
-barredUni stable UniOp.RealRoot a ρ = false
-barredUni stable UniOp.Recip a ρ = false
-barredUni stable UniOp.Round a ρ = false
-barredUni stable UniOp.Floor a ρ = false
-barredUni stable UniOp.Ceiling a ρ = false
-barredUni stable UniOp.Trunc a ρ = false
-barredUni stable UniOp.Real a ρ = false
-barredUni stable UniOp.Imaginary a ρ = false
-barredUni stable UniOp.Conjugate a ρ = false
-barredUni stable UniOp.Half a ρ = false
-barredUni stable UniOp.IsZero a ρ = false
-barredUni stable UniOp.IsNotZero a ρ = false
-barredUni stable UniOp.Sign a ρ = false
-barredUni stable UniOp.Abs2 a ρ = false
-barredUni stable UniOp.TimesI a ρ = false
-barredUni stable UniOp.TimesNegI a ρ = false
+barredUni stable op a ρ = oneOf uniNumber op (UniOp.Abs ∷ []) && (stable && (eqb a Ret && not (isRealReg ρ a)))
 
 -- of the binary operations Divide alone
 abbrev pub barredBin : Bool → BinOp → ℕ → ℕ → Realness → Bool
-barredBin stable BinOp.Plus a b ρ = false
-barredBin stable BinOp.Minus a b ρ = false
-barredBin stable BinOp.Times a b ρ = false
-barredBin stable BinOp.Divide a b ρ = barredDivide stable a b (isRealReg ρ b)
-barredBin stable BinOp.GreaterThan a b ρ = false
-barredBin stable BinOp.GreaterThanEqual a b ρ = false
-barredBin stable BinOp.LittleThan a b ρ = false
-barredBin stable BinOp.LittleThanEqual a b ρ = false
-barredBin stable BinOp.Equal a b ρ = false
-barredBin stable BinOp.NotEqual a b ρ = false
-barredBin stable BinOp.And a b ρ = false
-barredBin stable BinOp.AndNot a b ρ = false
-barredBin stable BinOp.Or a b ρ = false
-barredBin stable BinOp.Xor a b ρ = false
-barredBin stable BinOp.Complex a b ρ = false
+barredBin stable op a b ρ = oneOf binNumber op (BinOp.Divide ∷ []) && barredDivide stable a b (isRealReg ρ b)
 
 -- and of LoadMath's
 abbrev pub isDivide : ArithOp → Bool
@@ -98,16 +69,31 @@ pub record Ended : Type 0 where
 abbrev pub ended : ℕ → ℕ → List ℕ → State → Ended
 ended number index bytes s = record { number = number; index = index; bytes = bytes; state = s }
 
--- "The first refused record ends the work." 6 is tested before 7, "the instruction's whole listing exceeds the bytes left"; `fault` refuses
--- what stands behind the decoded instructions (0: nothing does). A refused instruction leaves nothing: "the counts and realness are those
--- before it".
-unfoldable pub lowerFrom : Bool → ℕ → List Instruction → ℕ → ℕ → List ℕ → State → Ended
+-- what refuses a decoded instruction, in document 01's order, each test with its number: 7 is "the instruction's whole listing exceeds the
+-- bytes left"; `behind` are the sheet's bytes behind the instruction
+abbrev pub tests : Mode → ℕ → Instruction → List ℕ → List ℕ → State → List (Bool × ℕ)
+tests mode room i behind bytes s =
+    (barred (isStable mode) i (s .real), 6)
+    ∷ (ltb room (length bytes + length (encodeAll (rerun mode i s .records))), 7)
+    ∷ []
+
+-- the first test that holds gives the number; where none holds the work goes on
+abbrev pub byFirst : List (Bool × ℕ) → (ℕ → Ended) → Ended → Ended
+byFirst [] refused on = on
+byFirst (t ∷ ts) refused on = cond (t .0) (refused (t .1)) (byFirst ts refused on)
+
+-- the bytes behind the record that stands first
+abbrev pub past : List ℕ → List ℕ
+past rest = drop (wordAt rest 0) rest
+
+-- "The first refused record ends the work." `rest` are the sheet's bytes from the first instruction on, and `fault` refuses what stands
+-- behind the decoded ones (0: nothing does). A refused instruction leaves nothing: "the counts and realness are those before it".
+unfoldable pub lowerFrom : Mode → ℕ → List Instruction → ℕ → List ℕ → ℕ → List ℕ → State → Ended
 unfolding barred
-lowerFrom stable room [] fault index bytes s = ended fault index bytes s
-lowerFrom stable room (i ∷ is) fault index bytes s =
-    cond (barred stable i (s .real)) (ended 6 index bytes s)
-    (cond (ltb room (length bytes + length (encodeAll (rerun stable i s .records)))) (ended 7 index bytes s)
-    (lowerFrom stable room is fault (suc index) (bytes ++ encodeAll (rerun stable i s .records)) (rerun stable i s .after)))
+lowerFrom mode room [] fault rest index bytes s = ended fault index bytes s
+lowerFrom mode room (i ∷ is) fault rest index bytes s =
+    byFirst (tests mode room i (past rest) bytes s) (λ number. ended number index bytes s)
+    (lowerFrom mode room is fault (past rest) (suc index) (bytes ++ encodeAll (rerun mode i s .records)) (rerun mode i s .after))
 
 -- "`complexify` on a fresh `Complexifier`": the constants are the sheet's, "Every register starts recorded as complex"
 abbrev pub startState : List ℕ → List ℕ → State
@@ -118,5 +104,6 @@ unfoldable pub lowerSheet : List ℕ → ℕ → Ended
 unfolding lowerFrom
 lowerSheet sheet room =
     let s = setup sheet in
-    let d = instructions (s .count) (drop (s .start) sheet) in
-    lowerFrom (s .stable) room (d .items) (d .fault) 0 [] (startState (s .places) (constantsOf sheet (s .count)))
+    let rest = drop (s .start) sheet in
+    let d = instructions (s .count) rest in
+    lowerFrom (s .mode) room (d .items) (d .fault) rest 0 [] (startState (s .places) (constantsOf sheet (s .count)))

@@ -46,14 +46,8 @@ lt dst s1 s2 = Work.Bi BinOp.LittleThan dst s1 s2
 abbrev pub eq : ℕ → ℕ → ℕ → Work
 eq dst s1 s2 = Work.Bi BinOp.Equal dst s1 s2
 
-abbrev pub neq : ℕ → ℕ → ℕ → Work
-neq dst s1 s2 = Work.Bi BinOp.NotEqual dst s1 s2
-
 abbrev pub and : ℕ → ℕ → ℕ → Work
 and dst s1 s2 = Work.Bi BinOp.And dst s1 s2
-
-abbrev pub or : ℕ → ℕ → ℕ → Work
-or dst s1 s2 = Work.Bi BinOp.Or dst s1 s2
 
 abbrev pub xor : ℕ → ℕ → ℕ → Work
 xor dst s1 s2 = Work.Bi BinOp.Xor dst s1 s2

@@ -37,16 +37,23 @@ withoutLoc places (Loc.Param i) = clearAt places (256 + i)
 abbrev pub setLocComplex : Realness → Loc → Realness
 setLocComplex ρ p = record { regs = ρ .regs; places = withoutLoc (ρ .places) p }
 
--- a register recorded as real (true) or complex (false)
+-- a record's realness
+abbrev pub real : Bool
+real = true
+
+abbrev pub complex : Bool
+complex = false
+
+-- a register recorded as real or complex
 abbrev pub setReg : Realness → ℕ → Bool → Realness
 setReg ρ r f = record { regs = set (ρ .regs) r f; places = ρ .places }
 
 -- `set_reg_real`, `set_reg_complex`, `copy_real`, `promote_real`
 abbrev pub setRegReal : Realness → ℕ → Realness
-setRegReal ρ dst = setReg ρ dst true
+setRegReal ρ dst = setReg ρ dst real
 
 abbrev pub setRegComplex : Realness → ℕ → Realness
-setRegComplex ρ dst = setReg ρ dst false
+setRegComplex ρ dst = setReg ρ dst complex
 
 abbrev pub copyReal : Realness → ℕ → ℕ → Realness
 copyReal ρ dst s1 = setReg ρ dst (isRealReg ρ s1)
@@ -56,4 +63,4 @@ promoteReal ρ dst s1 s2 = setReg ρ dst (isRealReg ρ s1 && isRealReg ρ s2)
 
 -- "Every register starts recorded as complex."
 abbrev pub fresh : List ℕ → Realness
-fresh places = record { regs = replicate 32 false; places = places }
+fresh places = record { regs = replicate 32 complex; places = places }

@@ -1,5 +1,6 @@
 pub mod Tables
 mod Stores
+mod Runs
 pub mod Placing
 mod Puts
 pub mod Parts

@@ -1,66 +1,64 @@
 -- An operation's number names the operation.
 use mathlib.Core.Path.{_≡_, refl}
-use Rattle.mir.specs.Operation.{uniOps, binOps, arithOps, fusedOps, uniAt, binAt, arithAt, fusedAt, uniNumber, binNumber, arithNumber, fusedNumber}
+use mathlib.Core.Bool.{Bool, not}
+use Rattle.mir.specs.Read.{got, refuse}
+use Rattle.mir.specs.Operation.{uniOps, binOps, arithOps, fusedOps, uniNumber, binNumber, arithNumber, fusedNumber, taken}
 use Rattle.mir.specs.declared.ops.UniOp.{UniOp}
-use Rattle.mir.specs.declared.ops.FoundUni.{FoundUni}
 use Rattle.mir.specs.declared.ops.BinOp.{BinOp}
-use Rattle.mir.specs.declared.ops.FoundBin.{FoundBin}
 use Rattle.mir.specs.declared.ops.ArithOp.{ArithOp}
-use Rattle.mir.specs.declared.ops.FoundArith.{FoundArith}
 use Rattle.mir.specs.declared.ops.FusedOp.{FusedOp}
-use Rattle.mir.specs.declared.ops.FoundFused.{FoundFused}
 
-pub uni-at : (op : UniOp) → uniAt (uniNumber op) ≡ FoundUni.Op op
+pub uni-at : (takes : UniOp → Bool) (op : UniOp) → taken takes uniOps (uniNumber op) ≡ refuse (not (takes op)) 2 (got op)
 unfolding uniOps
-uni-at UniOp.Neg = refl
-uni-at UniOp.Not = refl
-uni-at UniOp.Abs = refl
-uni-at UniOp.Root = refl
-uni-at UniOp.RealRoot = refl
-uni-at UniOp.Recip = refl
-uni-at UniOp.Round = refl
-uni-at UniOp.Floor = refl
-uni-at UniOp.Ceiling = refl
-uni-at UniOp.Trunc = refl
-uni-at UniOp.Real = refl
-uni-at UniOp.Imaginary = refl
-uni-at UniOp.Conjugate = refl
-uni-at UniOp.Half = refl
-uni-at UniOp.IsZero = refl
-uni-at UniOp.IsNotZero = refl
-uni-at UniOp.Sign = refl
-uni-at UniOp.Abs2 = refl
-uni-at UniOp.TimesI = refl
-uni-at UniOp.TimesNegI = refl
+uni-at takes UniOp.Neg = refl
+uni-at takes UniOp.Not = refl
+uni-at takes UniOp.Abs = refl
+uni-at takes UniOp.Root = refl
+uni-at takes UniOp.RealRoot = refl
+uni-at takes UniOp.Recip = refl
+uni-at takes UniOp.Round = refl
+uni-at takes UniOp.Floor = refl
+uni-at takes UniOp.Ceiling = refl
+uni-at takes UniOp.Trunc = refl
+uni-at takes UniOp.Real = refl
+uni-at takes UniOp.Imaginary = refl
+uni-at takes UniOp.Conjugate = refl
+uni-at takes UniOp.Half = refl
+uni-at takes UniOp.IsZero = refl
+uni-at takes UniOp.IsNotZero = refl
+uni-at takes UniOp.Sign = refl
+uni-at takes UniOp.Abs2 = refl
+uni-at takes UniOp.TimesI = refl
+uni-at takes UniOp.TimesNegI = refl
 
-pub bin-at : (op : BinOp) → binAt (binNumber op) ≡ FoundBin.Op op
+pub bin-at : (takes : BinOp → Bool) (op : BinOp) → taken takes binOps (binNumber op) ≡ refuse (not (takes op)) 2 (got op)
 unfolding binOps
-bin-at BinOp.Plus = refl
-bin-at BinOp.Minus = refl
-bin-at BinOp.Times = refl
-bin-at BinOp.Divide = refl
-bin-at BinOp.GreaterThan = refl
-bin-at BinOp.GreaterThanEqual = refl
-bin-at BinOp.LittleThan = refl
-bin-at BinOp.LittleThanEqual = refl
-bin-at BinOp.Equal = refl
-bin-at BinOp.NotEqual = refl
-bin-at BinOp.And = refl
-bin-at BinOp.AndNot = refl
-bin-at BinOp.Or = refl
-bin-at BinOp.Xor = refl
-bin-at BinOp.Complex = refl
+bin-at takes BinOp.Plus = refl
+bin-at takes BinOp.Minus = refl
+bin-at takes BinOp.Times = refl
+bin-at takes BinOp.Divide = refl
+bin-at takes BinOp.GreaterThan = refl
+bin-at takes BinOp.GreaterThanEqual = refl
+bin-at takes BinOp.LittleThan = refl
+bin-at takes BinOp.LittleThanEqual = refl
+bin-at takes BinOp.Equal = refl
+bin-at takes BinOp.NotEqual = refl
+bin-at takes BinOp.And = refl
+bin-at takes BinOp.AndNot = refl
+bin-at takes BinOp.Or = refl
+bin-at takes BinOp.Xor = refl
+bin-at takes BinOp.Complex = refl
 
-pub arith-at : (op : ArithOp) → arithAt (arithNumber op) ≡ FoundArith.Op op
+pub arith-at : (takes : ArithOp → Bool) (op : ArithOp) → taken takes arithOps (arithNumber op) ≡ refuse (not (takes op)) 2 (got op)
 unfolding arithOps
-arith-at ArithOp.Plus = refl
-arith-at ArithOp.Minus = refl
-arith-at ArithOp.Times = refl
-arith-at ArithOp.Divide = refl
+arith-at takes ArithOp.Plus = refl
+arith-at takes ArithOp.Minus = refl
+arith-at takes ArithOp.Times = refl
+arith-at takes ArithOp.Divide = refl
 
-pub fused-at : (op : FusedOp) → fusedAt (fusedNumber op) ≡ FoundFused.Op op
+pub fused-at : (takes : FusedOp → Bool) (op : FusedOp) → taken takes fusedOps (fusedNumber op) ≡ refuse (not (takes op)) 2 (got op)
 unfolding fusedOps
-fused-at FusedOp.MulAdd = refl
-fused-at FusedOp.MulSub = refl
-fused-at FusedOp.NegMulAdd = refl
-fused-at FusedOp.NegMulSub = refl
+fused-at takes FusedOp.MulAdd = refl
+fused-at takes FusedOp.MulSub = refl
+fused-at takes FusedOp.NegMulAdd = refl
+fused-at takes FusedOp.NegMulSub = refl

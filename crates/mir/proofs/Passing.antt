@@ -1,7 +1,7 @@
 -- What is known of a reader that was not refused: each of its tests was passed, and each part was read.
 use Prim.Native.Nat.{ℕ}
 use mathlib.Core.Path.{_≡_, refl, sym}
-use mathlib.Core.Bool.{Bool, true, false}
+use mathlib.Core.Bool.{Bool, true, false, _||_}
 use native.Mathlib.Omega.{arith}
 use Rattle.mir.specs.Read.{Read, got, refused, refuse, andThen}
 
@@ -36,3 +36,12 @@ stopped f (refused k) n e = cc
 pub either : {P : Type 0} (b : Bool) → (b ≡ true → P) → (b ≡ false → P) → P
 either true f g = f refl
 either false f g = g refl
+
+-- of two tests neither of which holds
+pub or-left : (a b : Bool) → (a || b) ≡ false → a ≡ false
+or-left true b e = e
+or-left false b e = refl
+
+pub or-right : (a b : Bool) → (a || b) ≡ false → b ≡ false
+or-right true b e = cc
+or-right false b e = e

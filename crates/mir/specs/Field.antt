@@ -1,5 +1,5 @@
 -- The fields of a record, from the bytes that begin with it (document 01, Sheet, and the numbers 1, 2 and 4 of its table).
-use Prim.Native.Nat.{ℕ, _+_, _*_}
+use Prim.Native.Nat.{ℕ, zero, suc, _+_, _*_}
 use mathlib.Core.Bool.{Bool, true, false, not, cond, _&&_, _||_}
 use mathlib.Core.List.{List, [], _∷_}
 use lib.ListN.{length, getD}
@@ -12,6 +12,11 @@ use Rattle.mir.specs.Read.{Read, got, refused, refuse, andThen}
 
 abbrev pub byteAt : List ℕ → ℕ → ℕ
 byteAt s i = getD s i 0
+
+-- n bytes, from the i-th on
+abbrev pub bytesAt : List ℕ → ℕ → ℕ → List ℕ
+bytesAt s i zero = []
+bytesAt s i (suc n) = byteAt s i ∷ bytesAt s (suc i) n
 
 -- "all little-endian"
 unfoldable pub wordAt : List ℕ → ℕ → ℕ

@@ -1,6 +1,7 @@
 pub mod Register
 pub mod Place
 pub mod Operation
+pub mod Takes
 pub mod Length
 pub mod Read
 pub mod Field

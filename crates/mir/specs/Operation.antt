@@ -1,8 +1,7 @@
 -- "Operations are numbered by position, from 0, in the enums of mir.rs" (document 01, Sheet).
-use Prim.Native.Nat.{ℕ}
+use Prim.Native.Nat.{ℕ, zero, suc}
 use mathlib.Core.Bool.{Bool, not}
 use mathlib.Core.List.{List, [], _∷_}
-use lib.ListN.{getD}
 use Rattle.mir.specs.declared.ops.UniOp.{UniOp}
 use Rattle.mir.specs.declared.ops.FoundUni.{FoundUni}
 use Rattle.mir.specs.declared.ops.BinOp.{BinOp}
@@ -14,33 +13,11 @@ use Rattle.mir.specs.declared.ops.FoundFused.{FoundFused}
 use Rattle.mir.specs.Read.{Read, got, refused, refuse}
 
 -- UniOp, the operations of one operand: the enum's order
-unfoldable pub uniOps : List FoundUni
+unfoldable pub uniOps : List UniOp
 uniOps =
-    FoundUni.Op UniOp.Neg
-    ∷ FoundUni.Op UniOp.Not
-    ∷ FoundUni.Op UniOp.Abs
-    ∷ FoundUni.Op UniOp.Root
-    ∷ FoundUni.Op UniOp.RealRoot
-    ∷ FoundUni.Op UniOp.Recip
-    ∷ FoundUni.Op UniOp.Round
-    ∷ FoundUni.Op UniOp.Floor
-    ∷ FoundUni.Op UniOp.Ceiling
-    ∷ FoundUni.Op UniOp.Trunc
-    ∷ FoundUni.Op UniOp.Real
-    ∷ FoundUni.Op UniOp.Imaginary
-    ∷ FoundUni.Op UniOp.Conjugate
-    ∷ FoundUni.Op UniOp.Half
-    ∷ FoundUni.Op UniOp.IsZero
-    ∷ FoundUni.Op UniOp.IsNotZero
-    ∷ FoundUni.Op UniOp.Sign
-    ∷ FoundUni.Op UniOp.Abs2
-    ∷ FoundUni.Op UniOp.TimesI
-    ∷ FoundUni.Op UniOp.TimesNegI
-    ∷ []
-
--- the operation of a number
-abbrev pub uniAt : ℕ → FoundUni
-uniAt n = getD uniOps n FoundUni.Nothing
+    UniOp.Neg ∷ UniOp.Not ∷ UniOp.Abs ∷ UniOp.Root ∷ UniOp.RealRoot ∷ UniOp.Recip ∷ UniOp.Round ∷ UniOp.Floor ∷
+    UniOp.Ceiling ∷ UniOp.Trunc ∷ UniOp.Real ∷ UniOp.Imaginary ∷ UniOp.Conjugate ∷ UniOp.Half ∷ UniOp.IsZero ∷
+    UniOp.IsNotZero ∷ UniOp.Sign ∷ UniOp.Abs2 ∷ UniOp.TimesI ∷ UniOp.TimesNegI ∷ []
 
 -- the number of an operation
 abbrev pub uniNumber : UniOp → ℕ
@@ -66,28 +43,11 @@ uniNumber UniOp.TimesI = 18
 uniNumber UniOp.TimesNegI = 19
 
 -- BinOp, the operations of two operands: the enum's order
-unfoldable pub binOps : List FoundBin
+unfoldable pub binOps : List BinOp
 binOps =
-    FoundBin.Op BinOp.Plus
-    ∷ FoundBin.Op BinOp.Minus
-    ∷ FoundBin.Op BinOp.Times
-    ∷ FoundBin.Op BinOp.Divide
-    ∷ FoundBin.Op BinOp.GreaterThan
-    ∷ FoundBin.Op BinOp.GreaterThanEqual
-    ∷ FoundBin.Op BinOp.LittleThan
-    ∷ FoundBin.Op BinOp.LittleThanEqual
-    ∷ FoundBin.Op BinOp.Equal
-    ∷ FoundBin.Op BinOp.NotEqual
-    ∷ FoundBin.Op BinOp.And
-    ∷ FoundBin.Op BinOp.AndNot
-    ∷ FoundBin.Op BinOp.Or
-    ∷ FoundBin.Op BinOp.Xor
-    ∷ FoundBin.Op BinOp.Complex
-    ∷ []
-
--- the operation of a number
-abbrev pub binAt : ℕ → FoundBin
-binAt n = getD binOps n FoundBin.Nothing
+    BinOp.Plus ∷ BinOp.Minus ∷ BinOp.Times ∷ BinOp.Divide ∷ BinOp.GreaterThan ∷ BinOp.GreaterThanEqual ∷
+    BinOp.LittleThan ∷ BinOp.LittleThanEqual ∷ BinOp.Equal ∷ BinOp.NotEqual ∷ BinOp.And ∷ BinOp.AndNot ∷ BinOp.Or ∷
+    BinOp.Xor ∷ BinOp.Complex ∷ []
 
 -- the number of an operation
 abbrev pub binNumber : BinOp → ℕ
@@ -108,17 +68,9 @@ binNumber BinOp.Xor = 13
 binNumber BinOp.Complex = 14
 
 -- ArithOp, the arithmetic of LoadMath, LoadConstMath and ComplexBi: the enum's order
-unfoldable pub arithOps : List FoundArith
+unfoldable pub arithOps : List ArithOp
 arithOps =
-    FoundArith.Op ArithOp.Plus
-    ∷ FoundArith.Op ArithOp.Minus
-    ∷ FoundArith.Op ArithOp.Times
-    ∷ FoundArith.Op ArithOp.Divide
-    ∷ []
-
--- the operation of a number
-abbrev pub arithAt : ℕ → FoundArith
-arithAt n = getD arithOps n FoundArith.Nothing
+    ArithOp.Plus ∷ ArithOp.Minus ∷ ArithOp.Times ∷ ArithOp.Divide ∷ []
 
 -- the number of an operation
 abbrev pub arithNumber : ArithOp → ℕ
@@ -128,17 +80,9 @@ arithNumber ArithOp.Times = 2
 arithNumber ArithOp.Divide = 3
 
 -- FusedOp, the fused operations: the enum's order
-unfoldable pub fusedOps : List FoundFused
+unfoldable pub fusedOps : List FusedOp
 fusedOps =
-    FoundFused.Op FusedOp.MulAdd
-    ∷ FoundFused.Op FusedOp.MulSub
-    ∷ FoundFused.Op FusedOp.NegMulAdd
-    ∷ FoundFused.Op FusedOp.NegMulSub
-    ∷ []
-
--- the operation of a number
-abbrev pub fusedAt : ℕ → FoundFused
-fusedAt n = getD fusedOps n FoundFused.Nothing
+    FusedOp.MulAdd ∷ FusedOp.MulSub ∷ FusedOp.NegMulAdd ∷ FusedOp.NegMulSub ∷ []
 
 -- the number of an operation
 abbrev pub fusedNumber : FusedOp → ℕ
@@ -147,35 +91,25 @@ fusedNumber FusedOp.MulSub = 1
 fusedNumber FusedOp.NegMulAdd = 2
 fusedNumber FusedOp.NegMulSub = 3
 
--- 2, "unknown work": an operation that is not listed, or that a sheet or a listing does not take
+-- the operation of a number; 2, "unknown work": one that is not listed, or that a sheet or a listing does not take
+abbrev pub taken : {A : Type 0} → (A → Bool) → List A → ℕ → Read A
+taken takes [] n = refused 2
+taken takes (op ∷ ops) zero = refuse (not (takes op)) 2 (got op)
+taken takes (op ∷ ops) (suc n) = taken takes ops n
+
+-- the answers of the code
 abbrev pub asUni : FoundUni → Read UniOp
 asUni (FoundUni.Op op) = got op
 asUni FoundUni.Nothing = refused 2
-
-abbrev pub uniTaken : (UniOp → Bool) → FoundUni → Read UniOp
-uniTaken takes (FoundUni.Op op) = refuse (not (takes op)) 2 (got op)
-uniTaken takes FoundUni.Nothing = refused 2
 
 abbrev pub asBin : FoundBin → Read BinOp
 asBin (FoundBin.Op op) = got op
 asBin FoundBin.Nothing = refused 2
 
-abbrev pub binTaken : (BinOp → Bool) → FoundBin → Read BinOp
-binTaken takes (FoundBin.Op op) = refuse (not (takes op)) 2 (got op)
-binTaken takes FoundBin.Nothing = refused 2
-
 abbrev pub asArith : FoundArith → Read ArithOp
 asArith (FoundArith.Op op) = got op
 asArith FoundArith.Nothing = refused 2
 
-abbrev pub arithTaken : (ArithOp → Bool) → FoundArith → Read ArithOp
-arithTaken takes (FoundArith.Op op) = refuse (not (takes op)) 2 (got op)
-arithTaken takes FoundArith.Nothing = refused 2
-
 abbrev pub asFused : FoundFused → Read FusedOp
 asFused (FoundFused.Op op) = got op
 asFused FoundFused.Nothing = refused 2
-
-abbrev pub fusedTaken : (FusedOp → Bool) → FoundFused → Read FusedOp
-fusedTaken takes (FoundFused.Op op) = refuse (not (takes op)) 2 (got op)
-fusedTaken takes FoundFused.Nothing = refused 2

@@ -1,6 +1,6 @@
 -- What a reader finds, and the tests by which it refuses.
 use Prim.Native.Nat.{ℕ}
-use mathlib.Core.Bool.{Bool, true, false}
+use mathlib.Core.Bool.{Bool, true, false, _||_}
 use mathlib.Core.List.{List, [], _∷_}
 use lib.Dec.{ltb, leb}
 
@@ -20,9 +20,12 @@ andThen (got a) f = f a
 andThen (refused n) f = refused n
 
 -- 3, "bad register": a byte above the limit, 31 in a sheet and 65 in a listing
+abbrev pub above : ℕ → List ℕ → Bool
+above limit [] = false
+above limit (x ∷ xs) = ltb limit x || above limit xs
+
 abbrev pub registers : {A : Type 0} → ℕ → List ℕ → Read A → Read A
-registers limit [] r = r
-registers limit (x ∷ xs) r = refuse (ltb limit x) 3 (registers limit xs r)
+registers limit xs r = refuse (above limit xs) 3 r
 
 -- 5, "missing constant": an index not below the count
 abbrev pub constant : {A : Type 0} → ℕ → ℕ → Read A → Read A

@@ -2,7 +2,8 @@
 ghost use mathlib.Core.Path.{_≡_};
 ghost use Prim.Native.Nat.{_+_, _*_};
 ghost use lib.ListN.{getD};
-ghost use Rattle.mir.specs.Field.{byteAt, wordAt, among, takesKind, headFrom, placeAt, savePlace, condPlace, asHead, asPlace};
+ghost use Rattle.mir.specs.Read as Read;
+ghost use Rattle.mir.specs.Field.{byteAt, bytesAt, wordAt, among, takesKind, headFrom, placeAt, savePlace, condPlace, asHead, asPlace};
 use super::lengths::length_of;
 use super::records::Loc;
 
@@ -10,6 +11,22 @@ pub fn byte(s: &[u8], i: usize) -> u8
     ensures { λ r. ⌜ r ≡ byteAt (now (s .entry)) i ⌝ }
 {
     if i < s.len() { s[i] } else { 0 }
+}
+
+// Whether one of the n bytes from the i-th on is above the last register.
+pub fn above(s: &[u8], i: u8, n: u8, last: u8) -> bool
+    ensures { λ r. ⌜ r ≡ Read.above last (bytesAt (now (s .entry)) i n) ⌝ }
+{
+    let mut at = i as usize;
+    let mut left = n;
+    while 0 < left {
+        if last < byte(s, at) {
+            return true;
+        }
+        at += 1;
+        left -= 1;
+    }
+    false
 }
 
 // Two bytes, little-endian.

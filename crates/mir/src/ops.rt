@@ -1,6 +1,10 @@
-// The operations of mir.rs, in its order, and their numbers: an operation's number is its position, from 0.
+// The operations of mir.rs, in its order, their numbers, and which of them sheets and listings take: an operation's number is its
+// position, from 0.
 ghost use mathlib.Core.Path.{_≡_};
-ghost use Rattle.mir.specs.Operation.{uniNumber, binNumber, arithNumber, fusedNumber, uniAt, binAt, arithAt, fusedAt};
+ghost use mathlib.Core.Bool.{cond};
+ghost use lib.Dec.{eqb};
+ghost use Rattle.mir.specs.Operation.{uniNumber, binNumber, arithNumber, fusedNumber, uniOps, binOps, arithOps, fusedOps, taken, asUni, asBin, asArith, asFused};
+ghost use Rattle.mir.specs.Takes.{takesUni, takesBin, takesArith, takesFused};
 
 pub enum UniOp {
     Neg,
@@ -152,81 +156,127 @@ pub fn fused_number(op: FusedOp) -> u8
     }
 }
 
-pub fn uni_op(n: u8) -> FoundUni
-    ensures { λ r. ⌜ r ≡ uniAt n ⌝ }
+// The operations by number.
+const UNI: [UniOp; 20] = [
+    UniOp::Neg,
+    UniOp::Not,
+    UniOp::Abs,
+    UniOp::Root,
+    UniOp::RealRoot,
+    UniOp::Recip,
+    UniOp::Round,
+    UniOp::Floor,
+    UniOp::Ceiling,
+    UniOp::Trunc,
+    UniOp::Real,
+    UniOp::Imaginary,
+    UniOp::Conjugate,
+    UniOp::Half,
+    UniOp::IsZero,
+    UniOp::IsNotZero,
+    UniOp::Sign,
+    UniOp::Abs2,
+    UniOp::TimesI,
+    UniOp::TimesNegI,
+];
+
+const BIN: [BinOp; 15] = [
+    BinOp::Plus,
+    BinOp::Minus,
+    BinOp::Times,
+    BinOp::Divide,
+    BinOp::GreaterThan,
+    BinOp::GreaterThanEqual,
+    BinOp::LittleThan,
+    BinOp::LittleThanEqual,
+    BinOp::Equal,
+    BinOp::NotEqual,
+    BinOp::And,
+    BinOp::AndNot,
+    BinOp::Or,
+    BinOp::Xor,
+    BinOp::Complex,
+];
+
+const FUSED: [FusedOp; 4] = [
+    FusedOp::MulAdd,
+    FusedOp::MulSub,
+    FusedOp::NegMulAdd,
+    FusedOp::NegMulSub,
+];
+
+// Whether a sheet, and whether a listing, takes each of them (1) or not (0).
+const SHEET_UNI: [u8; 20] = [1, 1, 1, 1, 1, 1, 1, 0, 0, 0, 1, 1, 1, 1, 0, 1, 1, 1, 1, 1];
+
+const LISTING_UNI: [u8; 20] = [1, 1, 1, 1, 0, 1, 1, 0, 0, 0, 0, 0, 0, 1, 0, 0, 1, 0, 0, 0];
+
+const SHEET_BIN: [u8; 15] = [1, 1, 1, 1, 1, 0, 1, 0, 0, 1, 1, 0, 1, 1, 1];
+
+const LISTING_BIN: [u8; 15] = [1, 1, 1, 1, 1, 0, 1, 0, 1, 1, 1, 0, 1, 1, 0];
+
+const SHEET_FUSED: [u8; 4] = [1, 1, 1, 1];
+
+const LISTING_FUSED: [u8; 4] = [1, 0, 0, 0];
+
+// Of a sheet's flag and a listing's, the one or the other.
+fn is_taken(in_listing: bool, sheet: u8, listing: u8) -> bool
+    ensures { λ r. ⌜ r ≡ eqb (cond «in_listing» listing sheet) 1 ⌝ }
 {
-    let ops = [
-        FoundUni::Op(UniOp::Neg),
-        FoundUni::Op(UniOp::Not),
-        FoundUni::Op(UniOp::Abs),
-        FoundUni::Op(UniOp::Root),
-        FoundUni::Op(UniOp::RealRoot),
-        FoundUni::Op(UniOp::Recip),
-        FoundUni::Op(UniOp::Round),
-        FoundUni::Op(UniOp::Floor),
-        FoundUni::Op(UniOp::Ceiling),
-        FoundUni::Op(UniOp::Trunc),
-        FoundUni::Op(UniOp::Real),
-        FoundUni::Op(UniOp::Imaginary),
-        FoundUni::Op(UniOp::Conjugate),
-        FoundUni::Op(UniOp::Half),
-        FoundUni::Op(UniOp::IsZero),
-        FoundUni::Op(UniOp::IsNotZero),
-        FoundUni::Op(UniOp::Sign),
-        FoundUni::Op(UniOp::Abs2),
-        FoundUni::Op(UniOp::TimesI),
-        FoundUni::Op(UniOp::TimesNegI),
-    ];
-    let i = n as usize;
-    if i < 20 { ops[i] } else { FoundUni::Nothing }
+    if in_listing { listing == 1 } else { sheet == 1 }
 }
 
-pub fn bin_op(n: u8) -> FoundBin
-    ensures { λ r. ⌜ r ≡ binAt n ⌝ }
+// The operation of a number, where a listing, or a sheet, takes it.
+pub fn uni_op(n: u8, in_listing: bool) -> FoundUni
+    ensures { λ r. ⌜ asUni r ≡ taken (takesUni «in_listing») uniOps n ⌝ }
 {
-    let ops = [
-        FoundBin::Op(BinOp::Plus),
-        FoundBin::Op(BinOp::Minus),
-        FoundBin::Op(BinOp::Times),
-        FoundBin::Op(BinOp::Divide),
-        FoundBin::Op(BinOp::GreaterThan),
-        FoundBin::Op(BinOp::GreaterThanEqual),
-        FoundBin::Op(BinOp::LittleThan),
-        FoundBin::Op(BinOp::LittleThanEqual),
-        FoundBin::Op(BinOp::Equal),
-        FoundBin::Op(BinOp::NotEqual),
-        FoundBin::Op(BinOp::And),
-        FoundBin::Op(BinOp::AndNot),
-        FoundBin::Op(BinOp::Or),
-        FoundBin::Op(BinOp::Xor),
-        FoundBin::Op(BinOp::Complex),
-    ];
     let i = n as usize;
-    if i < 15 { ops[i] } else { FoundBin::Nothing }
+    if 20 <= i {
+        return FoundUni::Nothing;
+    }
+    if is_taken(in_listing, SHEET_UNI[i], LISTING_UNI[i]) {
+        FoundUni::Op(UNI[i])
+    } else {
+        FoundUni::Nothing
+    }
 }
 
+pub fn bin_op(n: u8, in_listing: bool) -> FoundBin
+    ensures { λ r. ⌜ asBin r ≡ taken (takesBin «in_listing») binOps n ⌝ }
+{
+    let i = n as usize;
+    if 15 <= i {
+        return FoundBin::Nothing;
+    }
+    if is_taken(in_listing, SHEET_BIN[i], LISTING_BIN[i]) {
+        FoundBin::Op(BIN[i])
+    } else {
+        FoundBin::Nothing
+    }
+}
+
+pub fn fused_op(n: u8, in_listing: bool) -> FoundFused
+    ensures { λ r. ⌜ asFused r ≡ taken (takesFused «in_listing») fusedOps n ⌝ }
+{
+    let i = n as usize;
+    if 4 <= i {
+        return FoundFused::Nothing;
+    }
+    if is_taken(in_listing, SHEET_FUSED[i], LISTING_FUSED[i]) {
+        FoundFused::Op(FUSED[i])
+    } else {
+        FoundFused::Nothing
+    }
+}
+
+// Both take all of ArithOp.
 pub fn arith_op(n: u8) -> FoundArith
-    ensures { λ r. ⌜ r ≡ arithAt n ⌝ }
+    ensures { λ r. ⌜ asArith r ≡ taken takesArith arithOps n ⌝ }
 {
-    let ops = [
-        FoundArith::Op(ArithOp::Plus),
-        FoundArith::Op(ArithOp::Minus),
-        FoundArith::Op(ArithOp::Times),
-        FoundArith::Op(ArithOp::Divide),
-    ];
-    let i = n as usize;
-    if i < 4 { ops[i] } else { FoundArith::Nothing }
-}
-
-pub fn fused_op(n: u8) -> FoundFused
-    ensures { λ r. ⌜ r ≡ fusedAt n ⌝ }
-{
-    let ops = [
-        FoundFused::Op(FusedOp::MulAdd),
-        FoundFused::Op(FusedOp::MulSub),
-        FoundFused::Op(FusedOp::NegMulAdd),
-        FoundFused::Op(FusedOp::NegMulSub),
-    ];
-    let i = n as usize;
-    if i < 4 { ops[i] } else { FoundFused::Nothing }
+    match n {
+        0 => FoundArith::Op(ArithOp::Plus),
+        1 => FoundArith::Op(ArithOp::Minus),
+        2 => FoundArith::Op(ArithOp::Times),
+        3 => FoundArith::Op(ArithOp::Divide),
+        _ => FoundArith::Nothing,
+    }
 }

@@ -7,11 +7,6 @@ pub const RET: u8 = 30;
 
 pub const TEMP: u8 = 31;
 
-// The scratch registers of a listing.
-pub const T0: u8 = 2;
-
-pub const T1: u8 = 3;
-
 // The listing register of the real half of a sheet's register.
 pub fn re(r: u8) -> u8
     ensures { λ h. ⌜ h ≡ Register.re r ⌝ }

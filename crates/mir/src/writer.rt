@@ -18,7 +18,6 @@ use super::ops::bin_number;
 use super::ops::fused_number;
 use super::ops::uni_number;
 use super::records::Loc;
-use super::records::Record;
 use super::records::Work;
 use super::records::loc_class;
 use super::records::loc_index;
@@ -222,17 +221,5 @@ pub fn write_work(out: &mut [u8], at: usize, work: Work) -> usize
             x2,
             y2,
         } => push_complex_bi(out, at, op, xd, yd, x1, y1, x2, y2),
-    }
-}
-
-// Any record.
-pub fn write_record(out: &mut [u8], at: usize, record: Record) -> usize
-    ensures { λ r. ⌜ buf (now (out .exit)) r ≡ pushed (buf (now (out .entry)) at) «record» ⌝ }
-{
-    match record {
-        Record::Work(work) => write_work(out, at, work),
-        Record::Label(label) => push_label(out, at, label),
-        Record::Branch(label) => push_branch(out, at, label),
-        Record::Call(label) => push_call(out, at, label),
     }
 }

@@ -1,11 +1,13 @@
 -- A case of the list: what is played, and the answer and the store that are expected; numbers little-endian. Assumes nothing.
 use Prim.Native.Nat.{ℕ, zero, suc, _+_, _*_, _≤_}
-use mathlib.Core.Bool.{Bool, true, false, not, _&&_, _||_}
-use mathlib.Core.List.{List, [], _∷_}
-use lib.ListN.{length, set, take, drop}
+use mathlib.Core.Bool.{Bool, not, _&&_, _||_}
+use mathlib.Core.List.{List}
+use lib.ListN.{length, set, take, drop, replicate}
 use lib.Dec.{eqb, ltb}
-use Rattle.machine.specs.Answer.{Answer, answer}
-use Rattle.replay.specs.Numbers.{u32At, wordAt}
+use Rattle.player_machine.specs.Answer.{Answer, answer}
+use Rattle.words.specs.Bytes.{wordAt, wordsOf}
+use Rattle.replay.specs.Numbers.{u32At}
+use Rattle.replay.specs.Same.{same}
 use Rattle.replay.specs.Tally.{Cases}
 
 -- where the constants, the word that fills the store, the words set before and the words changed begin, and where the case ends
@@ -35,11 +37,6 @@ pub record Whole (s : List ℕ) : Type 0 where
   pub store : u32At s 8 ≤ 1603
   pub rest : end s ≤ length s
 
--- f 0, f 1, .. of n numbers
-unfoldable pub table : (ℕ → ℕ) → ℕ → List ℕ
-table f zero = []
-table f (suc n) = f 0 ∷ table (λ i. f (suc i)) n
-
 -- a store with n words set, from the pairs of an index and a word that begin at a position
 unfoldable pub patched : List ℕ → ℕ → List ℕ → ℕ → List ℕ
 patched s at store zero = store
@@ -49,11 +46,15 @@ unfoldable pub listing : List ℕ → List ℕ
 listing s = take (u32At s 0) (drop 48 s)
 
 unfoldable pub constants : List ℕ → List ℕ
-constants s = table (λ i. wordAt s (constantsAt s + 8 * i)) (u32At s 4)
+unfolding wordsOf
+constants s = wordsOf (take (8 * u32At s 4) (drop (constantsAt s) s))
 
--- the store before the play, and the one expected at its end
+-- the store filled with one word, the store before the play, and the one expected at its end
+unfoldable pub filled : List ℕ → List ℕ
+filled s = replicate (u32At s 8) (wordAt s (fillAt s))
+
 unfoldable pub before : List ℕ → List ℕ
-before s = patched s (beforeAt s) (table (λ i. wordAt s (fillAt s)) (u32At s 8)) (u32At s 12)
+before s = patched s (beforeAt s) (filled s) (u32At s 12)
 
 unfoldable pub after : List ℕ → List ℕ
 after s = patched s (changedAt s) (before s) (u32At s 16)
@@ -61,13 +62,6 @@ after s = patched s (changedAt s) (before s) (u32At s 16)
 -- what the machine answers to the case
 unfoldable pub answered : List ℕ → Answer
 answered s = answer (listing s) (constants s) (wordAt s 20) (before s)
-
--- whether two stores have the same words
-unfoldable pub same : List ℕ → List ℕ → Bool
-same [] [] = true
-same [] (y ∷ ys) = false
-same (x ∷ xs) [] = false
-same (x ∷ xs) (y ∷ ys) = eqb x y && same xs ys
 
 -- whether an answer is the expected one
 unfoldable pub expected : List ℕ → Answer → Bool

@@ -3,23 +3,28 @@ ghost use Prim.Native.Nat.{_^_, _<_};
 ghost use mathlib.Core.Path.{_≡_};
 ghost use lib.ListN.{length};
 ghost use Rattle.play_replay.specs.Case as Case;
-ghost use Rattle.play_replay.specs.Case.{Whole, cut, changedAt, answered, expected, differs};
+ghost use Rattle.play_replay.specs.Case.{Whole, cut, fillAt, changedAt, filled, answered, expected, differs};
 ghost use Rattle.replay.specs.Numbers.{u32At};
 ghost use Rattle.player.specs.Values.{whole};
-use crate::stores::fill;
-use crate::stores::load;
 use crate::stores::patch;
-use crate::stores::same;
 use player::Answer;
 use replay::numbers::count_at;
-use replay::numbers::u32_at;
-use replay::numbers::word_at;
+use replay::same::same_words;
+use words::load;
+use words::word_at;
+
+// Where the word that fills the store stands.
+fn fill_at(s: &[u8]) -> usize
+    ensures { λ r. ⌜ (r ≡ fillAt (now (s .entry))) × (r < 2 ^ 36) ⌝ }
+{
+    48 + count_at(s, 0) + 8 * count_at(s, 4)
+}
 
 // Where the words changed begin.
 fn changed_at(s: &[u8]) -> usize
     ensures { λ r. ⌜ (r ≡ changedAt (now (s .entry))) × (r < 2 ^ 38) ⌝ }
 {
-    48 + count_at(s, 0) + 8 * count_at(s, 4) + 8 + 12 * count_at(s, 12)
+    fill_at(s) + 8 + 12 * count_at(s, 12)
 }
 
 // Where the case ends.
@@ -45,21 +50,17 @@ pub fn is_cut(s: &[u8]) -> bool
     s.len() < end(s)
 }
 
-// Makes the store before the play.
+// Makes the store before the play of a filled one.
 fn make_before(s: &[u8], store: &mut [u64])
-    requires { ⌜ Whole (now s) ⌝ }
-    requires { ⌜ length (now store) ≡ u32At (now s) 8 ⌝ }
+    requires { ⌜ Whole (now s) × (now store ≡ filled (now s)) ⌝ }
     ensures { λ _. ⌜ now (store .exit) ≡ Case.before (now (s .entry)) ⌝ }
 {
-    let fill_at = 48 + count_at(s, 0) + 8 * count_at(s, 4);
-    fill(store, word_at(s, fill_at));
-    patch(s, fill_at + 8, count_at(s, 12), store);
+    patch(s, fill_at(s) + 8, count_at(s, 12), store);
 }
 
-// Makes the store expected at the end.
+// Makes the store expected at the end of a filled one.
 fn make_after(s: &[u8], store: &mut [u64])
-    requires { ⌜ Whole (now s) ⌝ }
-    requires { ⌜ length (now store) ≡ u32At (now s) 8 ⌝ }
+    requires { ⌜ Whole (now s) × (now store ≡ filled (now s)) ⌝ }
     ensures { λ _. ⌜ now (store .exit) ≡ Case.after (now (s .entry)) ⌝ }
 {
     make_before(s, store);
@@ -77,7 +78,7 @@ fn agrees(s: &[u8], a: Answer, store: &[u64], after: &[u64]) -> bool
     requires { ⌜ now after ≡ Case.after (now s) ⌝ }
     ensures { λ r. ⌜ r ≡ expected (now (s .entry)) (whole a (now (store .entry))) ⌝ }
 {
-    if a.number as u64 != u32_at(s, 28) {
+    if a.number as usize != count_at(s, 28) {
         return false;
     }
     if a.index as u64 != word_at(s, 32) {
@@ -86,7 +87,7 @@ fn agrees(s: &[u8], a: Answer, store: &[u64], after: &[u64]) -> bool
     if a.played as u64 != word_at(s, 40) {
         return false;
     }
-    same(store, after)
+    same_words(store, after)
 }
 
 // Plays the case, and compares what the player gives with what the case expects.
@@ -104,12 +105,14 @@ fn judge(s: &[u8], constants: &[u64], store: &mut [u64], after: &[u64]) -> Outco
     }
 }
 
-// Makes what the case s plays, in room of its lengths, and plays it.
+// Makes what the case s plays, of room for its constants and filled stores, and plays it.
 fn replay_in(s: &[u8], constants: &mut [u64], store: &mut [u64], after: &mut [u64]) -> Outcome
-    requires { ⌜ Whole (now s) × ((length (now constants) ≡ u32At (now s) 4) × ((length (now store) ≡ u32At (now s) 8) × (length (now after) ≡ u32At (now s) 8))) ⌝ }
+    requires { ⌜ Whole (now s) × ((length (now constants) ≡ u32At (now s) 4) × ((now store ≡ filled (now s)) × (now after ≡ filled (now s)))) ⌝ }
     ensures { λ r. ⌜ (r .number ≡ answered (now (s .entry)) .number) × (r .differs ≡ differs (now (s .entry))) ⌝ }
 {
-    load(s, 48 + count_at(s, 0), constants);
+    let at = 48 + count_at(s, 0);
+    let end = fill_at(s);
+    load(constants, &s[at..end]);
     make_before(s, store);
     make_after(s, after);
     judge(s, constants, store, after)
@@ -120,9 +123,10 @@ pub(crate) fn replay_case(s: &[u8]) -> Outcome
     requires { ⌜ Whole (now s) ⌝ }
     ensures { λ r. ⌜ (r .number ≡ answered (now (s .entry)) .number) × (r .differs ≡ differs (now (s .entry))) ⌝ }
 {
+    let fill = word_at(s, fill_at(s));
     let mut constants = [0u64; 257];
-    let mut store = [0u64; 1603];
-    let mut after = [0u64; 1603];
+    let mut store = [fill; 1603];
+    let mut after = [fill; 1603];
     let count = count_at(s, 4);
     let words = count_at(s, 8);
     replay_in(

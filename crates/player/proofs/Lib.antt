@@ -1,4 +1,6 @@
+mod Spelling
 mod Steps
 mod Walks
 mod Looks
+mod Rules
 mod Answering

@@ -2,7 +2,7 @@
 use Prim.Native.Nat.{ℕ, _+_, _-_, _<_}
 use mathlib.Core.Path.{_≡_, refl, sym, ap, _∙_, subst}
 use mathlib.Core.Bool.{Bool, true, false, true≢false}
-use mathlib.Core.List.{List, [], _∷_}
+use mathlib.Core.List.{List}
 use lib.ListN.{length, take, drop}
 use Rattle.mir.specs.declared.records.Work.{Work}
 use Rattle.mir.specs.declared.records.Record.{Record}
@@ -15,33 +15,28 @@ use Rattle.records.specs.Record.{recordFrom}
 use Rattle.records.specs.Sight.{sightOf}
 use Rattle.records.proofs.Reading.{here-read, torn-read}
 use Rattle.records.proofs.Refusals.{Found, refused-by, looked}
-use Rattle.machine.specs.Machine.{Store, exec, isLabel}
-use Rattle.machine.specs.Jumps.{isReturn}
-use Rattle.work.specs.Spelled.{spelled, workIn, hasWork, worked}
-use Rattle.work.proofs.Spelling.{spelling}
-use Rattle.player.specs.Positions.{fault, isJump, sees, seesJump, Jumps}
+use Rattle.player_machine.specs.Machine.{Store, exec, isLabel}
+use Rattle.player_machine.specs.Jumps.{isJump}
+use Rattle.player_work.specs.Spelled.{spelled, workIn, hasWork, worked}
+use Rattle.player_work.proofs.Spelling.{spelling}
+use Rattle.player.specs.Spelled.{jumpSpelled, jumpIn}
+use Rattle.player.proofs.Spelling as Jump
+use Rattle.player.specs.Positions.{fault, labelSeen, jumpSeen, Jumps}
 
 -- ---- a sight
 
-pub sees-label : (l : ℕ) (r : Record) → sees 1 l (sightOf (got r)) ≡ isLabel l r
+pub label-seen : (l : ℕ) (r : Record) → labelSeen l (sightOf (got r)) ≡ isLabel l r
 unfolding isLabel
-sees-label l (Record.Work w) = refl
-sees-label l (Record.Label m) = refl
-sees-label l (Record.Branch m) = refl
-sees-label l (Record.Call m) = refl
+label-seen l (Record.Work w) = refl
+label-seen l (Record.Label m) = refl
+label-seen l (Record.Branch m) = refl
+label-seen l (Record.Call m) = refl
 
-pub sees-return : (r : Record) → sees 2 0 (sightOf (got r)) ≡ isReturn r
-unfolding isReturn
-sees-return (Record.Work w) = refl
-sees-return (Record.Label m) = refl
-sees-return (Record.Branch m) = refl
-sees-return (Record.Call m) = refl
-
-pub sees-jump : (r : Record) → seesJump (sightOf (got r)) ≡ isJump r
-sees-jump (Record.Work w) = refl
-sees-jump (Record.Label m) = refl
-sees-jump (Record.Branch m) = refl
-sees-jump (Record.Call m) = refl
+pub jump-seen : (r : Record) → jumpSeen (sightOf (got r)) ≡ isJump r
+jump-seen (Record.Work w) = refl
+jump-seen (Record.Label m) = refl
+jump-seen (Record.Branch m) = refl
+jump-seen (Record.Call m) = refl
 
 -- the record that a sight is of, and n bytes long
 pub record Sighted (count : ℕ) (s : List ℕ) (at n : ℕ) (q : Sight) : Type 0 where
@@ -88,6 +83,22 @@ module _ (count : ℕ) (s : List ℕ) (at : ℕ) where
       go : (r : Read Record) → recordFrom count (drop at s) ≡ r → Found count (drop at s)
       go (got rec) e = record { rec = rec; is = e }
       go (refused n) e = absurd (refused-by count (drop at s) (e ∙ ap refused (sym (torn-read count s at n e h .why) ∙ z)))
+
+-- the record at a position, n bytes long, and the jump that its bytes spell, of the code's part of the slice
+pub record Stands (count : ℕ) (s : List ℕ) (at n : ℕ) : Type 0 where
+  pub rec : Record
+  pub here : Here (recordFrom count) s at rec (at + n)
+  pub spells : jumpSpelled (take (length s - at) (drop at s)) ≡ jumpIn rec
+
+pub stands : (count : ℕ) {s : List ℕ} {at n : ℕ} → fault count s at ≡ 0 → at < length s → n ≡ wordAt (take (length s - at) (drop at s)) 0
+    → Stands count s at n
+stands count {s} {at} {n} z h w =
+    let f = readable count s at z h in
+    record {
+      rec = f .rec;
+      here = on-by count w (here-read count s at (f .rec) (f .is));
+      spells = ap jumpSpelled (part s at) ∙ Jump.spelling count (drop at s) (f .rec) (f .is);
+    }
 
 -- what `exec` answers and leaves, of the code's part of the slice
 pub record Tried (constants s : List ℕ) (at : ℕ) (w : Bool) (σ τ : Store) : Type 0 where
@@ -136,12 +147,19 @@ module _ (constants s : List ℕ) (at : ℕ) {w : Bool} {σ τ : Store} (f : Fou
   pub kept : w ≡ false → τ ≡ σ
   kept h = by-kept (f .rec) refl h
 
--- where a jump stands no working record does
-first : Record → List Record → Record
-first d [] = d
-first d (x ∷ xs) = x
+-- a jump at a position, and the jump that its bytes spell
+pub record JumpStands (count : ℕ) (s : List ℕ) (at n : ℕ) : Type 0 where
+  pub stands : Stands count s at n
+  pub jump : isJump (stands .rec) ≡ true
 
-pub no-work : {count : ℕ} {s : List ℕ} {at next : ℕ} {w : Work} → Jumps count s at → Here (recordFrom count) s at (Record.Work w) next → ⊥
-unfolding first
-no-work {count} {s} {at} {next} {w} j h =
-    true≢false (sym (j .jump) ∙ ap (λ l. isJump (first (Record.Work w) l)) (sym (here-read count s at (j .rec) (j .here) .same) ∙ h .same))
+pub jump-stands : {count : ℕ} {s : List ℕ} {at n : ℕ} → Jumps count s at → n ≡ wordAt (take (length s - at) (drop at s)) 0
+    → JumpStands count s at n
+jump-stands {count} {s} {at} {n} j w =
+    record {
+      jump = j .jump;
+      stands = record {
+        rec = j .rec;
+        here = on-by count w (here-read count s at (j .rec) (j .here));
+        spells = ap jumpSpelled (part s at) ∙ Jump.spelling count (drop at s) (j .rec) (j .here);
+      };
+    }

@@ -13,10 +13,11 @@ use Rattle.mir.specs.Read.{Read}
 use Rattle.mir.proofs.Decoding.{items, Here, Done}
 use Rattle.records.specs.Record.{recordFrom}
 use Rattle.records.proofs.Reading.{here-read}
-use Rattle.machine.specs.Machine.{Store, exec, execs, works, isLabel, seek, going, End, ticks, play}
-use Rattle.machine.proofs.Seeking.{seek-play}
-use Rattle.player.specs.declared.run.Turn.{Turn}
-use Rattle.player.specs.Positions.{left, fault, isJump, Jumps, blockAt, onFrom, Sought, BlockPlayed, Turned}
+use Rattle.player_machine.specs.Machine.{Store, exec, execs, works, isLabel, seek, going, End, ticks, play}
+use Rattle.player_machine.specs.Jumps.{isJump}
+use Rattle.player_machine.proofs.Seeking.{seek-play}
+use Rattle.player.specs.declared.run.Progress.{Progress}
+use Rattle.player.specs.Positions.{left, fault, Jumps, blockAt, onFrom, AtLabel, BlockPlayed, RecordPlayed}
 
 IsTrue : Bool → Type 0
 IsTrue true = Unit {0}
@@ -72,7 +73,7 @@ pub execs-on : {l t : List Work} {w : Work} (constants : List ℕ) (σ : Store) 
 unfolding execs
 execs-on constants σ e = ap (λ l. execs constants l σ) e
 
--- the record that was read, as a match knows it
+-- the record that stands there, as the code knows it
 pub known-here : {read : List ℕ → Read Record} {s : List ℕ} {at next : ℕ} {r x : Record} → Here read s at r next → r ≡ x → Here read s at x next
 known-here {read} {s} {at} {next} e f = subst (λ x. Here read s at x next) f e
 
@@ -81,15 +82,10 @@ abbrev from : List ℕ → List ℕ → ℕ → List Record → Store → End
 from constants s body rs σ = play constants (blockAt constants s body) going rs σ
 
 module _ {constants s : List ℕ} {body at : ℕ} (z : fault (length constants) s at ≡ 0) where
-  pub turn-torn : {k : ℕ} {σ : Store} → Done (recordFrom (length constants)) s at k
-      → Turned constants s body at σ σ (record { done = true; at = at; played = 0 })
+  pub play-work : {next : ℕ} {σ τ : Store} {w : Work} → Here (recordFrom (length constants)) s at (Record.Work w) next
+      → τ ≡ exec constants w σ → RecordPlayed constants s body at σ τ (record { done = false; at = next; played = 1 })
   unfolding play
-  turn-torn {k} {σ} e = record { same = ap (λ l. from constants s body l σ) (e .same); on = λ h. no h; sound = λ h. no h; small = omega arith }
-
-  pub turn-work : {next : ℕ} {σ τ : Store} {w : Work} → Here (recordFrom (length constants)) s at (Record.Work w) next
-      → τ ≡ exec constants w σ → Turned constants s body at σ τ (record { done = false; at = next; played = 1 })
-  unfolding play
-  turn-work {next} {σ} {τ} {w} e h =
+  play-work {next} {σ} {τ} {w} e h =
       let g = e .on in
       record {
         same = ap (λ l. from constants s body l σ) (e .same) ∙ ap (λ u. ticks 1 (from constants s body (left (length constants) s next) u)) (sym h);
@@ -98,36 +94,36 @@ module _ {constants s : List ℕ} {body at : ℕ} (z : fault (length constants) 
         small = omega arith;
       }
 
-  pub turn-label : {next l : ℕ} {σ : Store} → Here (recordFrom (length constants)) s at (Record.Label l) next
-      → Turned constants s body at σ σ (record { done = false; at = next; played = 1 })
+  pub play-label : {next l : ℕ} {σ : Store} → Here (recordFrom (length constants)) s at (Record.Label l) next
+      → RecordPlayed constants s body at σ σ (record { done = false; at = next; played = 1 })
   unfolding play
-  turn-label {next} {l} {σ} e = record { same = ap (λ l. from constants s body l σ) (e .same); on = λ x. e .on; sound = λ x. sym (e .sound) ∙ z; small = omega arith }
+  play-label {next} {l} {σ} e = record { same = ap (λ l. from constants s body l σ) (e .same); on = λ x. e .on; sound = λ x. sym (e .sound) ∙ z; small = omega arith }
 
-  pub turn-end : {next l : ℕ} {σ : Store} → Here (recordFrom (length constants)) s at (Record.Branch l) next → l ≡ 0
-      → Turned constants s body at σ σ (record { done = true; at = next; played = 1 })
+  pub play-end : {next l : ℕ} {σ : Store} → Here (recordFrom (length constants)) s at (Record.Branch l) next → l ≡ 0
+      → RecordPlayed constants s body at σ σ (record { done = true; at = next; played = 1 })
   unfolding play
-  turn-end {next} {l} {σ} e z =
+  play-end {next} {l} {σ} e z =
       record { same = ap (λ l. from constants s body l σ) (e .same) ∙ simp (eq-eqb _ _ z); on = λ h. no h; sound = λ h. no h; small = omega arith }
 
-  pub turn-branch : {next l to : ℕ} {σ : Store} → Here (recordFrom (length constants)) s at (Record.Branch l) next → (l ≡ 0 → ⊥)
-      → Sought (length constants) s next l to → Turned constants s body at σ σ (record { done = false; at = to; played = 1 })
+  pub play-branch : {next l to : ℕ} {σ : Store} → Here (recordFrom (length constants)) s at (Record.Branch l) next → (l ≡ 0 → ⊥)
+      → AtLabel s next l to → RecordPlayed constants s body at σ σ (record { done = false; at = to; played = 1 })
   unfolding play
-  turn-branch {next} {l} {to} {σ} e n w =
+  play-branch {next} {l} {to} {σ} e n w =
       let h = w .on in
       let g = e .on in
       record {
         same = ap (λ l. from constants s body l σ) (e .same)
             ∙ simp (ne-eqb _ _ n)
-            (ap (ticks 1) (seek-play constants (blockAt constants s body) l (left (length constants) s next) σ ∙ ap (λ l. from constants s body l σ) (sym (w .same))));
+            (ap (ticks 1) (seek-play constants (blockAt constants s body) l (left (length constants) s next) σ ∙ ap (λ l. from constants s body l σ) (sym (w .same (length constants) (sym (e .sound) ∙ z)))));
         on = λ x. omega (arith, g, h);
-        sound = λ x. w .sound (sym (e .sound) ∙ z);
+        sound = λ x. w .sound (length constants) (sym (e .sound) ∙ z);
         small = omega arith;
       }
 
-  pub turn-call : {next l k : ℕ} {σ τ : Store} → Here (recordFrom (length constants)) s at (Record.Call l) next
-      → BlockPlayed constants s body σ τ k → Turned constants s body at σ τ (record { done = false; at = next; played = 2 + k })
+  pub play-call : {next l k : ℕ} {σ τ : Store} → Here (recordFrom (length constants)) s at (Record.Call l) next
+      → BlockPlayed constants s body σ τ k → RecordPlayed constants s body at σ τ (record { done = false; at = next; played = 2 + k })
   unfolding play
-  turn-call {next} {l} {k} {σ} {τ} e w =
+  play-call {next} {l} {k} {σ} {τ} e w =
       let c = w .count in
       let d = w .small in
       let b = blockAt constants s body in
@@ -141,10 +137,10 @@ module _ {constants s : List ℕ} {body at : ℕ} (z : fault (length constants) 
         small = omega (arith, d);
       }
 
--- a turn from an equal store
-pub turn-from : {constants s : List ℕ} {body at : ℕ} {σ τ υ : Store} {t : Turn} → τ ≡ σ → Turned constants s body at τ υ t
-    → Turned constants s body at σ υ t
-turn-from {constants} {s} {body} {at} {σ} {τ} {υ} {t} e w = subst (λ u. Turned constants s body at u υ t) e w
+-- a record played from an equal store
+pub play-from : {constants s : List ℕ} {body at : ℕ} {σ τ υ : Store} {p : Progress} → τ ≡ σ → RecordPlayed constants s body at τ υ p
+    → RecordPlayed constants s body at σ υ p
+play-from {constants} {s} {body} {at} {σ} {τ} {υ} {p} e w = subst (λ u. RecordPlayed constants s body at u υ p) e w
 
 -- the whole run: what is left to do from here is the whole answer
 pub run-start : (e : End) → ticks 0 e ≡ e
@@ -155,12 +151,12 @@ ticks-ticks : (m n : ℕ) (e : End) → ticks m (ticks n e) ≡ ticks (m + n) e
 unfolding ticks
 ticks-ticks m n e = λ i. record { store = e .store; played = sym (add-assoc m n (e .played)) i }
 
-pub run-turn : {constants s : List ℕ} {body at : ℕ} {σ τ : Store} {t : Turn} (c : ℕ) → Turned constants s body at σ τ t
-    → t .done ≡ false → ticks c (onFrom constants s body at σ) ≡ ticks (c + t .played) (onFrom constants s body (t .at) τ)
-run-turn c w m = ap (ticks c) (w .same ∙ simp m) ∙ ticks-ticks _ _ _
+pub run-on : {constants s : List ℕ} {body at : ℕ} {σ τ : Store} {p : Progress} (c : ℕ) → RecordPlayed constants s body at σ τ p
+    → p .done ≡ false → ticks c (onFrom constants s body at σ) ≡ ticks (c + p .played) (onFrom constants s body (p .at) τ)
+run-on c w m = ap (ticks c) (w .same ∙ simp m) ∙ ticks-ticks _ _ _
 
-pub run-stop : {constants s : List ℕ} {body at : ℕ} {σ τ : Store} {t : Turn} (c : ℕ) → Turned constants s body at σ τ t
-    → t .done ≡ true → ticks c (onFrom constants s body at σ) ≡ record { store = τ; played = c + t .played }
+pub run-stop : {constants s : List ℕ} {body at : ℕ} {σ τ : Store} {p : Progress} (c : ℕ) → RecordPlayed constants s body at σ τ p
+    → p .done ≡ true → ticks c (onFrom constants s body at σ) ≡ record { store = τ; played = c + p .played }
 unfolding ticks
 run-stop c w m = ap (ticks c) (w .same ∙ simp m)
 

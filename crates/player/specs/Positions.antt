@@ -2,18 +2,19 @@
 use Prim.Native.Nat.{ℕ, _+_, _≤_, _<_}
 use mathlib.Core.Path.{_≡_}
 use mathlib.Core.Bool.{Bool, true, false, not, cond}
-use mathlib.Core.List.{List}
-use lib.ListN.{length, drop}
+use mathlib.Core.List.{List, _∷_}
+use lib.ListN.{length, drop, getD}
 use lib.Dec.{eqb}
 use Rattle.mir.specs.declared.records.Work.{Work}
 use Rattle.mir.specs.declared.records.Record.{Record}
 use Rattle.mir.specs.Read.{got}
 use Rattle.records.specs.declared.reader.Sight.{Sight}
 use Rattle.records.specs.Record.{recordFrom, records}
-use Rattle.machine.specs.Machine.{Store, End, execs, works, isLabel, seek, ticks, play, going}
-use Rattle.machine.specs.Jumps.{isReturn, tally}
-use Rattle.player.specs.declared.passes.Seen.{Seen}
-use Rattle.player.specs.declared.run.Turn.{Turn}
+use Rattle.player_machine.specs.Machine.{Store, End, execs, works, isLabel, seek, ticks, play, going}
+use Rattle.player_machine.specs.Jumps.{bit, tally, isJump, isReturn, inBlock, breaks, breach}
+use Rattle.player.specs.declared.passes.Examination.{Examination}
+use Rattle.player.specs.declared.run.Progress.{Progress}
+use Rattle.player.specs.Spelled.{jumpSpelled, jumpIn, such}
 
 -- the records from a position on, and the number that refuses the one behind them
 abbrev pub left : ℕ → List ℕ → ℕ → List Record
@@ -22,28 +23,21 @@ left count s at = records count (drop at s) .items
 abbrev pub fault : ℕ → List ℕ → ℕ → ℕ
 fault count s at = records count (drop at s) .fault
 
+-- from a position on every record was examined, with some count of constants, and none is refused
+pub record Sound (s : List ℕ) (at : ℕ) : Type 0 where
+  pub count : ℕ
+  pub none : fault count s at ≡ 0
+
 -- the first Label l from a position on
-pub record Sought (count : ℕ) (s : List ℕ) (at l r : ℕ) : Type 0 where
-  pub same : left count s r ≡ seek l (left count s at)
+pub record AtLabel (s : List ℕ) (at l r : ℕ) : Type 0 where
+  pub same : (count : ℕ) → fault count s at ≡ 0 → left count s r ≡ seek l (left count s at)
+  pub sound : (count : ℕ) → fault count s at ≡ 0 → fault count s r ≡ 0
   pub on : at ≤ r
-  pub sound : fault count s at ≡ 0 → fault count s r ≡ 0
 
 -- k records behind a position
-pub record Skipped (count : ℕ) (s : List ℕ) (at k r : ℕ) : Type 0 where
-  pub same : left count s r ≡ drop k (left count s at)
-  pub sound : fault count s at ≡ 0 → fault count s r ≡ 0
-
--- the record behind the first Label 1, where the block begins
-pub record Begun (count : ℕ) (s : List ℕ) (r : ℕ) : Type 0 where
-  pub same : left count s r ≡ drop 1 (seek 1 (left count s 0))
-  pub sound : fault count s 0 ≡ 0 → fault count s r ≡ 0
-
--- a Label, a Branch or a Call
-abbrev pub isJump : Record → Bool
-isJump (Record.Work w) = false
-isJump (Record.Label l) = true
-isJump (Record.Branch l) = true
-isJump (Record.Call l) = true
+pub record Behind (s : List ℕ) (at k r : ℕ) : Type 0 where
+  pub same : (count : ℕ) → fault count s at ≡ 0 → left count s r ≡ drop k (left count s at)
+  pub sound : (count : ℕ) → fault count s at ≡ 0 → fault count s r ≡ 0
 
 -- a record that jumps stands at a position
 pub record Jumps (count : ℕ) (s : List ℕ) (at : ℕ) : Type 0 where
@@ -52,20 +46,64 @@ pub record Jumps (count : ℕ) (s : List ℕ) (at : ℕ) : Type 0 where
   pub jump : isJump rec ≡ true
 
 -- what a record's sight tells of it
-abbrev pub seesJump : Sight → Bool
-seesJump q = not (eqb (q .what) 0)
+abbrev pub jumpSeen : Sight → Bool
+jumpSeen q = not (eqb (q .what) 0)
 
-abbrev pub sees : ℕ → ℕ → Sight → Bool
-sees what label q = cond (eqb (q .what) what) (eqb (q .label) label) false
+abbrev pub labelSeen : ℕ → Sight → Bool
+labelSeen l q = cond (eqb (q .what) 1) (eqb (q .label) l) false
+
+-- the record behind the first Label 1, where the block begins
+pub record BlockStart (count : ℕ) (s : List ℕ) (r : ℕ) : Type 0 where
+  pub same : left count s r ≡ drop 1 (seek 1 (left count s 0))
+  pub sound : fault count s 0 ≡ 0 → fault count s r ≡ 0
 
 -- the whole listing, record by record
-pub record Examined (count : ℕ) (s : List ℕ) (x : Seen) : Type 0 where
+pub record Examined (count : ℕ) (s : List ℕ) (x : Examination) : Type 0 where
   pub number : x .number ≡ records count s .fault
   pub index : x .index ≡ length (records count s .items)
-  pub ones : x .ones ≡ tally (isLabel 1) (records count s .items)
-  pub twos : x .twos ≡ tally (isLabel 2) (records count s .items)
-  pub ends : x .ends ≡ tally isReturn (records count s .items)
   pub jumps : x .jumps ≡ tally isJump (records count s .items)
+  pub body : BlockStart count s (x .body)
+
+-- ---- the tables of labels, 256 entries by number
+
+-- one table behind another: a record's Label counted
+pub record Counted (s t u : List ℕ) : Type 0 where
+  pub long : length u ≡ length t
+  pub each : (l : ℕ) → getD u l 0 ≡ getD t l 0 + bit (such (isLabel l) (jumpSpelled s))
+
+-- all Labels of the listing counted, and the Branches 0
+pub record AllCounted (s t : List ℕ) (r : ℕ) : Type 0 where
+  pub long : length t ≡ 256
+  pub labels : (count : ℕ) → fault count s 0 ≡ 0 → (l : ℕ) → getD t l 0 ≡ tally (isLabel l) (left count s 0)
+  pub returns : (count : ℕ) → fault count s 0 ≡ 0 → r ≡ tally isReturn (left count s 0)
+
+-- What is known of the records before a position and of those from it on: t counts all Labels of the listing, u those before, b tells whether
+-- the block is open, m counts all Branches 0, and n those before.
+pub record Tables (before behind : List Record) (t u : List ℕ) (b : Bool) (m n : ℕ) : Type 0 where
+  pub all : (l : ℕ) → getD t l 0 ≡ tally (isLabel l) before + tally (isLabel l) behind
+  pub stood : (l : ℕ) → getD u l 0 ≡ tally (isLabel l) before
+  pub inside : b ≡ inBlock before
+  pub returns : m ≡ tally isReturn before + tally isReturn behind
+  pub returned : n ≡ tally isReturn before
+
+-- r tells whether the record that s begins with breaks a rule
+abbrev pub BreaksRule : List ℕ → List ℕ → List ℕ → Bool → ℕ → ℕ → Bool → Type 0
+BreaksRule s t u b m n r =
+    (before : List Record) (rec : Record) (behind : List Record) → Tables before (rec ∷ behind) t u b m n
+    → jumpSpelled s ≡ jumpIn rec → r ≡ breaks before rec behind
+
+-- the first breach of the jump rules, of a listing that was examined
+abbrev pub FirstBreach : List ℕ → ℕ → Type 0
+FirstBreach s r = (count : ℕ) → fault count s 0 ≡ 0 → r ≡ breach (left count s 0)
+
+abbrev pub BreachOf : List ℕ → Examination → ℕ → Type 0
+BreachOf s x r = (count : ℕ) → Examined count s x → fault count s 0 ≡ 0 → r ≡ breach (left count s 0)
+
+-- a table of 256 entries, none above a bound
+abbrev pub Table : ℕ → List ℕ → Type 0
+Table most t = (length t ≡ 256) × ((l : ℕ) → getD t l 0 ≤ most)
+
+-- ---- the play
 
 -- the working records of the block that begins at a position
 abbrev pub blockAt : List ℕ → List ℕ → ℕ → List Work
@@ -82,12 +120,12 @@ abbrev pub onFrom : List ℕ → List ℕ → ℕ → ℕ → Store → End
 onFrom constants s body at σ = play constants (blockAt constants s body) going (left (length constants) s at) σ
 
 -- one record played from σ to τ, and the play of what follows it
-pub record Turned (constants s : List ℕ) (body at : ℕ) (σ τ : Store) (t : Turn) : Type 0 where
+pub record RecordPlayed (constants s : List ℕ) (body at : ℕ) (σ τ : Store) (p : Progress) : Type 0 where
   pub same : onFrom constants s body at σ
-      ≡ cond (t .done) (record { store = τ; played = t .played }) (ticks (t .played) (onFrom constants s body (t .at) τ))
-  pub on : t .done ≡ false → at < t .at
-  pub sound : t .done ≡ false → fault (length constants) s (t .at) ≡ 0
-  pub small : t .played ≤ 65602
+      ≡ cond (p .done) (record { store = τ; played = p .played }) (ticks (p .played) (onFrom constants s body (p .at) τ))
+  pub on : p .done ≡ false → at < p .at
+  pub sound : p .done ≡ false → fault (length constants) s (p .at) ≡ 0
+  pub small : p .played ≤ 65602
 
 -- the whole play from σ to τ
 pub record Played (constants s : List ℕ) (body start : ℕ) (σ τ : Store) (r : ℕ) : Type 0 where

@@ -1,146 +1,165 @@
-// The jump rules.
+// The jump rules, over records that were examined. The tables have an entry for each label.
 ghost use mathlib.Core.Path.{_≡_};
-ghost use Rattle.records.specs.Record.{records};
-ghost use Rattle.machine.specs.Machine.{isLabel};
-ghost use Rattle.machine.specs.Jumps.{isReturn, tally, breaks, behind, breachFrom, nothing};
-ghost use lib.Dec.{ltb};
-ghost use Rattle.player.specs.Values.{asBefore};
-ghost use Rattle.player.specs.Positions.{Examined};
-use super::passes::Seen;
-use super::passes::is_label;
-use super::passes::is_return;
+ghost use Prim.Native.Nat.{_≤_};
+ghost use mathlib.Core.Bool.{not, _&&_, _||_};
+ghost use lib.Dec.{eqb, ltb};
+ghost use lib.ListN.{length};
+ghost use Rattle.player_machine.specs.Machine.{isLabel};
+ghost use Rattle.player_machine.specs.Jumps.{isReturn};
+ghost use Rattle.player.specs.Spelled.{jumpSpelled, such};
+ghost use Rattle.player.specs.Positions.{Sound, Table, Counted, AllCounted, BreaksRule, FirstBreach, BreachOf};
+use super::passes::Examination;
 use super::passes::one_if;
-use mir::records::Record;
-use records::reader::NextRecord;
-use records::reader::read_record;
+use super::passes::spells_label;
+use super::passes::spells_return;
+use mir::fields::byte;
+use mir::fields::word;
 
-// What stands before a record: a Label 1, a Label 2, and whether the record stands in the block.
-pub struct Stood {
-    pub one: bool,
-    pub two: bool,
-    pub inside: bool,
-}
-
-// Does a record break a rule? `one`: a Label 1 stands anywhere; `end`, `two`: a Branch 0, a Label 2 stands behind it.
-fn breaks_rule(one: bool, s: Stood, rec: Record, end: bool, two: bool) -> bool
-    ensures { λ r. ⌜ r ≡ breaks one (asBefore s) rec end two ⌝ }
+// Counts the record that bytes begin with, where it is a Label.
+fn count_label(s: &[u8], table: &mut [usize])
+    requires { ⌜ Table 65536 (now table) ⌝ }
+    ensures { λ r. ⌜ Counted (now (s .entry)) (now (table .entry)) (now (table .exit)) ⌝ }
 {
-    match rec {
-        Record::Work(w) => false,
-        Record::Label(l) => {
-            if s.inside {
-                return true;
-            }
-            if l == 0 {
-                return true;
-            }
-            if l == 1 {
-                if s.one {
-                    return true;
-                }
-                return !end;
-            }
-            s.two
-        }
-        Record::Branch(l) => {
-            if l == 0 {
-                return false;
-            }
-            if s.inside {
-                return true;
-            }
-            if l == 1 {
-                return true;
-            }
-            !two
-        }
-        Record::Call(l) => {
-            if s.inside {
-                return true;
-            }
-            if l == 1 {
-                return !one;
-            }
-            true
-        }
+    if word(s, 2) == 14 {
+        let l = byte(s, 4) as usize;
+        table[l] += 1;
     }
 }
 
-// What stands before the next record.
-fn stood_behind(s: Stood, rec: Record) -> Stood
-    ensures { λ r. ⌜ asBefore r ≡ behind (asBefore s) rec ⌝ }
-{
-    match rec {
-        Record::Work(w) => s,
-        Record::Label(l) => {
-            if l == 1 {
-                return Stood {
-                    one: true,
-                    two: s.two,
-                    inside: true,
-                };
-            }
-            Stood {
-                one: s.one,
-                two: true,
-                inside: s.inside,
-            }
-        }
-        Record::Branch(l) => {
-            if l == 0 {
-                return Stood {
-                    one: s.one,
-                    two: s.two,
-                    inside: false,
-                };
-            }
-            s
-        }
-        Record::Call(l) => s,
-    }
-}
-
-// The index of the first record that breaks a jump rule; the count of records where none does. `all_twos`, `all_ends`: how many
-// records are Label 2 and Branch 0.
-fn first_breach(listing: &[u8], count: usize, one: bool, all_twos: usize, all_ends: usize) -> usize
-    requires { ⌜ «all_twos» ≡ tally (isLabel 2) (records count (now listing) .items) ⌝ }
-    requires { ⌜ «all_ends» ≡ tally isReturn (records count (now listing) .items) ⌝ }
-    ensures { λ r. ⌜ r ≡ breachFrom one nothing (records count (now (listing .entry)) .items) ⌝ }
+// Counts all Labels of a listing by number, and its Branches 0.
+fn count_labels(listing: &[u8], table: &mut [usize]) -> usize
+    requires { ⌜ length (now listing) ≤ 65536 ⌝ }
+    requires { ⌜ Sound (now listing) 0 ⌝ }
+    requires { ⌜ Table 0 (now table) ⌝ }
+    ensures { λ r. ⌜ AllCounted (now (listing .entry)) (now (table .exit)) r ⌝ }
 {
     let mut at: usize = 0;
-    let mut index: usize = 0;
-    let mut twos = all_twos;
-    let mut ends = all_ends;
-    let mut s = Stood {
-        one: false,
-        two: false,
-        inside: false,
-    };
+    let mut returns: usize = 0;
     while at < listing.len() {
-        let q = read_record(listing, at, count);
-        let NextRecord::Got(rec, next) = q else {
-            return index;
-        };
-        twos -= one_if(is_label(rec, 2));
-        ends -= one_if(is_return(rec));
-        if breaks_rule(one, s, rec, 0 < ends, 0 < twos) {
+        let s = &listing[at..];
+        count_label(s, table);
+        returns += one_if(spells_return(s));
+        let n = word(s, 0);
+        at += n as usize;
+    }
+    returns
+}
+
+// Does a Label break a rule? `stood`: one of its number stands before it; `end`: a Branch 0 stands behind it.
+fn label_breaks(l: u8, stood: bool, inside: bool, end: bool) -> bool
+    ensures { λ r. ⌜ r ≡ (eqb l 0 || stood || (inside || (eqb l 1 && not end))) ⌝ }
+{
+    if l == 0 {
+        return true;
+    }
+    if stood {
+        return true;
+    }
+    if inside {
+        return true;
+    }
+    if l == 1 { !end } else { false }
+}
+
+// Does a Branch? `later`: a Label of its number stands behind it.
+fn branch_breaks(l: u8, inside: bool, later: bool) -> bool
+    ensures { λ r. ⌜ r ≡ (ltb 1 l && not later || (eqb l 1 || (not (eqb l 0) && inside))) ⌝ }
+{
+    if l == 0 {
+        return false;
+    }
+    if l == 1 {
+        return true;
+    }
+    if inside { true } else { !later }
+}
+
+// Does a Call? `one`: a Label 1 stands anywhere.
+fn call_breaks(l: u8, inside: bool, one: bool) -> bool
+    ensures { λ r. ⌜ r ≡ (not (eqb l 1) || (inside || not one)) ⌝ }
+{
+    if l != 1 {
+        return true;
+    }
+    if inside { true } else { !one }
+}
+
+// Does the record that bytes begin with break a rule?
+fn breaks_rule(
+    s: &[u8],
+    all: &[usize],
+    stood: &[usize],
+    inside: bool,
+    returns: usize,
+    returned: usize,
+) -> bool
+    requires { ⌜ (length (now all) ≡ 256) × (length (now stood) ≡ 256) ⌝ }
+    ensures { λ r. ⌜ BreaksRule (now (s .entry)) (now (all .entry)) (now (stood .entry)) inside returns returned r ⌝ }
+{
+    let kind = word(s, 2);
+    let label = byte(s, 4);
+    let l = label as usize;
+    if kind == 14 {
+        return label_breaks(label, 0 < stood[l], inside, returned < returns);
+    }
+    if kind == 15 {
+        return branch_breaks(label, inside, stood[l] < all[l]);
+    }
+    if kind == 16 {
+        return call_breaks(label, inside, 0 < all[1]);
+    }
+    false
+}
+
+// Whether the block is open behind the record that bytes begin with.
+fn block_open(s: &[u8], inside: bool) -> bool
+    ensures { λ r. ⌜ r ≡ (such (isLabel 1) (jumpSpelled (now (s .entry))) || (not (such isReturn (jumpSpelled (now (s .entry)))) && inside)) ⌝ }
+{
+    if spells_label(s, 1) {
+        return true;
+    }
+    if spells_return(s) {
+        return false;
+    }
+    inside
+}
+
+// The index of the first record that breaks a jump rule; the count of records where none does.
+fn first_breach(listing: &[u8]) -> usize
+    requires { ⌜ length (now listing) ≤ 65536 ⌝ }
+    requires { ⌜ Sound (now listing) 0 ⌝ }
+    ensures { λ r. ⌜ FirstBreach (now (listing .entry)) r ⌝ }
+{
+    let mut all: [usize; 256] = [0; 256];
+    let mut stood: [usize; 256] = [0; 256];
+    let returns = count_labels(listing, &mut all);
+    let mut returned: usize = 0;
+    let mut inside = false;
+    let mut at: usize = 0;
+    let mut index: usize = 0;
+    while at < listing.len() {
+        let s = &listing[at..];
+        if breaks_rule(s, &all, &stood, inside, returns, returned) {
             return index;
         }
-        let t = stood_behind(s, rec);
-        s = t;
-        at = next;
+        count_label(s, &mut stood);
+        returned += one_if(spells_return(s));
+        inside = block_open(s, inside);
+        let n = word(s, 0);
+        at += n as usize;
         index += 1;
     }
     index
 }
 
 // The same, by what the first pass found: a listing of working records alone breaks no rule.
-pub(crate) fn breach_of(listing: &[u8], count: usize, seen: Seen) -> usize
-    requires { ⌜ Examined count (now listing) seen ⌝ }
-    ensures { λ r. ⌜ r ≡ breachFrom (ltb 0 (seen .ones)) nothing (records count (now (listing .entry)) .items) ⌝ }
+pub(crate) fn breach_of(listing: &[u8], x: Examination) -> usize
+    requires { ⌜ length (now listing) ≤ 65536 ⌝ }
+    requires { ⌜ Sound (now listing) 0 ⌝ }
+    ensures { λ r. ⌜ BreachOf (now (listing .entry)) x r ⌝ }
 {
-    if seen.jumps == 0 {
-        return seen.index;
+    if x.jumps == 0 {
+        return x.index;
     }
-    first_breach(listing, count, 0 < seen.ones, seen.twos, seen.ends)
+    first_breach(listing)
 }

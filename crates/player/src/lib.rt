@@ -1,7 +1,7 @@
-// The player: a first pass tests every record. Where it sees a jump, the passes for the jump rules, the block and the start record read the
-// records again. Then they are played on the store, each from its bytes.
+// The player: a first pass tests every record, and notes where the block begins. What follows tests none again: where a jump was seen the
+// jump rules are tried, the start record is found, and the records are played on the store, each from its bytes.
 ghost use mathlib.Core.Path.{_≡_};
-ghost use Rattle.machine.specs.Answer.{answer};
+ghost use Rattle.player_machine.specs.Answer.{answer};
 ghost use Rattle.player.specs.Values.{whole};
 
 mod jumps;
@@ -9,7 +9,6 @@ mod passes;
 mod run;
 
 use jumps::breach_of;
-use passes::block_at;
 use passes::examine;
 use passes::skip;
 use run::run;
@@ -45,23 +44,22 @@ pub fn play(listing: &[u8], constants: &[u64], store: &mut [u64], start: usize) 
         return refuse(8, 0);
     }
     let count = constants.len();
-    let seen = examine(listing, count);
-    if seen.number != 0 {
-        return refuse(seen.number, seen.index);
+    let x = examine(listing, count);
+    if x.number != 0 {
+        return refuse(x.number, x.index);
     }
-    if seen.index < start {
+    if x.index < start {
         return refuse(9, start);
     }
-    let breach = breach_of(listing, count, seen);
-    if breach < seen.index {
+    let breach = breach_of(listing, x);
+    if breach < x.index {
         return refuse(9, breach);
     }
-    let body = block_at(listing, count, seen.jumps);
-    let from = skip(listing, count, 0, start);
-    let played = run(listing, constants, body, from, store);
+    let from = skip(listing, 0, start);
+    let played = run(listing, constants, x.body, from, store);
     Answer {
         number: 0,
-        index: seen.index,
+        index: x.index,
         played: played,
     }
 }

@@ -1,36 +1,36 @@
-// Walks over the records of a listing, by position. The position of a record stands for the records from it on.
+// Walks over the records of a listing, by position. The position of a record stands for the records from it on. The first pass examines each
+// record; the others read the length, the kind and the label of records that were examined.
 ghost use mathlib.Core.Path.{_≡_};
-ghost use Rattle.machine.specs.Machine.{isLabel};
-ghost use Rattle.machine.specs.Jumps.{isReturn, bit};
-ghost use Rattle.records.specs.Record.{records};
-ghost use Rattle.machine.specs.Jumps.{tally};
-ghost use Rattle.player.specs.Positions.{Sought, Skipped, Begun, Examined, isJump, sees, seesJump};
+ghost use Rattle.player_machine.specs.Machine.{isLabel};
+ghost use Rattle.player_machine.specs.Jumps.{bit, isReturn};
+ghost use mathlib.Core.Bool.{cond};
+ghost use lib.Dec.{eqb};
+ghost use Rattle.player.specs.Spelled.{jumpSpelled, such};
+ghost use Rattle.player.specs.Positions.{AtLabel, Behind, Examined, Sound, jumpSeen, labelSeen};
+use mir::fields::byte;
 use mir::fields::word;
-use mir::records::Record;
-use records::reader::NextRecord;
 use records::reader::Sight;
 use records::reader::look;
-use records::reader::read_record;
 
-pub fn is_label(rec: Record, label: u8) -> bool
-    ensures { λ r. ⌜ r ≡ isLabel label rec ⌝ }
+// Whether the record that bytes begin with is a Label of that number.
+pub fn spells_label(s: &[u8], label: u8) -> bool
+    ensures { λ r. ⌜ r ≡ such (isLabel label) (jumpSpelled (now (s .entry))) ⌝ }
 {
-    match rec {
-        Record::Work(w) => false,
-        Record::Label(l) => l == label,
-        Record::Branch(l) => false,
-        Record::Call(l) => false,
+    if word(s, 2) == 14 {
+        byte(s, 4) == label
+    } else {
+        false
     }
 }
 
-pub fn is_return(rec: Record) -> bool
-    ensures { λ r. ⌜ r ≡ isReturn rec ⌝ }
+// Whether it is a Branch 0.
+pub fn spells_return(s: &[u8]) -> bool
+    ensures { λ r. ⌜ r ≡ such isReturn (jumpSpelled (now (s .entry))) ⌝ }
 {
-    match rec {
-        Record::Work(w) => false,
-        Record::Label(l) => false,
-        Record::Branch(l) => l == 0,
-        Record::Call(l) => false,
+    if word(s, 2) == 15 {
+        byte(s, 4) == 0
+    } else {
+        false
     }
 }
 
@@ -41,26 +41,26 @@ pub fn one_if(b: bool) -> usize
 }
 
 // The position of the first Label of that number at or behind a position; the end where there is none.
-pub fn find(listing: &[u8], count: usize, at: usize, label: u8) -> usize
-    ensures { λ r. ⌜ Sought count (now (listing .entry)) at label r ⌝ }
+pub(crate) fn find(listing: &[u8], at: usize, label: u8) -> usize
+    requires { ⌜ Sound (now listing) at ⌝ }
+    ensures { λ r. ⌜ AtLabel (now (listing .entry)) at label r ⌝ }
 {
     let mut i = at;
     while i < listing.len() {
-        let q = read_record(listing, i, count);
-        let NextRecord::Got(rec, next) = q else {
-            return listing.len();
-        };
-        if is_label(rec, label) {
+        let s = &listing[i..];
+        if spells_label(s, label) {
             return i;
         }
-        i = next;
+        let n = word(s, 0);
+        i += n as usize;
     }
     i
 }
 
 // The position k records behind a position; the end where there are fewer.
-pub fn skip(listing: &[u8], count: usize, from: usize, k: usize) -> usize
-    ensures { λ r. ⌜ Skipped count (now (listing .entry)) from k r ⌝ }
+pub(crate) fn skip(listing: &[u8], from: usize, k: usize) -> usize
+    requires { ⌜ Sound (now listing) from ⌝ }
+    ensures { λ r. ⌜ Behind (now (listing .entry)) from k r ⌝ }
 {
     let mut at = from;
     let mut n = k;
@@ -68,95 +68,79 @@ pub fn skip(listing: &[u8], count: usize, from: usize, k: usize) -> usize
         if n == 0 {
             return at;
         }
-        let q = read_record(listing, at, count);
-        let NextRecord::Got(rec, next) = q else {
-            return listing.len();
-        };
-        at = next;
+        let s = &listing[at..];
+        let length = word(s, 0);
+        at += length as usize;
         n -= 1;
     }
     at
 }
 
-// The position behind the first Label 1, where the block begins; the end where there is none. `jumps`: how many records are no working
-// records.
-pub(crate) fn block_at(listing: &[u8], count: usize, jumps: usize) -> usize
-    requires { ⌜ jumps ≡ tally isJump (records count (now listing) .items) ⌝ }
-    ensures { λ r. ⌜ Begun count (now (listing .entry)) r ⌝ }
-{
-    if jumps == 0 {
-        return listing.len();
-    }
-    let label = find(listing, count, 0, 1);
-    skip(listing, count, label, 1)
-}
-
 // A Label, a Branch or a Call, by its sight.
-fn sees_jump(q: Sight) -> bool
-    ensures { λ r. ⌜ r ≡ seesJump q ⌝ }
+fn jump_seen(q: Sight) -> bool
+    ensures { λ r. ⌜ r ≡ jumpSeen q ⌝ }
 {
     q.what != 0
 }
 
-// One of them with a label, by its sight.
-fn sees_label(q: Sight, what: u8, label: u8) -> bool
-    ensures { λ r. ⌜ r ≡ sees what label q ⌝ }
+// A Label of that number, by its sight.
+fn label_seen(q: Sight, label: u8) -> bool
+    ensures { λ r. ⌜ r ≡ labelSeen label q ⌝ }
 {
-    if q.what == what {
-        q.label == label
-    } else {
-        false
-    }
+    if q.what == 1 { q.label == label } else { false }
 }
 
-// What the first pass finds: the number that refuses a record (0: none) at its index or the count of records, and how many
-// records are Label 1, Label 2, Branch 0, and how many are no working records.
-pub struct Seen {
+// Where the block begins: `next`, behind the Label 1 at hand, where none stood before.
+fn block_start(body: usize, end: usize, label: bool, next: usize) -> usize
+    ensures { λ r. ⌜ r ≡ cond label (cond (eqb body end) next body) body ⌝ }
+{
+    if label {
+        if body == end {
+            return next;
+        }
+    }
+    body
+}
+
+// What the first pass finds: the number that refuses a record (0: none) at its index or the count of records, how many records are no
+// working records, and the position behind the first Label 1, or the end where there is none.
+pub struct Examination {
     pub number: u8,
     pub index: usize,
-    pub ones: usize,
-    pub twos: usize,
-    pub ends: usize,
     pub jumps: usize,
+    pub body: usize,
 }
 
 // Examines each record by itself.
-pub fn examine(listing: &[u8], count: usize) -> Seen
+pub fn examine(listing: &[u8], count: usize) -> Examination
     ensures { λ r. ⌜ Examined count (now (listing .entry)) r ⌝ }
 {
+    let end = listing.len();
     let mut at: usize = 0;
     let mut index: usize = 0;
-    let mut ones: usize = 0;
-    let mut twos: usize = 0;
-    let mut ends: usize = 0;
     let mut jumps: usize = 0;
-    while at < listing.len() {
+    let mut body = end;
+    while at < end {
         let s = &listing[at..];
         let q = look(s, count);
         if q.number != 0 {
-            return Seen {
+            return Examination {
                 number: q.number,
                 index: index,
-                ones: ones,
-                twos: twos,
-                ends: ends,
                 jumps: jumps,
+                body: body,
             };
         }
-        ones += one_if(sees_label(q, 1, 1));
-        twos += one_if(sees_label(q, 1, 2));
-        ends += one_if(sees_label(q, 2, 0));
-        jumps += one_if(sees_jump(q));
         let n = word(s, 0);
         at += n as usize;
         index += 1;
+        jumps += one_if(jump_seen(q));
+        body = block_start(body, end, label_seen(q, 1), at);
     }
-    Seen {
+    Examination {
         number: 0,
         index: index,
-        ones: ones,
-        twos: twos,
-        ends: ends,
         jumps: jumps,
+        body: body,
     }
 }

@@ -2,16 +2,14 @@
 ghost use mathlib.Core.Path.{_≡_};
 ghost use Prim.Native.Nat.{_≤_, _<_};
 ghost use lib.ListN.{length};
-ghost use Rattle.player.specs.Positions.{fault, Jumps, BlockPlayed, Turned, Played};
+ghost use Rattle.player.specs.Positions.{fault, Jumps, BlockPlayed, RecordPlayed, Played};
 use super::passes::find;
+use mir::fields::byte;
 use mir::fields::word;
-use mir::records::Record;
-use records::reader::NextRecord;
-use records::reader::read_record;
-use work::exec;
+use player_work::exec;
 
 // Where a play stands after a record: whether it ended, the position of the next record, and how many records were reached.
-pub struct Turn {
+pub struct Progress {
     pub done: bool,
     pub at: usize,
     pub played: usize,
@@ -39,72 +37,74 @@ fn run_block(listing: &[u8], constants: &[u64], body: usize, store: &mut [u64]) 
 }
 
 // Plays a record that is no working record, with the whole block where it is a Call.
-fn run_jump(listing: &[u8], constants: &[u64], body: usize, at: usize, store: &mut [u64]) -> Turn
+fn run_jump(
+    listing: &[u8],
+    constants: &[u64],
+    body: usize,
+    at: usize,
+    store: &mut [u64],
+) -> Progress
     requires { ⌜ length (now listing) ≤ 65536 ⌝ }
     requires { ⌜ fault (length (now constants)) (now listing) body ≡ 0 ⌝ }
     requires { ⌜ fault (length (now constants)) (now listing) at ≡ 0 ⌝ }
     requires { ⌜ Jumps (length (now constants)) (now listing) at ⌝ }
     requires { ⌜ at < length (now listing) ⌝ }
-    ensures { λ r. ⌜ Turned (now (constants .entry)) (now (listing .entry)) body at (now (store .entry)) (now (store .exit)) r ⌝ }
+    ensures { λ r. ⌜ RecordPlayed (now (constants .entry)) (now (listing .entry)) body at (now (store .entry)) (now (store .exit)) r ⌝ }
 {
-    let q = read_record(listing, at, constants.len());
-    let NextRecord::Got(rec, next) = q else {
-        return Turn {
-            done: true,
-            at: at,
-            played: 0,
-        };
-    };
-    match rec {
-        Record::Work(w) => Turn {
-            done: true,
-            at: at,
-            played: 0,
-        },
-        Record::Label(l) => Turn {
+    let s = &listing[at..];
+    let kind = word(s, 2);
+    let label = byte(s, 4);
+    let n = word(s, 0);
+    let next = at + n as usize;
+    if kind == 14 {
+        return Progress {
             done: false,
             at: next,
             played: 1,
-        },
-        Record::Branch(l) => {
-            if l == 0 {
-                return Turn {
-                    done: true,
-                    at: next,
-                    played: 1,
-                };
-            }
-            let to = find(listing, constants.len(), next, l);
-            Turn {
-                done: false,
-                at: to,
-                played: 1,
-            }
-        }
-        Record::Call(l) => {
-            let n = run_block(listing, constants, body, store);
-            Turn {
-                done: false,
+        };
+    }
+    if kind == 15 {
+        if label == 0 {
+            return Progress {
+                done: true,
                 at: next,
-                played: 2 + n,
-            }
+                played: 1,
+            };
         }
+        let to = find(listing, next, label);
+        return Progress {
+            done: false,
+            at: to,
+            played: 1,
+        };
+    }
+    let k = run_block(listing, constants, body, store);
+    Progress {
+        done: false,
+        at: next,
+        played: 2 + k,
     }
 }
 
 // Plays one record outside a call, with the whole block where it is a Call.
-fn run_record(listing: &[u8], constants: &[u64], body: usize, at: usize, store: &mut [u64]) -> Turn
+fn run_record(
+    listing: &[u8],
+    constants: &[u64],
+    body: usize,
+    at: usize,
+    store: &mut [u64],
+) -> Progress
     requires { ⌜ length (now listing) ≤ 65536 ⌝ }
     requires { ⌜ fault (length (now constants)) (now listing) body ≡ 0 ⌝ }
     requires { ⌜ fault (length (now constants)) (now listing) at ≡ 0 ⌝ }
     requires { ⌜ at < length (now listing) ⌝ }
-    ensures { λ r. ⌜ Turned (now (constants .entry)) (now (listing .entry)) body at (now (store .entry)) (now (store .exit)) r ⌝ }
+    ensures { λ r. ⌜ RecordPlayed (now (constants .entry)) (now (listing .entry)) body at (now (store .entry)) (now (store .exit)) r ⌝ }
 {
     let s = &listing[at..];
     let worked = exec(store, constants, s);
     if worked {
         let k = word(s, 0);
-        return Turn {
+        return Progress {
             done: false,
             at: at + k as usize,
             played: 1,

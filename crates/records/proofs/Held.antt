@@ -8,21 +8,15 @@ use native.Mathlib.Omega.{arith}
 use lib.ListN.{length, getD}
 use lib.Dec.{ltb, leb, eqb}
 use borrow.Author.Tests.{ltb-false, leb-false, not-false}
-use Rattle.mir.specs.declared.ops.UniOp.{UniOp}
-use Rattle.mir.specs.declared.ops.FoundUni.{FoundUni}
-use Rattle.mir.specs.declared.ops.BinOp.{BinOp}
-use Rattle.mir.specs.declared.ops.FoundBin.{FoundBin}
-use Rattle.mir.specs.declared.ops.FusedOp.{FusedOp}
-use Rattle.mir.specs.declared.ops.FoundFused.{FoundFused}
 use Rattle.mir.specs.declared.records.Loc.{Loc}
 use Rattle.mir.specs.declared.records.Record.{Record}
 use Rattle.mir.specs.Place.{index}
-use Rattle.mir.specs.Operation.{uniAt, binAt, arithAt, fusedAt, uniTaken, binTaken, arithTaken, fusedTaken}
-use Rattle.mir.specs.Read.{Read, got, refused, registers}
+use Rattle.mir.specs.Operation.{uniOps, binOps, arithOps, fusedOps, taken}
+use Rattle.mir.specs.Read.{Read, got, refused, above, registers}
 use Rattle.mir.specs.Field.{byteAt, wordAt, takesKind, headFrom, classed, placeAt, savedTo, savePlace, onStack, condPlace}
-use Rattle.mir.proofs.Passing.{passed, then, got-same, clash}
+use Rattle.mir.proofs.Passing.{passed, then, got-same, clash, or-left, or-right}
 use Rattle.mir.proofs.Decoding.{Bytes, items, each}
-use Rattle.records.specs.Takes.{takesUni, takesBin, takesArith, takesFused}
+use Rattle.mir.specs.Takes.{takesUni, takesBin, takesArith, takesFused}
 use Rattle.records.specs.Record.{uniFrom, biFrom, movFrom, loadFrom, saveFrom, loadConstFrom, fusedFrom, ifElseFrom, loadComplexFrom, saveComplexFrom, complexBiFrom, labelFrom, branchFrom, callFrom, fieldsFrom, recordFrom}
 use Rattle.records.proofs.Holding.{Saved, Stacked, Holds, AllHold}
 
@@ -31,33 +25,21 @@ record Low {A : Type 0} (limit : ℕ) (xs : List ℕ) (r : Read A) (a : A) : Typ
   low : (i : ℕ) → i < length xs → getD xs i 0 ≤ limit
   rest : r ≡ got a
 
-low-at : (limit x : ℕ) (xs : List ℕ) → x ≤ limit → ((i : ℕ) → i < length xs → getD xs i 0 ≤ limit)
-    → (i : ℕ) → i < length (x ∷ xs) → getD (x ∷ xs) i 0 ≤ limit
-low-at limit x xs h k zero l = h
-low-at limit x xs h k (suc i) l = k i (omega arith)
+low-at : (limit : ℕ) (xs : List ℕ) → above limit xs ≡ false → (i : ℕ) → i < length xs → getD xs i 0 ≤ limit
+low-at limit [] e i h = absurd (not-suc-le-zero h)
+low-at limit (x ∷ xs) e zero h = ltb-false limit x (or-left (ltb limit x) (above limit xs) e)
+low-at limit (x ∷ xs) e (suc i) h = low-at limit xs (or-right (ltb limit x) (above limit xs) e) i (omega arith)
 
 lows : {A : Type 0} (limit : ℕ) (xs : List ℕ) (r : Read A) (a : A) → registers limit xs r ≡ got a → Low limit xs r a
-lows limit [] r a e = record { low = λ i h. absurd (not-suc-le-zero h); rest = e }
-lows limit (x ∷ xs) r a e =
-    let p = passed (ltb limit x) 3 (registers limit xs r) a e in
-    let q = lows limit xs r a (p .rest) in
-    record { low = low-at limit x xs (ltb-false limit x (p .test)) (q .low); rest = q .rest }
+lows limit xs r a e = let p = passed (above limit xs) 3 r a e in record { low = low-at limit xs (p .test); rest = p .rest }
 
--- operations that were not refused
-taken : {A : Type 0} (takes : A → Bool) (o op : A) → not (takes o) ≡ false → got o ≡ got op → takes op ≡ true
-taken takes o op t e = ap takes (sym (got-same o op e)) ∙ not-false (takes o) t
-
-uni-taken : (takes : UniOp → Bool) (x : FoundUni) (op : UniOp) → uniTaken takes x ≡ got op → takes op ≡ true
-uni-taken takes (FoundUni.Op o) op e = let p = passed (not (takes o)) 2 (got o) op e in taken takes o op (p .test) (p .rest)
-uni-taken takes FoundUni.Nothing op e = absurd (clash 2 op e)
-
-bin-taken : (takes : BinOp → Bool) (x : FoundBin) (op : BinOp) → binTaken takes x ≡ got op → takes op ≡ true
-bin-taken takes (FoundBin.Op o) op e = let p = passed (not (takes o)) 2 (got o) op e in taken takes o op (p .test) (p .rest)
-bin-taken takes FoundBin.Nothing op e = absurd (clash 2 op e)
-
-fused-taken : (takes : FusedOp → Bool) (x : FoundFused) (op : FusedOp) → fusedTaken takes x ≡ got op → takes op ≡ true
-fused-taken takes (FoundFused.Op o) op e = let p = passed (not (takes o)) 2 (got o) op e in taken takes o op (p .test) (p .rest)
-fused-taken takes FoundFused.Nothing op e = absurd (clash 2 op e)
+-- an operation that was not refused
+pub taken-takes : {A : Type 0} (takes : A → Bool) (ops : List A) (n : ℕ) (op : A) → taken takes ops n ≡ got op → takes op ≡ true
+taken-takes takes [] n op e = absurd (clash 2 op e)
+taken-takes takes (o ∷ ops) zero op e =
+    let p = passed (not (takes o)) 2 (got o) op e in
+    ap takes (sym (got-same o op (p .rest))) ∙ not-false (takes o) (p .test)
+taken-takes takes (o ∷ ops) (suc n) op e = taken-takes takes ops n op e
 
 -- by which branch something was read
 pub by : {A P : Type 0} (b : Bool) (x y : Read A) (a : A) → cond b x y ≡ got a → (x ≡ got a → P) → (y ≡ got a → P) → P
@@ -111,16 +93,16 @@ module _ (count : ℕ) (s : List ℕ) (r : Record) where
   held-uni : uniFrom s ≡ got r → Holds count r
   unfolding uniFrom
   held-uni e =
-      let t = then (uniTaken takesUni (uniAt (byteAt s 4))) _ r e in
+      let t = then (taken (takesUni true) uniOps (byteAt s 4)) _ r e in
       let l = lows 65 (byteAt s 5 ∷ byteAt s 6 ∷ []) _ r (t .rest) in
-      subst (Holds count) (got-same _ r (l .rest)) (uni-taken takesUni (uniAt (byteAt s 4)) (t .first) (t .found), l .low 0 (omega arith), l .low 1 (omega arith))
+      subst (Holds count) (got-same _ r (l .rest)) (taken-takes (takesUni true) uniOps (byteAt s 4) (t .first) (t .found), l .low 0 (omega arith), l .low 1 (omega arith))
 
   held-bi : biFrom s ≡ got r → Holds count r
   unfolding biFrom
   held-bi e =
-      let t = then (binTaken takesBin (binAt (byteAt s 4))) _ r e in
+      let t = then (taken (takesBin true) binOps (byteAt s 4)) _ r e in
       let l = lows 65 (byteAt s 5 ∷ byteAt s 6 ∷ byteAt s 7 ∷ []) _ r (t .rest) in
-      subst (Holds count) (got-same _ r (l .rest)) (bin-taken takesBin (binAt (byteAt s 4)) (t .first) (t .found), l .low 0 (omega arith), l .low 1 (omega arith), l .low 2 (omega arith))
+      subst (Holds count) (got-same _ r (l .rest)) (taken-takes (takesBin true) binOps (byteAt s 4) (t .first) (t .found), l .low 0 (omega arith), l .low 1 (omega arith), l .low 2 (omega arith))
 
   held-mov : movFrom s ≡ got r → Holds count r
   unfolding movFrom
@@ -153,9 +135,9 @@ module _ (count : ℕ) (s : List ℕ) (r : Record) where
   held-fused : fusedFrom s ≡ got r → Holds count r
   unfolding fusedFrom
   held-fused e =
-      let t = then (fusedTaken takesFused (fusedAt (byteAt s 4))) _ r e in
+      let t = then (taken (takesFused true) fusedOps (byteAt s 4)) _ r e in
       let l = lows 65 (byteAt s 5 ∷ byteAt s 6 ∷ byteAt s 7 ∷ byteAt s 8 ∷ []) _ r (t .rest) in
-      subst (Holds count) (got-same _ r (l .rest)) (fused-taken takesFused (fusedAt (byteAt s 4)) (t .first) (t .found), l .low 0 (omega arith), l .low 1 (omega arith), l .low 2 (omega arith), l .low 3 (omega arith))
+      subst (Holds count) (got-same _ r (l .rest)) (taken-takes (takesFused true) fusedOps (byteAt s 4) (t .first) (t .found), l .low 0 (omega arith), l .low 1 (omega arith), l .low 2 (omega arith), l .low 3 (omega arith))
 
   held-if-else : ifElseFrom s ≡ got r → Holds count r
   unfolding ifElseFrom
@@ -181,7 +163,7 @@ module _ (count : ℕ) (s : List ℕ) (r : Record) where
   held-complex-bi : complexBiFrom s ≡ got r → Holds count r
   unfolding complexBiFrom
   held-complex-bi e =
-      let t = then (arithTaken takesArith (arithAt (byteAt s 4))) _ r e in
+      let t = then (taken takesArith arithOps (byteAt s 4)) _ r e in
       let l = lows 65 (byteAt s 5 ∷ byteAt s 6 ∷ byteAt s 7 ∷ byteAt s 8 ∷ byteAt s 9 ∷ byteAt s 10 ∷ []) _ r (t .rest) in
       subst (Holds count) (got-same _ r (l .rest)) (l .low 0 (omega arith), l .low 1 (omega arith), l .low 2 (omega arith), l .low 3 (omega arith), l .low 4 (omega arith), l .low 5 (omega arith))
 

@@ -1,5 +1,3 @@
-pub mod Taken
-mod Registers
 pub mod Reading
 pub mod Holding
 pub mod Round

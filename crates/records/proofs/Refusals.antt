@@ -1,5 +1,5 @@
 -- No record is refused by 0: a record whose sight has the number 0 was read.
-use Prim.Native.Nat.{ℕ, suc, _+_}
+use Prim.Native.Nat.{ℕ, zero, suc, _+_}
 use mathlib.Core.Path.{_≡_, refl, sym, ap, _∙_}
 use mathlib.Core.Bool.{Bool, true, false, not, cond}
 use mathlib.Core.List.{List, [], _∷_}
@@ -8,16 +8,12 @@ use lib.ListN.{length}
 use lib.Dec.{ltb, leb, eqb}
 use Rattle.mir.specs.declared.records.Loc.{Loc}
 use Rattle.mir.specs.declared.records.Record.{Record}
-use Rattle.mir.specs.declared.ops.FoundUni.{FoundUni}
-use Rattle.mir.specs.declared.ops.FoundBin.{FoundBin}
-use Rattle.mir.specs.declared.ops.FoundArith.{FoundArith}
-use Rattle.mir.specs.declared.ops.FoundFused.{FoundFused}
 use Rattle.mir.specs.Length.{lengthOf}
-use Rattle.mir.specs.Operation.{uniAt, binAt, arithAt, fusedAt, uniTaken, binTaken, arithTaken, fusedTaken}
-use Rattle.mir.specs.Read.{Read, got, refused, refuse, andThen, registers}
+use Rattle.mir.specs.Operation.{uniOps, binOps, arithOps, fusedOps, taken}
+use Rattle.mir.specs.Read.{Read, got, refused, refuse, andThen, above, registers}
 use Rattle.mir.specs.Field.{byteAt, wordAt, takesKind, headFrom, placeAt, savedTo, savePlace, onStack, condPlace}
 use Rattle.mir.proofs.Passing.{clash}
-use Rattle.records.specs.Takes.{takesUni, takesBin, takesArith, takesFused}
+use Rattle.mir.specs.Takes.{takesUni, takesBin, takesArith, takesFused}
 use Rattle.records.specs.Record.{fieldsFrom, recordFrom}
 use Rattle.records.specs.Sight.{sightOf}
 
@@ -44,25 +40,12 @@ chosen true h k = h
 chosen false h k = k
 
 limited : {A : Type 0} (xs : List ℕ) {r : Read A} → Numbered r → Numbered (registers 65 xs r)
-limited [] h = h
-limited (x ∷ xs) h = tested (ltb 65 x) 2 (limited xs h)
+limited xs h = tested (above 65 xs) 2 h
 
--- operations
-uni : (x : FoundUni) → Numbered (uniTaken takesUni x)
-uni (FoundUni.Op op) = tested (not (takesUni op)) 1 read
-uni FoundUni.Nothing = told
-
-bin : (x : FoundBin) → Numbered (binTaken takesBin x)
-bin (FoundBin.Op op) = tested (not (takesBin op)) 1 read
-bin FoundBin.Nothing = told
-
-arithmetic : (x : FoundArith) → Numbered (arithTaken takesArith x)
-arithmetic (FoundArith.Op op) = tested (not (takesArith op)) 1 read
-arithmetic FoundArith.Nothing = told
-
-fused : (x : FoundFused) → Numbered (fusedTaken takesFused x)
-fused (FoundFused.Op op) = tested (not (takesFused op)) 1 read
-fused FoundFused.Nothing = told
+operation : {A : Type 0} (takes : A → Bool) (ops : List A) (n : ℕ) → Numbered (taken takes ops n)
+operation takes [] n = told
+operation takes (op ∷ ops) zero = tested (not (takes op)) 1 read
+operation takes (op ∷ ops) (suc n) = operation takes ops n
 
 -- places
 place : (s : List ℕ) (i : ℕ) → Numbered (placeAt s i)
@@ -102,18 +85,18 @@ fields : (count kind : ℕ) (s : List ℕ) → Numbered (fieldsFrom count kind s
 unfolding fieldsFrom
 fields count kind s =
     let b = byteAt s in
-    chosen (eqb kind 1) (parted (uni (uniAt (b 4))) (λ op. limited (b 5 ∷ b 6 ∷ []) read))
-    (chosen (eqb kind 2) (parted (bin (binAt (b 4))) (λ op. limited (b 5 ∷ b 6 ∷ b 7 ∷ []) read))
+    chosen (eqb kind 1) (parted (operation (takesUni true) uniOps (b 4)) (λ op. limited (b 5 ∷ b 6 ∷ []) read))
+    (chosen (eqb kind 2) (parted (operation (takesBin true) binOps (b 4)) (λ op. limited (b 5 ∷ b 6 ∷ b 7 ∷ []) read))
     (chosen (eqb kind 3) (limited (b 4 ∷ b 5 ∷ []) read)
     (chosen (eqb kind 4) (limited (b 4 ∷ []) (parted (place s 5) (λ loc. read)))
     (chosen (eqb kind 5) (limited (b 4 ∷ []) (parted (save s 5) (λ loc. read)))
     (chosen (eqb kind 6) (limited (b 4 ∷ []) (tested (leb count (wordAt s 5)) 4 read))
-    (chosen (eqb kind 7) (parted (fused (fusedAt (b 4))) (λ op. limited (b 5 ∷ b 6 ∷ b 7 ∷ b 8 ∷ []) read))
+    (chosen (eqb kind 7) (parted (operation (takesFused true) fusedOps (b 4)) (λ op. limited (b 5 ∷ b 6 ∷ b 7 ∷ b 8 ∷ []) read))
     (chosen (eqb kind 8) (limited (b 4 ∷ b 5 ∷ b 6 ∷ []) (parted (condition s 7) (λ loc. read)))
     (chosen (eqb kind 11) (limited (b 4 ∷ b 5 ∷ []) (parted (place s 6) (λ loc. read)))
     (chosen (eqb kind 12) (limited (b 4 ∷ b 5 ∷ []) (parted (save s 6) (λ loc. read)))
     (chosen (eqb kind 13)
-    (parted (arithmetic (arithAt (b 4))) (λ op. limited (b 5 ∷ b 6 ∷ b 7 ∷ b 8 ∷ b 9 ∷ b 10 ∷ []) read))
+    (parted (operation takesArith arithOps (b 4)) (λ op. limited (b 5 ∷ b 6 ∷ b 7 ∷ b 8 ∷ b 9 ∷ b 10 ∷ []) read))
     (chosen (eqb kind 14) (tested (ltb 2 (b 4)) 1 read)
     (chosen (eqb kind 15) (tested (ltb 2 (b 4)) 1 read)
     (chosen (eqb kind 16) (tested (ltb 2 (b 4)) 1 read)

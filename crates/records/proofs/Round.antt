@@ -1,7 +1,7 @@
 -- What is written is read: the records of the bytes of records are these records.
 use Prim.Native.Nat.{ℕ, _+_, _≤_}
 use mathlib.Core.Path.{_≡_, refl, sym, ap, _∙_}
-use mathlib.Core.Bool.{true}
+use mathlib.Core.Bool.{Bool, true, not}
 use mathlib.Core.List.{List, [], _∷_, _++_, append-assoc, append-nil}
 use lib.ListN.{length}
 use lib.Seq.{drop-at}
@@ -12,7 +12,8 @@ use Rattle.mir.specs.declared.records.Record.{Record}
 use Rattle.mir.specs.Place.{index}
 use Rattle.mir.specs.Length.{lengthOf}
 use Rattle.mir.specs.Operation.{uniNumber, binNumber, arithNumber, fusedNumber}
-use Rattle.mir.specs.Read.{got, andThen}
+use Rattle.mir.specs.Takes.{takesUni, takesBin, takesArith, takesFused}
+use Rattle.mir.specs.Read.{Read, got, refuse, andThen}
 use Rattle.mir.specs.Field.{wordAt, among, takesKind, headFrom, savedTo, onStack}
 use Rattle.mir.specs.Decode.{Decoded, ahead, decoded}
 use Rattle.mir.specs.Encode.{twoBytes, placeBytes, recordOf, encode, encodeAll}
@@ -20,7 +21,6 @@ use Rattle.mir.proofs.Numbering.{uni-at, bin-at, arith-at, fused-at}
 use Rattle.mir.proofs.Written.{two, length-back, length-of, head-back, place-back, save-back, cond-back}
 use Rattle.mir.proofs.Decoding.{none, and, decoded-got, decoded-none}
 use Rattle.records.specs.Record.{fieldsFrom, recordFrom}
-use Rattle.records.proofs.Taken.{takes-arith}
 use Rattle.records.proofs.Reading.{whole}
 use Rattle.records.proofs.Holding.{Saved, Stacked, Holds, AllHold}
 
@@ -82,13 +82,17 @@ stacked-index (Loc.Stack i) h = h
 stacked-index (Loc.Mem i) h = absurd h
 stacked-index (Loc.Param i) h = absurd h
 
+-- an operation that is taken is read at its number
+named : {A : Type 0} (takes : A → Bool) (op : A) {x : Read A} → x ≡ refuse (not (takes op)) 2 (got op) → takes op ≡ true → x ≡ got op
+named takes op e h = e ∙ ap (λ t. refuse (not t) 2 (got op)) h
+
 module _ (count : ℕ) where
   -- the fields are read from a record's bytes
   fields-back : (r : Record) (rest : List ℕ) → Holds count r → fieldsFrom count (formed r .kind) (encode r ++ rest) ≡ got r
   unfolding formed form fieldsFrom recordOf wordAt
-  fields-back (Record.Work (Work.Uni op dst s1)) rest h = simp (uni-at op, h .0, le-ltb 65 dst (h .1), le-ltb 65 s1 (h .2))
+  fields-back (Record.Work (Work.Uni op dst s1)) rest h = simp (named (takesUni true) op (uni-at (takesUni true) op) (h .0), le-ltb 65 dst (h .1), le-ltb 65 s1 (h .2))
   fields-back (Record.Work (Work.Bi op dst s1 s2)) rest h =
-      simp (bin-at op, h .0, le-ltb 65 dst (h .1), le-ltb 65 s1 (h .2), le-ltb 65 s2 (h .3))
+      simp (named (takesBin true) op (bin-at (takesBin true) op) (h .0), le-ltb 65 dst (h .1), le-ltb 65 s1 (h .2), le-ltb 65 s2 (h .3))
   fields-back (Record.Work (Work.Mov dst s1)) rest h = simp (le-ltb 65 dst (h .0), le-ltb 65 s1 (h .1))
   fields-back (Record.Work (Work.Load dst loc)) rest h =
       let s = encode (Record.Work (Work.Load dst loc)) ++ rest in
@@ -99,7 +103,7 @@ module _ (count : ℕ) where
       simp (le-ltb 65 src (h .0), save-back s 5 loc p (saved loc (h .1)))
   fields-back (Record.Work (Work.LoadConst dst idx)) rest h = simp (le-ltb 65 dst (h .0), two idx, lt-leb count idx (h .1))
   fields-back (Record.Work (Work.Fused op dst a b c)) rest h =
-      simp (fused-at op, h .0, le-ltb 65 dst (h .1), le-ltb 65 a (h .2), le-ltb 65 b (h .3), le-ltb 65 c (h .4))
+      simp (named (takesFused true) op (fused-at (takesFused true) op) (h .0), le-ltb 65 dst (h .1), le-ltb 65 a (h .2), le-ltb 65 b (h .3), le-ltb 65 c (h .4))
   fields-back (Record.Work (Work.IfElse dst t f loc)) rest h =
       let s = encode (Record.Work (Work.IfElse dst t f loc)) ++ rest in
       let p = place-back s 7 loc refl (two (index loc)) (stacked-index loc (h .3)) in
@@ -112,7 +116,7 @@ module _ (count : ℕ) where
       let p = place-back s 6 loc refl (two (index loc)) (saved-index loc (h .2)) in
       simp (le-ltb 65 xs (h .0), le-ltb 65 ys (h .1), save-back s 6 loc p (saved loc (h .2)))
   fields-back (Record.Work (Work.ComplexBi op xd yd x1 y1 x2 y2)) rest h =
-      simp (arith-at op, takes-arith op, le-ltb 65 xd (h .0), le-ltb 65 yd (h .1), le-ltb 65 x1 (h .2), le-ltb 65 y1 (h .3), le-ltb 65 x2 (h .4), le-ltb 65 y2 (h .5))
+      simp (arith-at takesArith op, le-ltb 65 xd (h .0), le-ltb 65 yd (h .1), le-ltb 65 x1 (h .2), le-ltb 65 y1 (h .3), le-ltb 65 x2 (h .4), le-ltb 65 y2 (h .5))
   fields-back (Record.Label l) rest h = simp (le-ltb 2 l h)
   fields-back (Record.Branch l) rest h = simp (le-ltb 2 l h)
   fields-back (Record.Call l) rest h = simp (le-ltb 2 l h)

@@ -2,83 +2,83 @@
 -- of the table lent with the listing. Registers are tested before the place, and the place before the constant.
 use Prim.Native.Nat.{ℕ}
 use mathlib.Core.Bool.{cond, true}
-use mathlib.Core.List.{List, [], _∷_}
+use mathlib.Core.List.{List}
 use lib.Dec.{ltb, eqb}
 use Rattle.mir.specs.declared.records.Work.{Work}
 use Rattle.mir.specs.declared.records.Record.{Record}
-use Rattle.mir.specs.Operation.{uniAt, binAt, arithAt, fusedAt, uniTaken, binTaken, arithTaken, fusedTaken}
+use Rattle.mir.specs.Operation.{uniOps, binOps, arithOps, fusedOps, taken}
+use Rattle.mir.specs.Takes.{takesUni, takesBin, takesArith, takesFused}
 use Rattle.mir.specs.Read.{Read, got, refused, refuse, andThen, registers, constant}
-use Rattle.mir.specs.Field.{byteAt, wordAt, takesKind, headFrom, placeAt, savePlace, condPlace}
+use Rattle.mir.specs.Field.{byteAt, bytesAt, wordAt, takesKind, headFrom, placeAt, savePlace, condPlace}
 use Rattle.mir.specs.Decode.{Item, readAt, Decoded, decoded}
-use Rattle.records.specs.Takes.{takesUni, takesBin, takesArith, takesFused}
 use Rattle.records.specs.declared.reader.ReadRecord.{ReadRecord}
 use Rattle.records.specs.declared.reader.NextRecord.{NextRecord}
 
 -- 1 Uni: op, dst, s1
 unfoldable pub uniFrom : List ℕ → Read Record
 uniFrom s =
-    andThen (uniTaken takesUni (uniAt (byteAt s 4)))
-    (λ op. registers 65 (byteAt s 5 ∷ byteAt s 6 ∷ []) (got (Record.Work (Work.Uni op (byteAt s 5) (byteAt s 6)))))
+    andThen (taken (takesUni true) uniOps (byteAt s 4))
+    (λ op. registers 65 (bytesAt s 5 2) (got (Record.Work (Work.Uni op (byteAt s 5) (byteAt s 6)))))
 
 -- 2 Bi: op, dst, s1, s2
 unfoldable pub biFrom : List ℕ → Read Record
 biFrom s =
-    andThen (binTaken takesBin (binAt (byteAt s 4)))
+    andThen (taken (takesBin true) binOps (byteAt s 4))
     (λ op.
-    registers 65 (byteAt s 5 ∷ byteAt s 6 ∷ byteAt s 7 ∷ [])
+    registers 65 (bytesAt s 5 3)
     (got (Record.Work (Work.Bi op (byteAt s 5) (byteAt s 6) (byteAt s 7)))))
 
 -- 3 Mov: dst, s1
 unfoldable pub movFrom : List ℕ → Read Record
-movFrom s = registers 65 (byteAt s 4 ∷ byteAt s 5 ∷ []) (got (Record.Work (Work.Mov (byteAt s 4) (byteAt s 5))))
+movFrom s = registers 65 (bytesAt s 4 2) (got (Record.Work (Work.Mov (byteAt s 4) (byteAt s 5))))
 
 -- 4 Load: register, place
 unfoldable pub loadFrom : List ℕ → Read Record
-loadFrom s = registers 65 (byteAt s 4 ∷ []) (andThen (placeAt s 5) (λ loc. got (Record.Work (Work.Load (byteAt s 4) loc))))
+loadFrom s = registers 65 (bytesAt s 4 1) (andThen (placeAt s 5) (λ loc. got (Record.Work (Work.Load (byteAt s 4) loc))))
 
 -- 5 Save: register, place
 unfoldable pub saveFrom : List ℕ → Read Record
 saveFrom s =
-    registers 65 (byteAt s 4 ∷ []) (andThen (savePlace s 5) (λ loc. got (Record.Work (Work.Save (byteAt s 4) loc))))
+    registers 65 (bytesAt s 4 1) (andThen (savePlace s 5) (λ loc. got (Record.Work (Work.Save (byteAt s 4) loc))))
 
 -- 6 LoadConst: dst, constant
 unfoldable pub loadConstFrom : ℕ → List ℕ → Read Record
 loadConstFrom count s =
-    registers 65 (byteAt s 4 ∷ [])
+    registers 65 (bytesAt s 4 1)
     (constant count (wordAt s 5) (got (Record.Work (Work.LoadConst (byteAt s 4) (wordAt s 5)))))
 
 -- 7 Fused: op, dst, a, b, c
 unfoldable pub fusedFrom : List ℕ → Read Record
 fusedFrom s =
-    andThen (fusedTaken takesFused (fusedAt (byteAt s 4)))
+    andThen (taken (takesFused true) fusedOps (byteAt s 4))
     (λ op.
-    registers 65 (byteAt s 5 ∷ byteAt s 6 ∷ byteAt s 7 ∷ byteAt s 8 ∷ [])
+    registers 65 (bytesAt s 5 4)
     (got (Record.Work (Work.Fused op (byteAt s 5) (byteAt s 6) (byteAt s 7) (byteAt s 8)))))
 
 -- 8 IfElse: dst, true, false, place
 unfoldable pub ifElseFrom : List ℕ → Read Record
 ifElseFrom s =
-    registers 65 (byteAt s 4 ∷ byteAt s 5 ∷ byteAt s 6 ∷ [])
+    registers 65 (bytesAt s 4 3)
     (andThen (condPlace s 7) (λ loc. got (Record.Work (Work.IfElse (byteAt s 4) (byteAt s 5) (byteAt s 6) loc))))
 
 -- 11 LoadComplex: two registers, place
 unfoldable pub loadComplexFrom : List ℕ → Read Record
 loadComplexFrom s =
-    registers 65 (byteAt s 4 ∷ byteAt s 5 ∷ [])
+    registers 65 (bytesAt s 4 2)
     (andThen (placeAt s 6) (λ loc. got (Record.Work (Work.LoadComplex (byteAt s 4) (byteAt s 5) loc))))
 
 -- 12 SaveComplex: two registers, place
 unfoldable pub saveComplexFrom : List ℕ → Read Record
 saveComplexFrom s =
-    registers 65 (byteAt s 4 ∷ byteAt s 5 ∷ [])
+    registers 65 (bytesAt s 4 2)
     (andThen (savePlace s 6) (λ loc. got (Record.Work (Work.SaveComplex (byteAt s 4) (byteAt s 5) loc))))
 
 -- 13 ComplexBi: op, xd, yd, x1, y1, x2, y2
 unfoldable pub complexBiFrom : List ℕ → Read Record
 complexBiFrom s =
-    andThen (arithTaken takesArith (arithAt (byteAt s 4)))
+    andThen (taken takesArith arithOps (byteAt s 4))
     (λ op.
-    registers 65 (byteAt s 5 ∷ byteAt s 6 ∷ byteAt s 7 ∷ byteAt s 8 ∷ byteAt s 9 ∷ byteAt s 10 ∷ [])
+    registers 65 (bytesAt s 5 6)
     (got (Record.Work (Work.ComplexBi op (byteAt s 5) (byteAt s 6) (byteAt s 7) (byteAt s 8) (byteAt s 9) (byteAt s 10)))))
 
 -- "Labels: 0 `.ret`, 1 `@complex_root`, 2 `@jump_over_complex_root`; another is refused by 2."

@@ -1,25 +1,24 @@
 // A listing's record, read at a position.
 ghost use mathlib.Core.Path.{_≡_};
-ghost use Rattle.mir.specs.Operation.{uniAt, binAt, fusedAt, asUni, asBin, asFused, uniTaken, binTaken, fusedTaken};
-ghost use Rattle.records.specs.Takes.{takesUni, takesBin, takesFused};
 ghost use Rattle.records.specs.Record.{uniFrom, biFrom, movFrom, loadFrom, saveFrom, loadConstFrom, fusedFrom, ifElseFrom, loadComplexFrom, saveComplexFrom, complexBiFrom, labelFrom, branchFrom, callFrom, fieldsFrom, recordFrom, recordAt, asRead, asNext};
 ghost use Rattle.records.specs.Sight.{sightOf};
 use mir::fields::Head;
 use mir::fields::Place;
+use mir::fields::above;
 use mir::fields::byte;
 use mir::fields::read_cond_place;
 use mir::fields::read_head;
 use mir::fields::read_place;
 use mir::fields::read_save_place;
 use mir::fields::word;
-use mir::ops::BinOp;
 use mir::ops::FoundArith;
 use mir::ops::FoundBin;
 use mir::ops::FoundFused;
 use mir::ops::FoundUni;
-use mir::ops::FusedOp;
-use mir::ops::UniOp;
 use mir::ops::arith_op;
+use mir::ops::bin_op;
+use mir::ops::fused_op;
+use mir::ops::uni_op;
 use mir::records::Record;
 use mir::records::Work;
 
@@ -49,92 +48,18 @@ pub struct Sight {
     pub label: u8,
 }
 
-// The UniOp of a number, where a listing takes it.
-pub fn listing_uni(n: u8) -> FoundUni
-    ensures { λ r. ⌜ asUni r ≡ uniTaken takesUni (uniAt n) ⌝ }
-{
-    let ops = [
-        FoundUni::Op(UniOp::Neg),
-        FoundUni::Op(UniOp::Not),
-        FoundUni::Op(UniOp::Abs),
-        FoundUni::Op(UniOp::Root),
-        FoundUni::Nothing,
-        FoundUni::Op(UniOp::Recip),
-        FoundUni::Op(UniOp::Round),
-        FoundUni::Nothing,
-        FoundUni::Nothing,
-        FoundUni::Nothing,
-        FoundUni::Nothing,
-        FoundUni::Nothing,
-        FoundUni::Nothing,
-        FoundUni::Op(UniOp::Half),
-        FoundUni::Nothing,
-        FoundUni::Nothing,
-        FoundUni::Op(UniOp::Sign),
-        FoundUni::Nothing,
-        FoundUni::Nothing,
-        FoundUni::Nothing,
-    ];
-    let i = n as usize;
-    if i < 20 { ops[i] } else { FoundUni::Nothing }
-}
-
-// The BinOp of a number, where a listing takes it.
-pub fn listing_bin(n: u8) -> FoundBin
-    ensures { λ r. ⌜ asBin r ≡ binTaken takesBin (binAt n) ⌝ }
-{
-    let ops = [
-        FoundBin::Op(BinOp::Plus),
-        FoundBin::Op(BinOp::Minus),
-        FoundBin::Op(BinOp::Times),
-        FoundBin::Op(BinOp::Divide),
-        FoundBin::Op(BinOp::GreaterThan),
-        FoundBin::Nothing,
-        FoundBin::Op(BinOp::LittleThan),
-        FoundBin::Nothing,
-        FoundBin::Op(BinOp::Equal),
-        FoundBin::Op(BinOp::NotEqual),
-        FoundBin::Op(BinOp::And),
-        FoundBin::Nothing,
-        FoundBin::Op(BinOp::Or),
-        FoundBin::Op(BinOp::Xor),
-        FoundBin::Nothing,
-    ];
-    let i = n as usize;
-    if i < 15 { ops[i] } else { FoundBin::Nothing }
-}
-
-// The FusedOp of a number, where a listing takes it.
-pub fn listing_fused(n: u8) -> FoundFused
-    ensures { λ r. ⌜ asFused r ≡ fusedTaken takesFused (fusedAt n) ⌝ }
-{
-    let ops = [
-        FoundFused::Op(FusedOp::MulAdd),
-        FoundFused::Nothing,
-        FoundFused::Nothing,
-        FoundFused::Nothing,
-    ];
-    let i = n as usize;
-    if i < 4 { ops[i] } else { FoundFused::Nothing }
-}
-
 fn read_uni(s: &[u8]) -> ReadRecord
     ensures { λ r. ⌜ asRead r ≡ uniFrom (now (s .entry)) ⌝ }
 {
-    match listing_uni(byte(s, 4)) {
+    match uni_op(byte(s, 4), true) {
         FoundUni::Op(op) => {
-            let dst = byte(s, 5);
-            if LAST < dst {
-                return ReadRecord::Refused(3);
-            }
-            let s1 = byte(s, 6);
-            if LAST < s1 {
+            if above(s, 5, 2, LAST) {
                 return ReadRecord::Refused(3);
             }
             ReadRecord::Got(Record::Work(Work::Uni {
                 op: op,
-                dst: dst,
-                s1: s1,
+                dst: byte(s, 5),
+                s1: byte(s, 6),
             }))
         }
         FoundUni::Nothing => ReadRecord::Refused(2),
@@ -144,25 +69,16 @@ fn read_uni(s: &[u8]) -> ReadRecord
 fn read_bi(s: &[u8]) -> ReadRecord
     ensures { λ r. ⌜ asRead r ≡ biFrom (now (s .entry)) ⌝ }
 {
-    match listing_bin(byte(s, 4)) {
+    match bin_op(byte(s, 4), true) {
         FoundBin::Op(op) => {
-            let dst = byte(s, 5);
-            if LAST < dst {
-                return ReadRecord::Refused(3);
-            }
-            let s1 = byte(s, 6);
-            if LAST < s1 {
-                return ReadRecord::Refused(3);
-            }
-            let s2 = byte(s, 7);
-            if LAST < s2 {
+            if above(s, 5, 3, LAST) {
                 return ReadRecord::Refused(3);
             }
             ReadRecord::Got(Record::Work(Work::Bi {
                 op: op,
-                dst: dst,
-                s1: s1,
-                s2: s2,
+                dst: byte(s, 5),
+                s1: byte(s, 6),
+                s2: byte(s, 7),
             }))
         }
         FoundBin::Nothing => ReadRecord::Refused(2),
@@ -172,26 +88,26 @@ fn read_bi(s: &[u8]) -> ReadRecord
 fn read_mov(s: &[u8]) -> ReadRecord
     ensures { λ r. ⌜ asRead r ≡ movFrom (now (s .entry)) ⌝ }
 {
-    let dst = byte(s, 4);
-    if LAST < dst {
+    if above(s, 4, 2, LAST) {
         return ReadRecord::Refused(3);
     }
-    let s1 = byte(s, 5);
-    if LAST < s1 {
-        return ReadRecord::Refused(3);
-    }
-    ReadRecord::Got(Record::Work(Work::Mov { dst: dst, s1: s1 }))
+    ReadRecord::Got(Record::Work(Work::Mov {
+        dst: byte(s, 4),
+        s1: byte(s, 5),
+    }))
 }
 
 fn read_load(s: &[u8]) -> ReadRecord
     ensures { λ r. ⌜ asRead r ≡ loadFrom (now (s .entry)) ⌝ }
 {
-    let dst = byte(s, 4);
-    if LAST < dst {
+    if above(s, 4, 1, LAST) {
         return ReadRecord::Refused(3);
     }
     match read_place(s, 5) {
-        Place::At(loc) => ReadRecord::Got(Record::Work(Work::Load { dst: dst, loc: loc })),
+        Place::At(loc) => ReadRecord::Got(Record::Work(Work::Load {
+            dst: byte(s, 4),
+            loc: loc,
+        })),
         Place::Bad => ReadRecord::Refused(4),
     }
 }
@@ -199,12 +115,14 @@ fn read_load(s: &[u8]) -> ReadRecord
 fn read_save(s: &[u8]) -> ReadRecord
     ensures { λ r. ⌜ asRead r ≡ saveFrom (now (s .entry)) ⌝ }
 {
-    let src = byte(s, 4);
-    if LAST < src {
+    if above(s, 4, 1, LAST) {
         return ReadRecord::Refused(3);
     }
     match read_save_place(s, 5) {
-        Place::At(loc) => ReadRecord::Got(Record::Work(Work::Save { src: src, loc: loc })),
+        Place::At(loc) => ReadRecord::Got(Record::Work(Work::Save {
+            src: byte(s, 4),
+            loc: loc,
+        })),
         Place::Bad => ReadRecord::Refused(4),
     }
 }
@@ -212,44 +130,33 @@ fn read_save(s: &[u8]) -> ReadRecord
 fn read_load_const(s: &[u8], count: usize) -> ReadRecord
     ensures { λ r. ⌜ asRead r ≡ loadConstFrom count (now (s .entry)) ⌝ }
 {
-    let dst = byte(s, 4);
-    if LAST < dst {
+    if above(s, 4, 1, LAST) {
         return ReadRecord::Refused(3);
     }
     let idx = word(s, 5);
     if count <= idx as usize {
         return ReadRecord::Refused(5);
     }
-    ReadRecord::Got(Record::Work(Work::LoadConst { dst: dst, idx: idx }))
+    ReadRecord::Got(Record::Work(Work::LoadConst {
+        dst: byte(s, 4),
+        idx: idx,
+    }))
 }
 
 fn read_fused(s: &[u8]) -> ReadRecord
     ensures { λ r. ⌜ asRead r ≡ fusedFrom (now (s .entry)) ⌝ }
 {
-    match listing_fused(byte(s, 4)) {
+    match fused_op(byte(s, 4), true) {
         FoundFused::Op(op) => {
-            let dst = byte(s, 5);
-            if LAST < dst {
-                return ReadRecord::Refused(3);
-            }
-            let a = byte(s, 6);
-            if LAST < a {
-                return ReadRecord::Refused(3);
-            }
-            let b = byte(s, 7);
-            if LAST < b {
-                return ReadRecord::Refused(3);
-            }
-            let c = byte(s, 8);
-            if LAST < c {
+            if above(s, 5, 4, LAST) {
                 return ReadRecord::Refused(3);
             }
             ReadRecord::Got(Record::Work(Work::Fused {
                 op: op,
-                dst: dst,
-                a: a,
-                b: b,
-                c: c,
+                dst: byte(s, 5),
+                a: byte(s, 6),
+                b: byte(s, 7),
+                c: byte(s, 8),
             }))
         }
         FoundFused::Nothing => ReadRecord::Refused(2),
@@ -259,23 +166,14 @@ fn read_fused(s: &[u8]) -> ReadRecord
 fn read_if_else(s: &[u8]) -> ReadRecord
     ensures { λ r. ⌜ asRead r ≡ ifElseFrom (now (s .entry)) ⌝ }
 {
-    let dst = byte(s, 4);
-    if LAST < dst {
-        return ReadRecord::Refused(3);
-    }
-    let t = byte(s, 5);
-    if LAST < t {
-        return ReadRecord::Refused(3);
-    }
-    let f = byte(s, 6);
-    if LAST < f {
+    if above(s, 4, 3, LAST) {
         return ReadRecord::Refused(3);
     }
     match read_cond_place(s, 7) {
         Place::At(loc) => ReadRecord::Got(Record::Work(Work::IfElse {
-            dst: dst,
-            true_val: t,
-            false_val: f,
+            dst: byte(s, 4),
+            true_val: byte(s, 5),
+            false_val: byte(s, 6),
             cond: loc,
         })),
         Place::Bad => ReadRecord::Refused(4),
@@ -285,18 +183,13 @@ fn read_if_else(s: &[u8]) -> ReadRecord
 fn read_load_complex(s: &[u8]) -> ReadRecord
     ensures { λ r. ⌜ asRead r ≡ loadComplexFrom (now (s .entry)) ⌝ }
 {
-    let xd = byte(s, 4);
-    if LAST < xd {
-        return ReadRecord::Refused(3);
-    }
-    let yd = byte(s, 5);
-    if LAST < yd {
+    if above(s, 4, 2, LAST) {
         return ReadRecord::Refused(3);
     }
     match read_place(s, 6) {
         Place::At(loc) => ReadRecord::Got(Record::Work(Work::LoadComplex {
-            xd: xd,
-            yd: yd,
+            xd: byte(s, 4),
+            yd: byte(s, 5),
             loc: loc,
         })),
         Place::Bad => ReadRecord::Refused(4),
@@ -306,18 +199,13 @@ fn read_load_complex(s: &[u8]) -> ReadRecord
 fn read_save_complex(s: &[u8]) -> ReadRecord
     ensures { λ r. ⌜ asRead r ≡ saveComplexFrom (now (s .entry)) ⌝ }
 {
-    let xs = byte(s, 4);
-    if LAST < xs {
-        return ReadRecord::Refused(3);
-    }
-    let ys = byte(s, 5);
-    if LAST < ys {
+    if above(s, 4, 2, LAST) {
         return ReadRecord::Refused(3);
     }
     match read_save_place(s, 6) {
         Place::At(loc) => ReadRecord::Got(Record::Work(Work::SaveComplex {
-            xs: xs,
-            ys: ys,
+            xs: byte(s, 4),
+            ys: byte(s, 5),
             loc: loc,
         })),
         Place::Bad => ReadRecord::Refused(4),
@@ -329,38 +217,17 @@ fn read_complex_bi(s: &[u8]) -> ReadRecord
 {
     match arith_op(byte(s, 4)) {
         FoundArith::Op(op) => {
-            let xd = byte(s, 5);
-            if LAST < xd {
-                return ReadRecord::Refused(3);
-            }
-            let yd = byte(s, 6);
-            if LAST < yd {
-                return ReadRecord::Refused(3);
-            }
-            let x1 = byte(s, 7);
-            if LAST < x1 {
-                return ReadRecord::Refused(3);
-            }
-            let y1 = byte(s, 8);
-            if LAST < y1 {
-                return ReadRecord::Refused(3);
-            }
-            let x2 = byte(s, 9);
-            if LAST < x2 {
-                return ReadRecord::Refused(3);
-            }
-            let y2 = byte(s, 10);
-            if LAST < y2 {
+            if above(s, 5, 6, LAST) {
                 return ReadRecord::Refused(3);
             }
             ReadRecord::Got(Record::Work(Work::ComplexBi {
                 op: op,
-                xd: xd,
-                yd: yd,
-                x1: x1,
-                y1: y1,
-                x2: x2,
-                y2: y2,
+                xd: byte(s, 5),
+                yd: byte(s, 6),
+                x1: byte(s, 7),
+                y1: byte(s, 8),
+                x2: byte(s, 9),
+                y2: byte(s, 10),
             }))
         }
         FoundArith::Nothing => ReadRecord::Refused(2),

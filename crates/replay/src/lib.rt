@@ -1,3 +1,5 @@
-// What programs that replay a list of cases share: numbers in bytes, and the counts.
+// What programs that replay a list of cases share: numbers in bytes, slices compared, the counts and their report.
 pub mod numbers;
+pub mod report;
+pub mod same;
 pub mod tally;

@@ -11,9 +11,9 @@ use lib.ListN.{length, take, drop, replicate, getD, set, length-append, length-t
 use lib.Seq.{drop-cons, drop-drop, drop-set-lt, take-suc-set}
 use lib.Dec.{eqb}
 use Rattle.lowering.specs.Complexifier.{position, stableConst}
-use Rattle.rerun.specs.declared.turn.Added.{Added}
+use Rattle.rerun.specs.declared.output.Added.{Added}
 use Rattle.rerun.specs.declared.constants.Found.{Found}
-use Rattle.rerun.specs.Added.{none, table, Sought, Thrice}
+use Rattle.rerun.specs.Added.{none, table, Sought, ThreeSought}
 
 -- what is left of a search from i on
 module _ (v : ℕ) (l : List ℕ) (i : ℕ) where
@@ -120,9 +120,9 @@ module _ {k : List ℕ} {a : Added} {v : ℕ} where
       }
 
 -- three constants, one after the other
-pub thrice : {k : List ℕ} {a : Added} {u v w : ℕ} {f g h : Found} → a ≡ none → Sought k a u f → Sought k (f .added) v g
-    → Sought k (g .added) w h → Thrice k u v w (record { i = f .at; j = g .at; q = h .at; added = h .added })
-thrice {k} {a} {u} {v} {w} {f} {g} {h} e p q r =
+pub three-sought : {k : List ℕ} {a : Added} {u v w : ℕ} {f g h : Found} → a ≡ none → Sought k a u f → Sought k (f .added) v g
+    → Sought k (g .added) w h → ThreeSought k u v w (record { i = f .at; j = g .at; q = h .at; added = h .added })
+three-sought {k} {a} {u} {v} {w} {f} {g} {h} e p q r =
     let x : table k a ≡ k = ap (table k) e ∙ append-nil k in
     let y : table k (f .added) ≡ stableConst u k = p .kept ∙ ap (stableConst u) x in
     let z : table k (g .added) ≡ stableConst v (stableConst u k) = q .kept ∙ ap (stableConst v) y in

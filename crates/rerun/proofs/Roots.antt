@@ -10,17 +10,17 @@ use Rattle.lowering.specs.Complexifier.{State, Out, defineRoot, aroundBlock, po
 use Rattle.lines.specs.Lists.{Lists, pushAll}
 use Rattle.complexifier.specs.declared.state.Complexifier.{Complexifier}
 use Rattle.complexifier.specs.Does.{state}
-use Rattle.rerun.specs.declared.turn.Added.{Added}
+use Rattle.rerun.specs.declared.output.Added.{Added}
 use Rattle.rerun.specs.declared.constants.Three.{Three}
-use Rattle.rerun.specs.declared.turn.Turn.{Turn}
-use Rattle.rerun.specs.Added.{none, table, Thrice}
+use Rattle.rerun.specs.declared.output.Output.{Output}
+use Rattle.rerun.specs.Added.{none, table, ThreeSought}
 use Rattle.rerun.specs.Ends.{Ends}
 
 abbrev pub define : Bool → State → Out
 define m s = defineRoot (s .rootDefined) m s
 
 -- by whether the block is listed
-byDefined : {b : Buf} {s : Complexifier} {k o : List ℕ} {r : Turn} (m x : Bool) → s .«root_defined» ≡ x → Ends b s k (defineRoot x m) o r
+byDefined : {b : Buf} {s : Complexifier} {k o : List ℕ} {r : Output} (m x : Bool) → s .«root_defined» ≡ x → Ends b s k (defineRoot x m) o r
     → Ends b s k (define m) o r
 byDefined {b} {s} {k} m x e p =
     record {
@@ -52,7 +52,7 @@ module _ {b : Buf} {s : Complexifier} {k o : List ℕ} {n : ℕ} (e : s .«root_
       byDefined false false e
       (record { listed = p .same; kept = ap (λ a. state (defined s) (table k a)) h ∙ ap (state (defined s)) (append-nil k); few = empty a h; zeros = rw h refl })
 
-  pub root-stable : {t : Three} → Thrice k FLOOR_FINITE EXP_MASK_FINITE INFINITY t
+  pub root-stable : {t : Three} → ThreeSought k FLOOR_FINITE EXP_MASK_FINITE INFINITY t
       → Lists b (aroundBlock (rootBlock (stableRootMagnitude (t .i) (t .j) (t .q)))) (buf o n)
       → Ends b s k (define true) o (record { low = defined s; at = n; added = t .added })
   unfolding defineRoot

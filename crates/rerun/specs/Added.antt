@@ -4,7 +4,7 @@ use mathlib.Core.Path.{_≡_}
 use mathlib.Core.List.{List, [], _∷_, _++_}
 use lib.ListN.{take, drop, replicate}
 use Rattle.lowering.specs.Complexifier.{position, stableConst, threeConsts}
-use Rattle.rerun.specs.declared.turn.Added.{Added}
+use Rattle.rerun.specs.declared.output.Added.{Added}
 use Rattle.rerun.specs.declared.constants.Found.{Found}
 use Rattle.rerun.specs.declared.constants.Three.{Three}
 
@@ -28,7 +28,7 @@ pub record Sought (k : List ℕ) (a : Added) (v : ℕ) (f : Found) : Type 0 wher
   pub zeros : Zeros a → Zeros (f .added)
 
 -- three constants sought one after the other
-pub record Thrice (k : List ℕ) (u v w : ℕ) (t : Three) : Type 0 where
+pub record ThreeSought (k : List ℕ) (u v w : ℕ) (t : Three) : Type 0 where
   pub first : t .i ≡ position u (stableConst u k)
   pub second : t .j ≡ position v (stableConst v (stableConst u k))
   pub third : t .q ≡ position w (threeConsts u v w k)

@@ -1,7 +1,7 @@
--- What a method that may name constants does, beside `Does`: k are the constants of the finished instructions, and a turn holds those that
+-- What a method that may name constants does, beside `Does`: k are the constants of the finished instructions, and an output holds those that
 -- the instruction under way added.
 use Prim.Native.Nat.{ℕ, _≤_, _<_}
-use mathlib.Core.Path.{_≡_, refl, sym, ap, _∙_}
+use mathlib.Core.Path.{_≡_, refl, sym, ap, _∙_, subst}
 use mathlib.Core.Bool.{Bool, true, false, cond}
 use mathlib.Core.List.{List, [], map, append-nil}
 use native.Mathlib.Omega.{arith}
@@ -15,24 +15,24 @@ use Rattle.lowering.specs.Realness.{isRealReg, setReg}
 use Rattle.lowering.specs.Complexifier.{State, Out, then, unlisted, position, stableConst, withThree}
 use Rattle.lines.specs.Lists.{Lists, pushAll, pushAll-append}
 use Rattle.complexifier.specs.declared.state.Complexifier.{Complexifier}
-use Rattle.complexifier.specs.declared.state.Step.{Step}
+use Rattle.complexifier.specs.declared.state.Listed.{Listed}
 use Rattle.complexifier.specs.Does.{Does, state, recorded}
 use Rattle.rerun.specs.declared.constants.Three.{Three}
-use Rattle.rerun.specs.declared.turn.Turn.{Turn}
-use Rattle.rerun.specs.Added.{none, table, Zeros, Thrice}
+use Rattle.rerun.specs.declared.output.Output.{Output}
+use Rattle.rerun.specs.Added.{none, table, Zeros, ThreeSought}
 
-pub record Ends (b : Buf) (s : Complexifier) (k : List ℕ) (f : State → Out) (o : List ℕ) (r : Turn) : Type 0 where
+pub record Ends (b : Buf) (s : Complexifier) (k : List ℕ) (f : State → Out) (o : List ℕ) (r : Output) : Type 0 where
   pub listed : buf o (r .at) ≡ pushAll b (f (state s k) .records)
   pub kept : state (r .low) (table k (r .added)) ≡ f (state s k) .after
   pub few : r .added .count ≤ 3
   pub zeros : Zeros (r .added)
 
--- a step adds no constants
-abbrev pub asTurn : Step → Turn
-asTurn p = record { low = p .low; at = p .at; added = none }
+-- a method that names no constants adds none
+abbrev pub asOutput : Listed → Output
+asOutput p = record { low = p .low; at = p .at; added = none }
 
-pub plainly : {b : Buf} {s : Complexifier} {k : List ℕ} {f : State → Out} {o : List ℕ} {p : Step} {r : Turn}
-    → Does b s f (buf o (p .at)) (p .low) → r ≡ asTurn p → Ends b s k f o r
+pub plainly : {b : Buf} {s : Complexifier} {k : List ℕ} {f : State → Out} {o : List ℕ} {p : Listed} {r : Output}
+    → Does b s f (buf o (p .at)) (p .low) → r ≡ asOutput p → Ends b s k f o r
 plainly {b} {s} {k} {f} {o} {p} {r} d e =
     record {
       listed = ap (λ r. buf o (r .at)) e ∙ d .listed k;
@@ -43,7 +43,7 @@ plainly {b} {s} {k} {f} {o} {p} {r} d e =
 
 -- a method that adds nothing, and then one that may
 infixl 30 _▸▸_
-pub _▸▸_ : {b c : Buf} {s t : Complexifier} {k : List ℕ} {f g : State → Out} {o : List ℕ} {r : Turn}
+pub _▸▸_ : {b c : Buf} {s t : Complexifier} {k : List ℕ} {f g : State → Out} {o : List ℕ} {r : Output}
     → Does b s f c t → Ends c t k g o r → Ends b s k (λ s. then (f s) g) o r
 unfolding then
 _▸▸_ {b} {c} {s} {t} {k} {f} {g} {o} {r} p q =
@@ -67,7 +67,11 @@ pub stay : {b : Buf} {s : Complexifier} → Does b s unlisted b s
 unfolding unlisted
 stay = record { listed = λ k. refl; kept = λ k. refl }
 
-module _ {b : Buf} {s : Complexifier} {k o : List ℕ} {r : Turn} where
+module _ {b : Buf} {s : Complexifier} {k o : List ℕ} {r : Output} where
+  -- by whether the mode is stable
+  pub byMode : (g : Bool → State → Out) {x y : Bool} → x ≡ y → Ends b s k (g x) o r → Ends b s k (g y) o r
+  byMode g e p = subst (λ x. Ends b s k (g x) o r) e p
+
   -- by the realness of one operand, or of two
   pub byFlag : (g : Bool → State → Out) (a : ℕ) {x : Bool} → x ≡ isRealReg (s .real) a → Ends b s k (g x) o r
       → Ends b s k (λ s. g (isRealReg (s .real) a) s) o r
@@ -96,7 +100,7 @@ module _ {b : Buf} {s : Complexifier} {k o : List ℕ} {r : Turn} where
       }
 
   -- lines that name three constants, and register d recorded as complex
-  pub threefold : (u v w : ℕ) (l : ℕ → ℕ → ℕ → List Work) (d : ℕ) {t : Three} → Thrice k u v w t
+  pub threefold : (u v w : ℕ) (l : ℕ → ℕ → ℕ → List Work) (d : ℕ) {t : Three} → ThreeSought k u v w t
       → Lists b (map Record.Work (l (t .i) (t .j) (t .q))) (buf o (r .at))
       → r .low ≡ recorded s (setReg (s .real) d false) → r .added ≡ t .added
       → Ends b s k (withThree u v w l d) o r

@@ -4,8 +4,8 @@ ghost use Prim.Native.Nat.{_≤_};
 ghost use lib.ListN.{length};
 ghost use Rattle.lowering.specs.Complexifier.{position};
 ghost use Rattle.rerun.specs.Added as Spec;
-use super::turn::Added;
-use super::turn::nothing;
+use super::output::Added;
+use super::output::nothing;
 
 // f64::MIN_POSITIVE, f64::INFINITY and 0.25
 pub const MIN_POSITIVE: u64 = 0x0010_0000_0000_0000;
@@ -82,7 +82,7 @@ fn stable_const(constants: &[u64], added: Added, v: u64) -> Found
 // Three constants, each sought after the one before it.
 pub(crate) fn seek_three(constants: &[u64], u: u64, v: u64, w: u64) -> Three
     requires { ⌜ length (now constants) ≤ 256 ⌝ }
-    ensures { λ t. ⌜ Spec.Thrice (now (constants .entry)) u v w t ⌝ }
+    ensures { λ t. ⌜ Spec.ThreeSought (now (constants .entry)) u v w t ⌝ }
 {
     let none = nothing();
     let f = stable_const(constants, none, u);

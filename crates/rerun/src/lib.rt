@@ -2,4 +2,4 @@
 mod constants;
 pub mod instruction;
 mod methods;
-pub mod turn;
+pub mod output;

@@ -2,7 +2,6 @@
 ghost use Prim.Native.Nat.{_≤_};
 ghost use lib.ListN.{length};
 ghost use Rattle.mir.specs.Encode.{buf};
-ghost use Rattle.lowering.specs.Realness.{isRealReg};
 ghost use Rattle.lowering.specs.Complexifier as Spec;
 ghost use Rattle.rerun.specs.Ends.{Ends};
 use super::constants::EXP_MASK_FINITE;
@@ -11,11 +10,11 @@ use super::constants::INFINITY;
 use super::constants::MIN_POSITIVE;
 use super::constants::QUARTER;
 use super::constants::seek_three;
-use super::turn::Turn;
-use super::turn::nothing;
-use super::turn::turned;
+use super::output::Output;
+use super::output::no_constants;
+use super::output::nothing;
 use complexifier::state::Complexifier;
-use complexifier::state::Step;
+use complexifier::state::Listed;
 use lines::binary::divide_lines;
 use lines::unary::abs_lines;
 use lines::unary::real_root_lines;
@@ -24,6 +23,7 @@ use mir::registers::RET;
 use mir::registers::TEMP;
 use root_lines::plain_around_block;
 use root_lines::stable_around_block;
+use sheet::setup::Mode;
 use stable_lines::stable_abs_lines;
 use stable_lines::stable_divide_lines;
 use stable_lines::stable_recip_lines;
@@ -35,14 +35,14 @@ fn stable_abs(
     at: usize,
     dst: u8,
     s1: u8,
-) -> Turn
+) -> Output
     requires { ⌜ length (now constants) ≤ 256 ⌝ }
     ensures { λ r. ⌜ Ends (buf (now (out .entry)) at) low (now (constants .entry)) (Spec.stableAbs dst s1) (now (out .exit)) r ⌝ }
 {
     let t = seek_three(constants, FLOOR_FINITE, EXP_MASK_FINITE, INFINITY);
     let n = stable_abs_lines(out, at, dst, s1, t.i, t.j, t.q);
     let added = t.added;
-    Turn {
+    Output {
         low: low.set_reg_complex(dst),
         at: n,
         added: added,
@@ -56,14 +56,14 @@ fn stable_recip(
     at: usize,
     dst: u8,
     s1: u8,
-) -> Turn
+) -> Output
     requires { ⌜ length (now constants) ≤ 256 ⌝ }
     ensures { λ r. ⌜ Ends (buf (now (out .entry)) at) low (now (constants .entry)) (Spec.stableRecip dst s1) (now (out .exit)) r ⌝ }
 {
     let t = seek_three(constants, MIN_POSITIVE, INFINITY, QUARTER);
     let n = stable_recip_lines(out, at, dst, s1, t.i, t.j, t.q);
     let added = t.added;
-    Turn {
+    Output {
         low: low.set_reg_complex(dst),
         at: n,
         added: added,
@@ -80,7 +80,7 @@ fn stable_divide(
     dst: u8,
     s1: u8,
     s2: u8,
-) -> Turn
+) -> Output
     requires { ⌜ length (now constants) ≤ 256 ⌝ }
     ensures { λ r. ⌜ Ends (buf (now (out .entry)) at) low (now (constants .entry)) (Spec.stableDivide x dst s1 s2) (now (out .exit)) r ⌝ }
 {
@@ -88,7 +88,7 @@ fn stable_divide(
     let general = dst < 30;
     let n = stable_divide_lines(out, at, general, x, dst, s1, s2, t.i, t.j, t.q);
     let added = t.added;
-    Turn {
+    Output {
         low: low.set_reg_complex(dst),
         at: n,
         added: added,
@@ -103,28 +103,28 @@ pub(crate) fn abs(
     at: usize,
     dst: u8,
     s1: u8,
-) -> Turn
+) -> Output
     requires { ⌜ length (now constants) ≤ 256 ⌝ }
-    ensures { λ r. ⌜ Ends (buf (now (out .entry)) at) low (now (constants .entry)) (λ s. Spec.abs stable (isRealReg (s .real) s1) dst s1 s) (now (out .exit)) r ⌝ }
+    ensures { λ r. ⌜ Ends (buf (now (out .entry)) at) low (now (constants .entry)) (Spec.abs stable dst s1) (now (out .exit)) r ⌝ }
 {
     let x = low.is_real_reg(s1);
     if x {
         let n = abs_lines(out, at, true, dst, s1);
-        let step = Step {
+        let listed = Listed {
             low: low.set_reg_real(dst),
             at: n,
         };
-        return turned(step);
+        return no_constants(listed);
     }
     if stable {
         return stable_abs(low, constants, out, at, dst, s1);
     }
     let n = abs_lines(out, at, false, dst, s1);
-    let step = Step {
+    let listed = Listed {
         low: low.set_reg_complex(dst),
         at: n,
     };
-    turned(step)
+    no_constants(listed)
 }
 
 pub(crate) fn recip(
@@ -135,62 +135,64 @@ pub(crate) fn recip(
     at: usize,
     dst: u8,
     s1: u8,
-) -> Turn
+) -> Output
     requires { ⌜ length (now constants) ≤ 256 ⌝ }
-    ensures { λ r. ⌜ Ends (buf (now (out .entry)) at) low (now (constants .entry)) (λ s. Spec.recip stable (isRealReg (s .real) s1) dst s1 s) (now (out .exit)) r ⌝ }
+    ensures { λ r. ⌜ Ends (buf (now (out .entry)) at) low (now (constants .entry)) (Spec.recip stable dst s1) (now (out .exit)) r ⌝ }
 {
     let x = low.is_real_reg(s1);
     if x {
         let n = recip_lines(out, at, true, dst, s1);
-        let step = Step {
+        let listed = Listed {
             low: low.set_reg_real(dst),
             at: n,
         };
-        return turned(step);
+        return no_constants(listed);
     }
     if stable {
         return stable_recip(low, constants, out, at, dst, s1);
     }
     let n = recip_lines(out, at, false, dst, s1);
-    let step = Step {
+    let listed = Listed {
         low: low.set_reg_complex(dst),
         at: n,
     };
-    turned(step)
+    no_constants(listed)
 }
 
 pub(crate) fn divide(
     low: Complexifier,
     constants: &[u64],
-    stable: bool,
+    mode: Mode,
     out: &mut [u8],
     at: usize,
     dst: u8,
     s1: u8,
     s2: u8,
-) -> Turn
+) -> Output
     requires { ⌜ length (now constants) ≤ 256 ⌝ }
-    ensures { λ r. ⌜ Ends (buf (now (out .entry)) at) low (now (constants .entry)) (Spec.divide stable dst s1 s2) (now (out .exit)) r ⌝ }
+    ensures { λ r. ⌜ Ends (buf (now (out .entry)) at) low (now (constants .entry)) (Spec.divide mode dst s1 s2) (now (out .exit)) r ⌝ }
 {
     let x = low.is_real_reg(s1);
     let y = low.is_real_reg(s2);
     if y {
         let n = divide_lines(out, at, x, true, dst, s1, s2);
-        let step = Step {
+        let listed = Listed {
             low: low.set_reg(dst, x),
             at: n,
         };
-        return turned(step);
+        return no_constants(listed);
     }
-    if stable {
-        return stable_divide(low, constants, out, at, x, dst, s1, s2);
+    match mode {
+        Mode::Plain => {
+            let n = divide_lines(out, at, x, false, dst, s1, s2);
+            let listed = Listed {
+                low: low.set_reg_complex(dst),
+                at: n,
+            };
+            no_constants(listed)
+        }
+        Mode::Stable => stable_divide(low, constants, out, at, x, dst, s1, s2),
     }
-    let n = divide_lines(out, at, x, false, dst, s1, s2);
-    let step = Step {
-        low: low.set_reg_complex(dst),
-        at: n,
-    };
-    turned(step)
 }
 
 // The root block, where it is not listed yet.
@@ -200,12 +202,12 @@ fn define_root(
     stable: bool,
     out: &mut [u8],
     at: usize,
-) -> Turn
+) -> Output
     requires { ⌜ length (now constants) ≤ 256 ⌝ }
     ensures { λ r. ⌜ Ends (buf (now (out .entry)) at) low (now (constants .entry)) (λ s. Spec.defineRoot (s .rootDefined) stable s) (now (out .exit)) r ⌝ }
 {
     if low.root_defined {
-        return Turn {
+        return Output {
             low: low,
             at: at,
             added: nothing(),
@@ -220,14 +222,14 @@ fn define_root(
         let t = seek_three(constants, FLOOR_FINITE, EXP_MASK_FINITE, INFINITY);
         let n = stable_around_block(out, at, t.i, t.j, t.q);
         let added = t.added;
-        return Turn {
+        return Output {
             low: defined,
             at: n,
             added: added,
         };
     }
     let n = plain_around_block(out, at);
-    Turn {
+    Output {
         low: defined,
         at: n,
         added: nothing(),
@@ -242,7 +244,7 @@ pub(crate) fn root(
     at: usize,
     dst: u8,
     s1: u8,
-) -> Turn
+) -> Output
     requires { ⌜ length (now constants) ≤ 256 ⌝ }
     ensures { λ r. ⌜ Ends (buf (now (out .entry)) at) low (now (constants .entry)) (Spec.root stable dst s1) (now (out .exit)) r ⌝ }
 {
@@ -265,18 +267,18 @@ pub(crate) fn real_root(
     at: usize,
     dst: u8,
     s1: u8,
-) -> Turn
+) -> Output
     requires { ⌜ length (now constants) ≤ 256 ⌝ }
-    ensures { λ r. ⌜ Ends (buf (now (out .entry)) at) low (now (constants .entry)) (λ s. Spec.realRoot stable (isRealReg (s .real) s1) dst s1 s) (now (out .exit)) r ⌝ }
+    ensures { λ r. ⌜ Ends (buf (now (out .entry)) at) low (now (constants .entry)) (Spec.realRoot stable dst s1) (now (out .exit)) r ⌝ }
 {
     let x = low.is_real_reg(s1);
     if x {
         let n = real_root_lines(out, at, dst, s1);
-        let step = Step {
+        let listed = Listed {
             low: low.set_reg_real(dst),
             at: n,
         };
-        return turned(step);
+        return no_constants(listed);
     }
     root(low, constants, stable, out, at, dst, s1)
 }

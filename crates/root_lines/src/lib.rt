@@ -1,6 +1,6 @@
-// What complexify.rs's `root` lists: the call of its block, and the block between its labels. i, j and q are the indices of the constants
+// What complexify.rs's `root` lists behind its call and moves: the block between its labels. i, j and q are the indices of the constants
 // that stable mode names.
-ghost use mathlib.Core.List.{map, [], _∷_};
+ghost use mathlib.Core.List.{map};
 ghost use Rattle.mir.specs.Encode.{buf};
 ghost use Rattle.mir.specs.declared.records.Record.{Record};
 ghost use Rattle.lowering.specs.Lines.{stableRootMagnitude, plainRootMagnitude, rootBlock};
@@ -9,7 +9,6 @@ ghost use Rattle.lines.specs.Lists.{Lists};
 ghost use Rattle.root_lines.specs.RootBlock.{rootMask, rootHalves};
 use lines::emit::bi;
 use lines::emit::branch;
-use lines::emit::call;
 use lines::emit::fused_mul_add;
 use lines::emit::if_else;
 use lines::emit::label;
@@ -134,11 +133,4 @@ pub fn stable_around_block(out: &mut [u8], at: usize, i: u16, j: u16, q: u16) ->
     let at = stable_root_block(out, at, i, j, q);
     let at = branch(out, at, BACK);
     label(out, at, OVER)
-}
-
-// `call_funclet` of the block.
-pub fn call_root_lines(out: &mut [u8], at: usize) -> usize
-    ensures { λ r. ⌜ Lists (buf (now (out .entry)) at) (Record.Call 1 ∷ []) (buf (now (out .exit)) r) ⌝ }
-{
-    call(out, at, ROOT)
 }

@@ -1,6 +1,4 @@
-mod Taken
 pub mod Counting
 pub mod Heading
-mod Constants
 pub mod Reading
 pub mod Setting

@@ -5,6 +5,7 @@ use mathlib.Core.List.{List}
 use native.Mathlib.Omega.{arith}
 use lib.ListN.{length, take, drop, length-take, length-drop}
 use Rattle.mir.specs.Read.{Read, got, refused}
+use Rattle.sheet.specs.declared.setup.Mode.{Mode}
 use Rattle.sheet.specs.declared.setup.Setup.{Setup}
 use Rattle.sheet.specs.Setup.{headerFrom, constantsFrom, constantsFromOn, setupWith, setupFrom, setup}
 use Rattle.sheet.proofs.Heading.{Headed, headed}
@@ -17,7 +18,7 @@ pub record Right (s : List ℕ) (u : Setup) : Type 0 where
   pub inside : u .start ≤ length s
   pub places : length (u .places) ≡ 64
 
-by-count : (s : List ℕ) (mode : ℕ) (y : Read ℕ) → Headed s → constantsFrom 251 (drop 69 s) ≡ y → setupWith s mode y .number ≡ 0
+by-count : (s : List ℕ) (mode : Mode) (y : Read ℕ) → Headed s → constantsFrom 251 (drop 69 s) ≡ y → setupWith s mode y .number ≡ 0
     → Right s (setupWith s mode y)
 by-count s mode (got n) h e z =
     let f = few 251 (drop 69 s) n e in
@@ -33,7 +34,7 @@ by-count s mode (got n) h e z =
     }
 by-count s mode (refused n) h e z = absurd (omega arith)
 
-by-header : (s : List ℕ) (x : Read ℕ) → headerFrom s ≡ x → setupFrom s x .number ≡ 0 → Right s (setupFrom s x)
+by-header : (s : List ℕ) (x : Read Mode) → headerFrom s ≡ x → setupFrom s x .number ≡ 0 → Right s (setupFrom s x)
 by-header s (got mode) e z = by-count s mode (constantsFrom 251 (drop 69 s)) (headed s mode e) refl z
 by-header s (refused n) e z = absurd (omega arith)
 

@@ -2,76 +2,76 @@
 -- count of the sheet's own constants. Registers are tested before the place, and the place before the constant.
 use Prim.Native.Nat.{ℕ}
 use mathlib.Core.Bool.{cond, false}
-use mathlib.Core.List.{List, [], _∷_}
+use mathlib.Core.List.{List}
 use lib.Dec.{eqb}
 use Rattle.mir.specs.declared.records.Instruction.{Instruction}
-use Rattle.mir.specs.Operation.{uniAt, binAt, arithAt, fusedAt, uniTaken, binTaken, arithTaken, fusedTaken}
+use Rattle.mir.specs.Operation.{uniOps, binOps, arithOps, fusedOps, taken}
+use Rattle.mir.specs.Takes.{takesUni, takesBin, takesArith, takesFused}
 use Rattle.mir.specs.Read.{Read, got, refused, andThen, registers, constant}
-use Rattle.mir.specs.Field.{byteAt, wordAt, takesKind, headFrom, placeAt, savePlace, condPlace}
+use Rattle.mir.specs.Field.{byteAt, bytesAt, wordAt, takesKind, headFrom, placeAt, savePlace, condPlace}
 use Rattle.mir.specs.Decode.{Item, readAt, Decoded, decoded}
-use Rattle.sheet.specs.Takes.{takesUni, takesBin, takesArith, takesFused}
 use Rattle.sheet.specs.declared.reader.ReadInstruction.{ReadInstruction}
 use Rattle.sheet.specs.declared.reader.NextInstruction.{NextInstruction}
 
 -- 1 Uni: op, dst, s1
 unfoldable pub uniFrom : List ℕ → Read Instruction
 uniFrom s =
-    andThen (uniTaken takesUni (uniAt (byteAt s 4)))
-    (λ op. registers 31 (byteAt s 5 ∷ byteAt s 6 ∷ []) (got (Instruction.Uni op (byteAt s 5) (byteAt s 6))))
+    andThen (taken (takesUni false) uniOps (byteAt s 4))
+    (λ op. registers 31 (bytesAt s 5 2) (got (Instruction.Uni op (byteAt s 5) (byteAt s 6))))
 
 -- 2 Bi: op, dst, s1, s2
 unfoldable pub biFrom : List ℕ → Read Instruction
 biFrom s =
-    andThen (binTaken takesBin (binAt (byteAt s 4)))
+    andThen (taken (takesBin false) binOps (byteAt s 4))
     (λ op.
-    registers 31 (byteAt s 5 ∷ byteAt s 6 ∷ byteAt s 7 ∷ [])
+    registers 31 (bytesAt s 5 3)
     (got (Instruction.Bi op (byteAt s 5) (byteAt s 6) (byteAt s 7))))
 
 -- 3 Mov: dst, s1
 unfoldable pub movFrom : List ℕ → Read Instruction
-movFrom s = registers 31 (byteAt s 4 ∷ byteAt s 5 ∷ []) (got (Instruction.Mov (byteAt s 4) (byteAt s 5)))
+movFrom s = registers 31 (bytesAt s 4 2) (got (Instruction.Mov (byteAt s 4) (byteAt s 5)))
 
 -- 4 Load: register, place
 unfoldable pub loadFrom : List ℕ → Read Instruction
-loadFrom s = registers 31 (byteAt s 4 ∷ []) (andThen (placeAt s 5) (λ loc. got (Instruction.Load (byteAt s 4) loc)))
+loadFrom s = registers 31 (bytesAt s 4 1) (andThen (placeAt s 5) (λ loc. got (Instruction.Load (byteAt s 4) loc)))
 
 -- 5 Save: register, place
 unfoldable pub saveFrom : List ℕ → Read Instruction
-saveFrom s = registers 31 (byteAt s 4 ∷ []) (andThen (savePlace s 5) (λ loc. got (Instruction.Save (byteAt s 4) loc)))
+saveFrom s = registers 31 (bytesAt s 4 1) (andThen (savePlace s 5) (λ loc. got (Instruction.Save (byteAt s 4) loc)))
 
 -- 6 LoadConst: dst, constant
 unfoldable pub loadConstFrom : ℕ → List ℕ → Read Instruction
 loadConstFrom count s =
-    registers 31 (byteAt s 4 ∷ []) (constant count (wordAt s 5) (got (Instruction.LoadConst (byteAt s 4) (wordAt s 5))))
+    registers 31 (bytesAt s 4 1) (constant count (wordAt s 5) (got (Instruction.LoadConst (byteAt s 4) (wordAt s 5))))
 
 -- 7 Fused: op, dst, a, b, c
 unfoldable pub fusedFrom : List ℕ → Read Instruction
 fusedFrom s =
-    andThen (fusedTaken takesFused (fusedAt (byteAt s 4)))
+    andThen (taken (takesFused false) fusedOps (byteAt s 4))
     (λ op.
-    registers 31 (byteAt s 5 ∷ byteAt s 6 ∷ byteAt s 7 ∷ byteAt s 8 ∷ [])
+    registers 31 (bytesAt s 5 4)
     (got (Instruction.Fused op (byteAt s 5) (byteAt s 6) (byteAt s 7) (byteAt s 8))))
 
 -- 8 IfElse: dst, true, false, place
 unfoldable pub ifElseFrom : List ℕ → Read Instruction
 ifElseFrom s =
-    registers 31 (byteAt s 4 ∷ byteAt s 5 ∷ byteAt s 6 ∷ [])
+    registers 31 (bytesAt s 4 3)
     (andThen (condPlace s 7) (λ loc. got (Instruction.IfElse (byteAt s 4) (byteAt s 5) (byteAt s 6) loc)))
 
 -- 9 LoadMath: op, dst, s1, place
 unfoldable pub loadMathFrom : List ℕ → Read Instruction
 loadMathFrom s =
-    andThen (arithTaken takesArith (arithAt (byteAt s 4)))
+    andThen (taken takesArith arithOps (byteAt s 4))
     (λ op.
-    registers 31 (byteAt s 5 ∷ byteAt s 6 ∷ [])
+    registers 31 (bytesAt s 5 2)
     (andThen (placeAt s 7) (λ loc. got (Instruction.LoadMath op (byteAt s 5) (byteAt s 6) loc))))
 
 -- 10 LoadConstMath: op, dst, s1, constant
 unfoldable pub loadConstMathFrom : ℕ → List ℕ → Read Instruction
 loadConstMathFrom count s =
-    andThen (arithTaken takesArith (arithAt (byteAt s 4)))
+    andThen (taken takesArith arithOps (byteAt s 4))
     (λ op.
-    registers 31 (byteAt s 5 ∷ byteAt s 6 ∷ [])
+    registers 31 (bytesAt s 5 2)
     (constant count (wordAt s 7) (got (Instruction.LoadConstMath op (byteAt s 5) (byteAt s 6) (wordAt s 7)))))
 
 -- by kind

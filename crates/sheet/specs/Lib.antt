@@ -1,3 +1,2 @@
-pub mod Takes
 pub mod Setup
 pub mod Instruction

@@ -1,25 +1,35 @@
 -- What stands before a sheet's instructions (document 01, Sheet): the header and the constants, or the refusal 8.
 use Prim.Native.Nat.{ℕ, zero, suc, _+_, _*_}
-use mathlib.Core.Bool.{Bool, not, cond, false, _&&_, _||_}
+use mathlib.Core.Bool.{Bool, not, cond, true, false, _&&_, _||_}
 use mathlib.Core.List.{List, [], _∷_}
-use lib.ListN.{length, take, drop, getD, replicate}
+use lib.ListN.{length, take, drop, replicate}
 use lib.Dec.{ltb, leb, eqb}
+use Rattle.words.specs.Bytes as Words
 use Rattle.mir.specs.Read.{Read, got, refused, refuse}
 use Rattle.mir.specs.Field.{byteAt, wordAt}
+use Rattle.sheet.specs.declared.setup.Mode.{Mode}
 use Rattle.sheet.specs.declared.setup.Setup.{Setup}
 use Rattle.sheet.specs.declared.setup.Header.{Header}
 use Rattle.sheet.specs.declared.setup.Counted.{Counted}
 
--- "First a header: kind 32, mode byte (0 plain, 1 stable), 64 bytes of realness [..]: length 69." "A wrong header, [..] a sheet over
+-- "mode byte (0 plain, 1 stable)"
+abbrev pub modeFrom : ℕ → Read Mode
+modeFrom b = cond (eqb b 0) (got Mode.Plain) (cond (eqb b 1) (got Mode.Stable) (refused 8))
+
+-- whether a mode is stable
+abbrev pub isStable : Mode → Bool
+isStable Mode.Plain = false
+isStable Mode.Stable = true
+
+-- "First a header: kind 32, mode byte [..], 64 bytes of realness [..]: length 69." "A wrong header, [..] a sheet over
 -- 16,384 bytes [..] is refused by 8." What is read is the mode.
-unfoldable pub headerFrom : List ℕ → Read ℕ
+unfoldable pub headerFrom : List ℕ → Read Mode
 headerFrom s =
     refuse (ltb 16384 (length s)) 8
     (refuse (ltb (length s) 69) 8
     (refuse (not (eqb (wordAt s 0) 69)) 8
     (refuse (not (eqb (wordAt s 2) 32)) 8
-    (refuse (ltb 1 (byteAt s 4)) 8
-    (got (byteAt s 4))))))
+    (modeFrom (byteAt s 4)))))
 
 -- a constant stands first: four bytes can be read, and their kind is 33
 abbrev pub isConstant : List ℕ → Bool
@@ -41,15 +51,15 @@ constantsFrom (suc n) s =
 
 -- 8, "with [..] all realness complex"
 abbrev pub wrong : Setup
-wrong = record { number = 8; stable = false; places = replicate 64 0; count = 0; start = 0 }
+wrong = record { number = 8; mode = Mode.Plain; places = replicate 64 0; count = 0; start = 0 }
 
 -- what was read: the mode, the bytes of realness, the count of constants, and where the instructions begin
-abbrev pub setupWith : List ℕ → ℕ → Read ℕ → Setup
+abbrev pub setupWith : List ℕ → Mode → Read ℕ → Setup
 setupWith s mode (got n) =
-    record { number = 0; stable = eqb mode 1; places = take 64 (drop 5 s); count = n; start = 69 + 12 * n }
+    record { number = 0; mode = mode; places = take 64 (drop 5 s); count = n; start = 69 + 12 * n }
 setupWith s mode (refused n) = wrong
 
-abbrev pub setupFrom : List ℕ → Read ℕ → Setup
+abbrev pub setupFrom : List ℕ → Read Mode → Setup
 setupFrom s (got mode) = setupWith s mode (constantsFrom 251 (drop 69 s))
 setupFrom s (refused n) = wrong
 
@@ -57,17 +67,10 @@ unfoldable pub setup : List ℕ → Setup
 unfolding headerFrom constantsFrom
 setup s = setupFrom s (headerFrom s)
 
--- eight bytes, little-endian
-unfoldable pub wordFrom : List ℕ → ℕ
-wordFrom s =
-    getD s 0 0
-    + 256 * (getD s 1 0 + 256 * (getD s 2 0 + 256 * (getD s 3 0
-    + 256 * (getD s 4 0 + 256 * (getD s 5 0 + 256 * (getD s 6 0 + 256 * getD s 7 0))))))
-
 -- the word of the constant with an index: the eight bytes behind its length and kind
 unfoldable pub constantAt : List ℕ → ℕ → ℕ
-unfolding wordFrom
-constantAt s i = wordFrom (drop (73 + 12 * i) s)
+unfolding Words.wordAt
+constantAt s i = Words.wordAt s (73 + 12 * i)
 
 -- n constants from the one with index i on, and the first n
 abbrev pub constantsFromOn : List ℕ → ℕ → ℕ → List ℕ
@@ -78,7 +81,7 @@ abbrev pub constantsOf : List ℕ → ℕ → List ℕ
 constantsOf s n = constantsFromOn s n 0
 
 -- the answers of the code
-abbrev pub asHeader : Header → Read ℕ
+abbrev pub asHeader : Header → Read Mode
 asHeader (Header.Mode mode) = got mode
 asHeader Header.Wrong = refused 8
 

@@ -1,24 +1,23 @@
 // A sheet's instruction, read at a position.
 ghost use mathlib.Core.Path.{_≡_};
-ghost use Rattle.mir.specs.Operation.{uniAt, binAt, asUni, asBin, uniTaken, binTaken};
-ghost use Rattle.sheet.specs.Takes.{takesUni, takesBin};
 ghost use Rattle.sheet.specs.Instruction.{uniFrom, biFrom, movFrom, loadFrom, saveFrom, loadConstFrom, fusedFrom, ifElseFrom, loadMathFrom, loadConstMathFrom, fieldsFrom, instructionFrom, instructionAt, asRead, asNext};
 use mir::fields::Head;
 use mir::fields::Place;
+use mir::fields::above;
 use mir::fields::byte;
 use mir::fields::read_cond_place;
 use mir::fields::read_head;
 use mir::fields::read_place;
 use mir::fields::read_save_place;
 use mir::fields::word;
-use mir::ops::BinOp;
 use mir::ops::FoundArith;
 use mir::ops::FoundBin;
 use mir::ops::FoundFused;
 use mir::ops::FoundUni;
-use mir::ops::UniOp;
 use mir::ops::arith_op;
+use mir::ops::bin_op;
 use mir::ops::fused_op;
+use mir::ops::uni_op;
 use mir::records::Instruction;
 
 // The last of a sheet's registers, Temp.
@@ -36,78 +35,18 @@ pub enum NextInstruction {
     Refused(u8),
 }
 
-// The UniOp of a number, where a sheet takes it.
-fn sheet_uni(n: u8) -> FoundUni
-    ensures { λ r. ⌜ asUni r ≡ uniTaken takesUni (uniAt n) ⌝ }
-{
-    let ops = [
-        FoundUni::Op(UniOp::Neg),
-        FoundUni::Op(UniOp::Not),
-        FoundUni::Op(UniOp::Abs),
-        FoundUni::Op(UniOp::Root),
-        FoundUni::Op(UniOp::RealRoot),
-        FoundUni::Op(UniOp::Recip),
-        FoundUni::Op(UniOp::Round),
-        FoundUni::Nothing,
-        FoundUni::Nothing,
-        FoundUni::Nothing,
-        FoundUni::Op(UniOp::Real),
-        FoundUni::Op(UniOp::Imaginary),
-        FoundUni::Op(UniOp::Conjugate),
-        FoundUni::Op(UniOp::Half),
-        FoundUni::Nothing,
-        FoundUni::Op(UniOp::IsNotZero),
-        FoundUni::Op(UniOp::Sign),
-        FoundUni::Op(UniOp::Abs2),
-        FoundUni::Op(UniOp::TimesI),
-        FoundUni::Op(UniOp::TimesNegI),
-    ];
-    let i = n as usize;
-    if i < 20 { ops[i] } else { FoundUni::Nothing }
-}
-
-// The BinOp of a number, where a sheet takes it.
-fn sheet_bin(n: u8) -> FoundBin
-    ensures { λ r. ⌜ asBin r ≡ binTaken takesBin (binAt n) ⌝ }
-{
-    let ops = [
-        FoundBin::Op(BinOp::Plus),
-        FoundBin::Op(BinOp::Minus),
-        FoundBin::Op(BinOp::Times),
-        FoundBin::Op(BinOp::Divide),
-        FoundBin::Op(BinOp::GreaterThan),
-        FoundBin::Nothing,
-        FoundBin::Op(BinOp::LittleThan),
-        FoundBin::Nothing,
-        FoundBin::Nothing,
-        FoundBin::Op(BinOp::NotEqual),
-        FoundBin::Op(BinOp::And),
-        FoundBin::Nothing,
-        FoundBin::Op(BinOp::Or),
-        FoundBin::Op(BinOp::Xor),
-        FoundBin::Op(BinOp::Complex),
-    ];
-    let i = n as usize;
-    if i < 15 { ops[i] } else { FoundBin::Nothing }
-}
-
 fn read_uni(s: &[u8]) -> ReadInstruction
     ensures { λ r. ⌜ asRead r ≡ uniFrom (now (s .entry)) ⌝ }
 {
-    match sheet_uni(byte(s, 4)) {
+    match uni_op(byte(s, 4), false) {
         FoundUni::Op(op) => {
-            let dst = byte(s, 5);
-            if LAST < dst {
-                return ReadInstruction::Refused(3);
-            }
-            let s1 = byte(s, 6);
-            if LAST < s1 {
+            if above(s, 5, 2, LAST) {
                 return ReadInstruction::Refused(3);
             }
             ReadInstruction::Got(Instruction::Uni {
                 op: op,
-                dst: dst,
-                s1: s1,
+                dst: byte(s, 5),
+                s1: byte(s, 6),
             })
         }
         FoundUni::Nothing => ReadInstruction::Refused(2),
@@ -117,25 +56,16 @@ fn read_uni(s: &[u8]) -> ReadInstruction
 fn read_bi(s: &[u8]) -> ReadInstruction
     ensures { λ r. ⌜ asRead r ≡ biFrom (now (s .entry)) ⌝ }
 {
-    match sheet_bin(byte(s, 4)) {
+    match bin_op(byte(s, 4), false) {
         FoundBin::Op(op) => {
-            let dst = byte(s, 5);
-            if LAST < dst {
-                return ReadInstruction::Refused(3);
-            }
-            let s1 = byte(s, 6);
-            if LAST < s1 {
-                return ReadInstruction::Refused(3);
-            }
-            let s2 = byte(s, 7);
-            if LAST < s2 {
+            if above(s, 5, 3, LAST) {
                 return ReadInstruction::Refused(3);
             }
             ReadInstruction::Got(Instruction::Bi {
                 op: op,
-                dst: dst,
-                s1: s1,
-                s2: s2,
+                dst: byte(s, 5),
+                s1: byte(s, 6),
+                s2: byte(s, 7),
             })
         }
         FoundBin::Nothing => ReadInstruction::Refused(2),
@@ -145,26 +75,26 @@ fn read_bi(s: &[u8]) -> ReadInstruction
 fn read_mov(s: &[u8]) -> ReadInstruction
     ensures { λ r. ⌜ asRead r ≡ movFrom (now (s .entry)) ⌝ }
 {
-    let dst = byte(s, 4);
-    if LAST < dst {
+    if above(s, 4, 2, LAST) {
         return ReadInstruction::Refused(3);
     }
-    let s1 = byte(s, 5);
-    if LAST < s1 {
-        return ReadInstruction::Refused(3);
-    }
-    ReadInstruction::Got(Instruction::Mov { dst: dst, s1: s1 })
+    ReadInstruction::Got(Instruction::Mov {
+        dst: byte(s, 4),
+        s1: byte(s, 5),
+    })
 }
 
 fn read_load(s: &[u8]) -> ReadInstruction
     ensures { λ r. ⌜ asRead r ≡ loadFrom (now (s .entry)) ⌝ }
 {
-    let dst = byte(s, 4);
-    if LAST < dst {
+    if above(s, 4, 1, LAST) {
         return ReadInstruction::Refused(3);
     }
     match read_place(s, 5) {
-        Place::At(loc) => ReadInstruction::Got(Instruction::Load { dst: dst, loc: loc }),
+        Place::At(loc) => ReadInstruction::Got(Instruction::Load {
+            dst: byte(s, 4),
+            loc: loc,
+        }),
         Place::Bad => ReadInstruction::Refused(4),
     }
 }
@@ -172,12 +102,14 @@ fn read_load(s: &[u8]) -> ReadInstruction
 fn read_save(s: &[u8]) -> ReadInstruction
     ensures { λ r. ⌜ asRead r ≡ saveFrom (now (s .entry)) ⌝ }
 {
-    let src = byte(s, 4);
-    if LAST < src {
+    if above(s, 4, 1, LAST) {
         return ReadInstruction::Refused(3);
     }
     match read_save_place(s, 5) {
-        Place::At(loc) => ReadInstruction::Got(Instruction::Save { src: src, loc: loc }),
+        Place::At(loc) => ReadInstruction::Got(Instruction::Save {
+            src: byte(s, 4),
+            loc: loc,
+        }),
         Place::Bad => ReadInstruction::Refused(4),
     }
 }
@@ -185,44 +117,33 @@ fn read_save(s: &[u8]) -> ReadInstruction
 fn read_load_const(s: &[u8], count: usize) -> ReadInstruction
     ensures { λ r. ⌜ asRead r ≡ loadConstFrom count (now (s .entry)) ⌝ }
 {
-    let dst = byte(s, 4);
-    if LAST < dst {
+    if above(s, 4, 1, LAST) {
         return ReadInstruction::Refused(3);
     }
     let idx = word(s, 5);
     if count <= idx as usize {
         return ReadInstruction::Refused(5);
     }
-    ReadInstruction::Got(Instruction::LoadConst { dst: dst, idx: idx })
+    ReadInstruction::Got(Instruction::LoadConst {
+        dst: byte(s, 4),
+        idx: idx,
+    })
 }
 
 fn read_fused(s: &[u8]) -> ReadInstruction
     ensures { λ r. ⌜ asRead r ≡ fusedFrom (now (s .entry)) ⌝ }
 {
-    match fused_op(byte(s, 4)) {
+    match fused_op(byte(s, 4), false) {
         FoundFused::Op(op) => {
-            let dst = byte(s, 5);
-            if LAST < dst {
-                return ReadInstruction::Refused(3);
-            }
-            let a = byte(s, 6);
-            if LAST < a {
-                return ReadInstruction::Refused(3);
-            }
-            let b = byte(s, 7);
-            if LAST < b {
-                return ReadInstruction::Refused(3);
-            }
-            let c = byte(s, 8);
-            if LAST < c {
+            if above(s, 5, 4, LAST) {
                 return ReadInstruction::Refused(3);
             }
             ReadInstruction::Got(Instruction::Fused {
                 op: op,
-                dst: dst,
-                a: a,
-                b: b,
-                c: c,
+                dst: byte(s, 5),
+                a: byte(s, 6),
+                b: byte(s, 7),
+                c: byte(s, 8),
             })
         }
         FoundFused::Nothing => ReadInstruction::Refused(2),
@@ -232,23 +153,14 @@ fn read_fused(s: &[u8]) -> ReadInstruction
 fn read_if_else(s: &[u8]) -> ReadInstruction
     ensures { λ r. ⌜ asRead r ≡ ifElseFrom (now (s .entry)) ⌝ }
 {
-    let dst = byte(s, 4);
-    if LAST < dst {
-        return ReadInstruction::Refused(3);
-    }
-    let t = byte(s, 5);
-    if LAST < t {
-        return ReadInstruction::Refused(3);
-    }
-    let f = byte(s, 6);
-    if LAST < f {
+    if above(s, 4, 3, LAST) {
         return ReadInstruction::Refused(3);
     }
     match read_cond_place(s, 7) {
         Place::At(loc) => ReadInstruction::Got(Instruction::IfElse {
-            dst: dst,
-            true_val: t,
-            false_val: f,
+            dst: byte(s, 4),
+            true_val: byte(s, 5),
+            false_val: byte(s, 6),
             cond: loc,
         }),
         Place::Bad => ReadInstruction::Refused(4),
@@ -260,19 +172,14 @@ fn read_load_math(s: &[u8]) -> ReadInstruction
 {
     match arith_op(byte(s, 4)) {
         FoundArith::Op(op) => {
-            let dst = byte(s, 5);
-            if LAST < dst {
-                return ReadInstruction::Refused(3);
-            }
-            let s1 = byte(s, 6);
-            if LAST < s1 {
+            if above(s, 5, 2, LAST) {
                 return ReadInstruction::Refused(3);
             }
             match read_place(s, 7) {
                 Place::At(loc) => ReadInstruction::Got(Instruction::LoadMath {
                     op: op,
-                    dst: dst,
-                    s1: s1,
+                    dst: byte(s, 5),
+                    s1: byte(s, 6),
                     loc: loc,
                 }),
                 Place::Bad => ReadInstruction::Refused(4),
@@ -287,12 +194,7 @@ fn read_load_const_math(s: &[u8], count: usize) -> ReadInstruction
 {
     match arith_op(byte(s, 4)) {
         FoundArith::Op(op) => {
-            let dst = byte(s, 5);
-            if LAST < dst {
-                return ReadInstruction::Refused(3);
-            }
-            let s1 = byte(s, 6);
-            if LAST < s1 {
+            if above(s, 5, 2, LAST) {
                 return ReadInstruction::Refused(3);
             }
             let idx = word(s, 7);
@@ -301,8 +203,8 @@ fn read_load_const_math(s: &[u8], count: usize) -> ReadInstruction
             }
             ReadInstruction::Got(Instruction::LoadConstMath {
                 op: op,
-                dst: dst,
-                s1: s1,
+                dst: byte(s, 5),
+                s1: byte(s, 6),
                 idx: idx,
             })
         }

@@ -2,14 +2,22 @@
 ghost use mathlib.Core.Path.{_≡_};
 ghost use Prim.Native.Nat.{_≤_};
 ghost use lib.ListN.{length, take, drop};
-ghost use Rattle.sheet.specs.Setup.{headerFrom, isConstant, isBroken, constantsFrom, wrong, setup, wordFrom, constantAt, asHeader, asCounted};
+ghost use Rattle.sheet.specs.Setup.{modeFrom, isStable, headerFrom, isConstant, isBroken, constantsFrom, wrong, setup, constantAt, asHeader, asCounted};
 use mir::fields::byte;
 use mir::fields::word;
+use words::put_bytes;
+use words::word_at;
+
+// What a header's mode byte says.
+pub enum Mode {
+    Plain,
+    Stable,
+}
 
 // `number` is 0, or 8 where the setup is wrong; `places` are the bytes of realness, and the instructions begin at `start`.
 pub struct Setup {
     pub number: u8,
-    pub stable: bool,
+    pub mode: Mode,
     pub places: [u8; 64],
     pub count: usize,
     pub start: usize,
@@ -17,7 +25,7 @@ pub struct Setup {
 
 // What a header says.
 pub enum Header {
-    Mode(u8),
+    Mode(Mode),
     Wrong,
 }
 
@@ -25,6 +33,28 @@ pub enum Header {
 pub enum Counted {
     Constants(usize),
     Wrong,
+}
+
+// Whether a mode is stable.
+pub fn is_stable(mode: Mode) -> bool
+    ensures { λ r. ⌜ r ≡ isStable mode ⌝ }
+{
+    match mode {
+        Mode::Plain => false,
+        Mode::Stable => true,
+    }
+}
+
+fn read_mode(b: u8) -> Header
+    ensures { λ r. ⌜ asHeader r ≡ modeFrom b ⌝ }
+{
+    if b == 0 {
+        return Header::Mode(Mode::Plain);
+    }
+    if b == 1 {
+        return Header::Mode(Mode::Stable);
+    }
+    Header::Wrong
 }
 
 fn read_header(sheet: &[u8]) -> Header
@@ -43,10 +73,7 @@ fn read_header(sheet: &[u8]) -> Header
         return Header::Wrong;
     }
     let mode = byte(sheet, 4);
-    if 1 < mode {
-        return Header::Wrong;
-    }
-    Header::Mode(mode)
+    read_mode(mode)
 }
 
 // Whether a constant stands first.
@@ -101,11 +128,7 @@ fn places_of(sheet: &[u8]) -> [u8; 64]
     ensures { λ r. ⌜ r ≡ take 64 (drop 5 (now (sheet .entry))) ⌝ }
 {
     let mut places = [0u8; 64];
-    let mut i: usize = 0;
-    while i < 64 {
-        places[i] = sheet[5 + i];
-        i += 1;
-    }
+    put_bytes(&mut places, 0, &sheet[5..69]);
     places
 }
 
@@ -115,7 +138,7 @@ fn wrong_setup() -> Setup
     let places = [0u8; 64];
     Setup {
         number: 8,
-        stable: false,
+        mode: Mode::Plain,
         places: places,
         count: 0,
         start: 0,
@@ -132,7 +155,7 @@ pub fn read_setup(sheet: &[u8]) -> Setup
                 let places = places_of(sheet);
                 Setup {
                     number: 0,
-                    stable: mode == 1,
+                    mode: mode,
                     places: places,
                     count: n,
                     start: 69 + 12 * n,
@@ -142,21 +165,6 @@ pub fn read_setup(sheet: &[u8]) -> Setup
         },
         Header::Wrong => wrong_setup(),
     }
-}
-
-// The first eight bytes, little-endian.
-fn first_word(s: &[u8]) -> u64
-    ensures { λ r. ⌜ r ≡ wordFrom (now (s .entry)) ⌝ }
-{
-    let a = byte(s, 0) as u64;
-    let b = byte(s, 1) as u64;
-    let c = byte(s, 2) as u64;
-    let d = byte(s, 3) as u64;
-    let e = byte(s, 4) as u64;
-    let f = byte(s, 5) as u64;
-    let g = byte(s, 6) as u64;
-    let h = byte(s, 7) as u64;
-    a + 256 * (b + 256 * (c + 256 * (d + 256 * (e + 256 * (f + 256 * (g + 256 * h))))))
 }
 
 // The word of the constant with an index; 0 past the end.
@@ -169,6 +177,5 @@ pub fn constant_at(sheet: &[u8], i: usize) -> u64
     if (sheet.len() - 73) / 12 < i {
         return 0;
     }
-    let at = 73 + 12 * i;
-    first_word(&sheet[at..])
+    word_at(sheet, 73 + 12 * i)
 }

@@ -1,36 +1,28 @@
 -- The parts of a case, from what the functions that make them give. Assumes nothing.
-use Prim.Native.Nat.{ℕ, zero, suc, _+_, _*_, _-_, _≤_}
-use mathlib.Core.Bool.{Bool, true, false, not}
-use mathlib.Core.List.{List, _∷_, map}
-use mathlib.Core.Path.{_≡_, refl, sym, ap, _∙_}
-use native.Mathlib.Nat.{not-suc-le-zero, le-of-suc-le-suc}
+use Prim.Native.Nat.{ℕ, _+_, _*_, _-_, _≤_}
+use mathlib.Core.Bool.{Bool, false, not}
+use mathlib.Core.List.{List}
+use mathlib.Core.Path.{_≡_, ap, _∙_}
 use native.Mathlib.Omega.{arith}
-use borrow.Author.Tests.{ltb-false, eq-eqb, not-true, not-false}
+use borrow.Author.Tests.{ltb-false, eq-eqb}
 use lib.ListN.{length, take, drop, replicate}
 use lib.Dec.{ltb, eqb}
-use Rattle.mir.proofs.Parts.{part}
-use Rattle.lowering.specs.declared.realness.Realness.{Realness}
 use Rattle.complexify.specs.declared.entry.Answer.{Answer}
 use Rattle.complexify.specs.Entry as Entry
+use Rattle.words.specs.Bytes.{wordsOf, stored}
 use Rattle.replay.specs.Numbers.{u32At}
+use Rattle.replay.proofs.Parts.{take-replicate}
 use Rattle.replay.proofs.Replaying.{or-first, or-rest}
-use Rattle.sheet_replay.specs.Compare.{lentByte, lentWord, lentBytes, lentWords, heldByte, heldWord, agree}
-use Rattle.sheet_replay.specs.Case.{Whole, cut, room, tableLength, written, count, listingAt, constantsAt, sheet, answered, listingAfter, constantsAfter, numbersAgree, flag, realAgrees, slicesAgree, expected, differs}
+use Rattle.sheet_replay.specs.Case.{Whole, Lent, cut, lentBytes, lentWords, room, tableLength, written, count, listingAt, constantsAt, end, sheet, answered, listingAfter, constantsAfter, numbersAgree, listingExpected, constantsExpected, expected, differs}
 
--- the first n of m equal words
-take-replicate : (n m w : ℕ) → n ≤ m → take n (replicate m w) ≡ replicate n w
-take-replicate zero m w h = refl
-take-replicate (suc n) zero w h = absurd (not-suc-le-zero h)
-take-replicate (suc n) (suc m) w h = ap (λ (l : List ℕ). w ∷ l) (take-replicate n m w (le-of-suc-le-suc h))
-
-module _ (n m : ℕ) {l : List ℕ} {k : ℕ} (e : n ≡ k) (h : n ≤ m) where
-  pub lent-bytes : l ≡ lentBytes m → take n l ≡ lentBytes k
-  unfolding lentBytes
-  lent-bytes f = ap (take n) f ∙ (take-replicate n m lentByte h ∙ ap (λ (j : ℕ). replicate j lentByte) e)
-
-  pub lent-words : l ≡ lentWords m → take n l ≡ lentWords k
-  unfolding lentWords
-  lent-words f = ap (take n) f ∙ (take-replicate n m lentWord h ∙ ap (λ (j : ℕ). replicate j lentWord) e)
+module _ (s : List ℕ) {n m : ℕ} {l c : List ℕ} (hn : n ≡ room s) (hm : m ≡ tableLength s) (bn : n ≤ 65537) (bm : m ≤ 257) where
+  pub lent : l ≡ lentBytes 65537 → c ≡ lentWords 257 → Lent s (take n l) (take m c)
+  unfolding lentBytes lentWords
+  lent el ec =
+      record {
+        bytes = ap (take n) el ∙ (take-replicate n 65537 _ bn ∙ ap (λ (j : ℕ). replicate j 165) hn);
+        words = ap (take m) ec ∙ (take-replicate m 257 _ bm ∙ ap (λ (j : ℕ). replicate j 11936128518282651045) hm);
+      }
 
 -- a case that is not cut is whole
 pub is-whole : (s : List ℕ) → cut s ≡ false → Whole s
@@ -45,14 +37,9 @@ is-whole s e =
       rest = ltb-false _ _ (or-rest (ltb 257 (tableLength s)) _ two);
     }
 
--- what a part of the case holds is what stands there in the case
-held-at : (held : List ℕ → ℕ → ℕ → ℕ) (s l : List ℕ) {at n k m : ℕ}
-    → at ≡ k
-    → n ≡ m
-    → agree (held (take (length s - at) (drop at s)) n) 0 l ≡ agree (held (drop k s) m) 0 l
-held-at held s l {at} {n} {k} {m} ha hn =
-    ap (λ (row : List ℕ). agree (held row n) 0 l) (part s at)
-    ∙ (ap (λ (j : ℕ). agree (held (drop j s) n) 0 l) ha ∙ ap (λ (j : ℕ). agree (held (drop k s) j) 0 l) hn)
+-- a part of the case by where it begins and how long it is
+part-of : (s : List ℕ) {at stop k : ℕ} (n : ℕ) → at ≡ k → stop ≡ k + n → take (stop - at) (drop at s) ≡ take n (drop k s)
+part-of s {at} {stop} {k} n e f = let m : stop - at ≡ n = omega arith in rw (m, e)
 
 module _ (s : List ℕ) (a : Answer) where
   -- the last of the four numbers decides
@@ -74,75 +61,28 @@ module _ (s : List ℕ) (a : Answer) where
         hc,
       )
 
-module _ (s : List ℕ) where
-  module _ {r : Bool} (ρ : Realness) (h : r ≡ agree (heldByte (take (length s - 28) (drop 28 s)) 32) 0 (map flag (ρ .regs))) where
-    flags : r ≡ agree (heldByte (drop 28 s) 32) 0 (map flag (ρ .regs))
-    flags = h ∙ held-at heldByte s (map flag (ρ .regs)) refl refl
+-- what is made of lent slices is what is expected
+module _ (s : List ℕ) {at row : ℕ} {l c : List ℕ} (ha : at ≡ listingAt s) (hr : row ≡ constantsAt s) (p : Lent s l c) where
+  pub bytes-made : {t : List ℕ} → t ≡ stored l 0 (take (row - at) (drop at s)) → t ≡ listingExpected s
+  unfolding listingExpected
+  bytes-made e = e ∙ (ap (λ (x : List ℕ). stored x 0 (take (row - at) (drop at s))) (p .bytes) ∙ ap (stored (lentBytes (room s)) 0) (part-of s (written s) ha hr))
 
-    pub flags-differ : not r ≡ true → false ≡ realAgrees s ρ
-    unfolding realAgrees
-    flags-differ t = let e : agree (heldByte (drop 28 s) 32) 0 (map flag (ρ .regs)) ≡ false = sym flags ∙ not-true r t in rw e
-
-    pub places-decide : {q : Bool}
-        → not r ≡ false
-        → q ≡ agree (heldByte (take (length s - 60) (drop 60 s)) 64) 0 (ρ .places)
-        → q ≡ realAgrees s ρ
-    unfolding realAgrees
-    places-decide t g =
-        let e : agree (heldByte (drop 28 s) 32) 0 (map flag (ρ .regs)) ≡ true = sym flags ∙ not-false r t in
-        rw e (g ∙ held-at heldByte s (ρ .places) refl refl)
-
-  module _ (l c : List ℕ) where
-    module _ {r : Bool} {at n : ℕ} (ha : at ≡ listingAt s) (hn : n ≡ written s)
-        (h : r ≡ agree (heldByte (take (length s - at) (drop at s)) n) 0 l) where
-      bytes : r ≡ agree (heldByte (drop (listingAt s) s) (written s)) 0 l
-      bytes = h ∙ held-at heldByte s l ha hn
-
-      pub bytes-differ : not r ≡ true → false ≡ slicesAgree s l c
-      unfolding slicesAgree
-      bytes-differ t = let e : agree (heldByte (drop (listingAt s) s) (written s)) 0 l ≡ false = sym bytes ∙ not-true r t in rw e
-
-      pub words-decide : {q : Bool} {k m : ℕ}
-          → not r ≡ false
-          → k ≡ constantsAt s
-          → m ≡ count s
-          → q ≡ agree (heldWord (take (length s - k) (drop k s)) m) 0 c
-          → q ≡ slicesAgree s l c
-      unfolding slicesAgree
-      words-decide t hk hm g =
-          let e : agree (heldByte (drop (listingAt s) s) (written s)) 0 l ≡ true = sym bytes ∙ not-false r t in
-          rw e (g ∙ held-at heldWord s c hk hm)
-
-module _ (s : List ℕ) (a : Answer) (l c : List ℕ) where
-  module _ {p : Bool} (hp : p ≡ numbersAgree s a) where
-    pub numbers-differ : not p ≡ true → false ≡ expected s a l c
-    unfolding expected
-    numbers-differ t = let e : numbersAgree s a ≡ false = sym hp ∙ not-true p t in rw e
-
-    module _ {q : Bool} (tp : not p ≡ false) (hq : q ≡ realAgrees s (a .real)) where
-      pub real-differs : not q ≡ true → false ≡ expected s a l c
-      unfolding expected
-      real-differs t =
-          let d : numbersAgree s a ≡ true = sym hp ∙ not-false p tp in
-          let e : realAgrees s (a .real) ≡ false = sym hq ∙ not-true q t in
-          rw (d, e)
-
-      pub slices-decide : {r : Bool} → not q ≡ false → r ≡ slicesAgree s l c → r ≡ expected s a l c
-      unfolding expected
-      slices-decide t hr =
-          let d : numbersAgree s a ≡ true = sym hp ∙ not-false p tp in
-          let e : realAgrees s (a .real) ≡ true = sym hq ∙ not-false q t in
-          rw (d, e) hr
+  pub words-made : {t : List ℕ} {stop : ℕ} → stop ≡ end s → t ≡ stored c 0 (wordsOf (take (stop - row) (drop row s))) → t ≡ constantsExpected s
+  unfolding constantsExpected
+  words-made {t} {stop} hs e =
+      e
+      ∙ (ap (λ (x : List ℕ). stored x 0 (wordsOf (take (stop - row) (drop row s)))) (p .words)
+      ∙ ap (λ (x : List ℕ). stored (lentWords (tableLength s)) 0 (wordsOf x)) (part-of s (8 * count s) hr hs))
 
 -- what lowering gave is the case's answer, and its verdict the case's
-module _ (s : List ℕ) {at : ℕ} {l₀ c₀ : List ℕ} (ha : at ≡ listingAt s) (hl : l₀ ≡ lentBytes (room s)) (hc : c₀ ≡ lentWords (tableLength s)) where
+module _ (s : List ℕ) {at : ℕ} {l₀ c₀ : List ℕ} (ha : at ≡ listingAt s) (p : Lent s l₀ c₀) where
   of-case : {A : Type 0} (f : List ℕ → List ℕ → List ℕ → A)
       → f (take (at - 124) (drop 124 s)) l₀ c₀ ≡ f (sheet s) (lentBytes (room s)) (lentWords (tableLength s))
   unfolding sheet
   of-case f =
       let e : at - 124 ≡ u32At s 0 = omega arith in
       ap (λ (n : ℕ). f (take n (drop 124 s)) l₀ c₀) e
-      ∙ (ap (λ (l : List ℕ). f (sheet s) l c₀) hl ∙ ap (f (sheet s) (lentBytes (room s))) hc)
+      ∙ (ap (λ (l : List ℕ). f (sheet s) l c₀) (p .bytes) ∙ ap (f (sheet s) (lentBytes (room s))) (p .words))
 
   pub judged : {a : Answer} {l c : List ℕ} {g : Bool}
       → a ≡ Entry.answer (take (at - 124) (drop 124 s)) l₀ c₀

@@ -3,14 +3,16 @@
 use Prim.Native.Nat.{ℕ, _+_, _*_, _≤_}
 use mathlib.Core.Bool.{Bool, not, cond, _&&_, _||_}
 use mathlib.Core.List.{List, map}
-use lib.ListN.{length, take, drop}
+use mathlib.Core.Path.{_≡_}
+use lib.ListN.{length, take, drop, replicate}
 use lib.Dec.{eqb, ltb}
 use Rattle.lowering.specs.declared.realness.Realness.{Realness}
 use Rattle.complexify.specs.declared.entry.Answer.{Answer}
 use Rattle.complexify.specs.Entry as Entry
+use Rattle.words.specs.Bytes.{wordsOf, stored}
 use Rattle.replay.specs.Numbers.{u32At}
+use Rattle.replay.specs.Same.{same}
 use Rattle.replay.specs.Tally.{Cases}
-use Rattle.sheet_replay.specs.Compare.{lentBytes, lentWords, heldByte, heldWord, agree}
 
 -- the lengths of the sheet and of the two slices lent
 abbrev pub sheetLength : List ℕ → ℕ
@@ -50,6 +52,18 @@ pub record Whole (s : List ℕ) : Type 0 where
   pub constants : tableLength s ≤ 257
   pub rest : end s ≤ length s
 
+-- every byte of a slice that is lent to be written, and every word: n of them
+unfoldable pub lentBytes : ℕ → List ℕ
+lentBytes n = replicate n 165
+
+unfoldable pub lentWords : ℕ → List ℕ
+lentWords n = replicate n 11936128518282651045
+
+-- both slices as a case lends them
+pub record Lent (s listing constants : List ℕ) : Type 0 where
+  pub bytes : listing ≡ lentBytes (room s)
+  pub words : constants ≡ lentWords (tableLength s)
+
 unfoldable pub sheet : List ℕ → List ℕ
 sheet s = take (sheetLength s) (drop 124 s)
 
@@ -74,16 +88,18 @@ flag real = cond real 1 0
 
 -- whether the 32 flags of registers and the 64 bytes of places are
 unfoldable pub realAgrees : List ℕ → Realness → Bool
-realAgrees s ρ = agree (heldByte (drop 28 s) 32) 0 (map flag (ρ .regs)) && agree (heldByte (drop 60 s) 64) 0 (ρ .places)
+realAgrees s ρ = same (map flag (ρ .regs)) (take 32 (drop 28 s)) && same (ρ .places) (take 64 (drop 60 s))
 
--- whether both slices hold what was to be written, and are as lent past it
-unfoldable pub slicesAgree : List ℕ → List ℕ → List ℕ → Bool
-slicesAgree s listing constants =
-    agree (heldByte (drop (listingAt s) s) (written s)) 0 listing
-    && agree (heldWord (drop (constantsAt s) s) (count s)) 0 constants
+-- the slices that are expected: what was to be written, and past it what was lent
+unfoldable pub listingExpected : List ℕ → List ℕ
+listingExpected s = stored (lentBytes (room s)) 0 (take (written s) (drop (listingAt s) s))
+
+unfoldable pub constantsExpected : List ℕ → List ℕ
+constantsExpected s = stored (lentWords (tableLength s)) 0 (wordsOf (take (8 * count s) (drop (constantsAt s) s)))
 
 unfoldable pub expected : List ℕ → Answer → List ℕ → List ℕ → Bool
-expected s a listing constants = numbersAgree s a && (realAgrees s (a .real) && slicesAgree s listing constants)
+expected s a listing constants =
+    numbersAgree s a && (realAgrees s (a .real) && (same listing (listingExpected s) && same constants (constantsExpected s)))
 
 unfoldable pub differs : List ℕ → Bool
 differs s = not (expected s (answered s) (listingAfter s) (constantsAfter s))

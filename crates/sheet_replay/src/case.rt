@@ -2,18 +2,17 @@
 ghost use Prim.Native.Nat.{_^_, _<_, _≤_};
 ghost use mathlib.Core.Path.{_≡_};
 ghost use lib.ListN.{length};
-ghost use Rattle.sheet_replay.specs.Compare.{lentBytes, lentWords};
 ghost use Rattle.sheet_replay.specs.Case as Case;
-ghost use Rattle.sheet_replay.specs.Case.{Whole, cut, room, tableLength, answered, differs, expected, numbersAgree, realAgrees, slicesAgree};
-use crate::compare::LENT;
-use crate::compare::LENT_WORD;
-use crate::compare::bytes_agree;
+ghost use Rattle.sheet_replay.specs.Case.{Whole, Lent, cut, lentBytes, lentWords, answered, differs, expected, numbersAgree, realAgrees, listingExpected, constantsExpected};
 use crate::compare::flags_agree;
-use crate::compare::words_agree;
 use complexify::entry::Answer;
 use complexify::entry::lower;
 use lowering::realness::Realness;
 use replay::numbers::count_at;
+use replay::same::same_bytes;
+use replay::same::same_words;
+use words::load;
+use words::put_bytes;
 
 // Where the listing's bytes begin.
 fn listing_at(s: &[u8]) -> usize
@@ -74,29 +73,23 @@ fn real_agrees(s: &[u8], real: Realness) -> bool
     ensures { λ r. ⌜ r ≡ realAgrees (now (s .entry)) «real» ⌝ }
 {
     let regs = real.regs;
-    if !flags_agree(regs, &s[28..]) {
+    if !flags_agree(regs, &s[28..60]) {
         return false;
     }
     let places = real.places;
-    bytes_agree(&places, &s[60..], 64)
-}
-
-// Whether both slices are the expected ones.
-fn slices_agree(s: &[u8], listing: &[u8], constants: &[u64]) -> bool
-    requires { ⌜ Whole (now s) ⌝ }
-    ensures { λ r. ⌜ r ≡ slicesAgree (now (s .entry)) (now (listing .entry)) (now (constants .entry)) ⌝ }
-{
-    let at = listing_at(s);
-    if !bytes_agree(listing, &s[at..], count_at(s, 20)) {
-        return false;
-    }
-    let words = constants_at(s);
-    words_agree(constants, &s[words..], count_at(s, 24))
+    same_bytes(&places, &s[60..124])
 }
 
 // Whether an answer and both slices are the expected ones.
-fn agrees(s: &[u8], a: Answer, listing: &[u8], constants: &[u64]) -> bool
-    requires { ⌜ Whole (now s) ⌝ }
+fn agrees(
+    s: &[u8],
+    a: Answer,
+    listing: &[u8],
+    constants: &[u64],
+    bytes: &[u8],
+    words: &[u64],
+) -> bool
+    requires { ⌜ (124 ≤ length (now s)) × ((now bytes ≡ listingExpected (now s)) × (now words ≡ constantsExpected (now s))) ⌝ }
     ensures { λ r. ⌜ r ≡ expected (now (s .entry)) a (now (listing .entry)) (now (constants .entry)) ⌝ }
 {
     if !numbers_agree(s, a) {
@@ -105,7 +98,10 @@ fn agrees(s: &[u8], a: Answer, listing: &[u8], constants: &[u64]) -> bool
     if !real_agrees(s, a.real) {
         return false;
     }
-    slices_agree(s, listing, constants)
+    if !same_bytes(listing, bytes) {
+        return false;
+    }
+    same_words(constants, words)
 }
 
 // What lowering gave.
@@ -114,14 +110,24 @@ pub struct Outcome {
     pub differs: bool,
 }
 
-// Lowers the case's sheet, and compares what lowering gives with what the case expects.
-fn judge(s: &[u8], listing: &mut [u8], constants: &mut [u64]) -> Outcome
-    requires { ⌜ Whole (now s) × ((now listing ≡ lentBytes (room (now s))) × (now constants ≡ lentWords (tableLength (now s)))) ⌝ }
+// Lowers the case's sheet, and compares what lowering gives with what the case expects, which is made of the last two slices.
+fn judge(
+    s: &[u8],
+    listing: &mut [u8],
+    constants: &mut [u64],
+    bytes: &mut [u8],
+    words: &mut [u64],
+) -> Outcome
+    requires { ⌜ Whole (now s) × (Lent (now s) (now listing) (now constants) × Lent (now s) (now bytes) (now words)) ⌝ }
     ensures { λ r. ⌜ (r .number ≡ answered (now (s .entry)) .number) × (r .differs ≡ differs (now (s .entry))) ⌝ }
 {
-    let sheet_end = listing_at(s);
-    let a = lower(&s[124..sheet_end], listing, constants);
-    let agreed = agrees(s, a, listing, constants);
+    let at = listing_at(s);
+    let row = constants_at(s);
+    let stop = end(s);
+    put_bytes(bytes, 0, &s[at..row]);
+    load(words, &s[row..stop]);
+    let a = lower(&s[124..at], listing, constants);
+    let agreed = agrees(s, a, listing, constants, bytes, words);
     Outcome {
         number: a.number,
         differs: !agreed,
@@ -132,13 +138,13 @@ fn judge(s: &[u8], listing: &mut [u8], constants: &mut [u64]) -> Outcome
 fn all_bytes() -> [u8; 65537]
     ensures { λ r. ⌜ (r ≡ lentBytes 65537) × (65537 ≡ length r) ⌝ }
 {
-    [LENT; 65537]
+    [0xa5; 65537]
 }
 
 fn all_words() -> [u64; 257]
     ensures { λ r. ⌜ (r ≡ lentWords 257) × (257 ≡ length r) ⌝ }
 {
-    [LENT_WORD; 257]
+    [0xa5a5_a5a5_a5a5_a5a5; 257]
 }
 
 // Replays the case at the start of s.
@@ -148,7 +154,15 @@ pub(crate) fn replay_case(s: &[u8]) -> Outcome
 {
     let mut listing = all_bytes();
     let mut constants = all_words();
-    let bytes = count_at(s, 4);
-    let words = count_at(s, 8);
-    judge(s, &mut listing[..bytes], &mut constants[..words])
+    let mut bytes = all_bytes();
+    let mut words = all_words();
+    let n = count_at(s, 4);
+    let m = count_at(s, 8);
+    judge(
+        s,
+        &mut listing[..n],
+        &mut constants[..m],
+        &mut bytes[..n],
+        &mut words[..m],
+    )
 }

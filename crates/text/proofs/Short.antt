@@ -2,12 +2,13 @@
 -- fields fit their widths.
 use Prim.Native.Nat.{ℕ, zero, suc, _+_, _*_, _/_, _≤_, _<_}
 use mathlib.Core.Path.{_≡_, refl}
-use mathlib.Core.Bool.{Bool, true, false, cond}
-use mathlib.Core.List.{List}
+use Prim.Native.String.{String, [] as ε}
+use mathlib.Core.Bool.{Bool, true, false, cond, _&&_}
+use mathlib.Core.List.{List, [], _∷_}
 use native.Mathlib.Omega.{arith}
 use borrow.Author.Tests.{lt-ltb}
-use lib.Dec.{ltb, eqb, lit≤}
-use lib.ListN.{length, length-append}
+use lib.Dec.{T, ltb, leb, eqb, leb→le, lit≤}
+use lib.ListN.{length, getD, length-append}
 use Rattle.mir.specs.declared.ops.UniOp.{UniOp}
 use Rattle.mir.specs.declared.ops.BinOp.{BinOp}
 use Rattle.mir.specs.declared.ops.ArithOp.{ArithOp}
@@ -15,9 +16,11 @@ use Rattle.mir.specs.declared.ops.FusedOp.{FusedOp}
 use Rattle.mir.specs.declared.records.Loc.{Loc}
 use Rattle.mir.specs.declared.records.Work.{Work}
 use Rattle.mir.specs.declared.records.Record.{Record}
+use Rattle.mir.specs.Operation.{uniNumber, binNumber, arithNumber, fusedNumber}
 use Rattle.mir.specs.Encode.{recordOf, encodeWork, encode}
+use Rattle.mir.proofs.Tables.{and-left, and-right}
 use Rattle.text.specs.Sized.{SizedPlace, SizedWork, Sized}
-use Rattle.text.specs.Text.{ascii, decimalIn, decimal, hexIn, register, place, uniName, binName, fusedName, complexName, workText, recordText, recordLine, constantsHeading, constantLine, listingHeading, refusedLine}
+use Rattle.text.specs.Text.{ascii, decimalIn, decimal, hexIn, register, place, uniNames, uniName, binNames, binName, fusedNames, fusedName, complexNames, complexName, workText, recordText, recordLine, constantsHeading, constantLine, listingHeading, refusedLine}
 
 either : (b : Bool) (x y : List ℕ) (m : ℕ) → length x ≤ m → length y ≤ m → length (cond b x y) ≤ m
 either true x y m p q = p
@@ -70,60 +73,32 @@ place-short (Loc.Stack i) h = let d = index-short i h in omega arith
 place-short (Loc.Mem i) h = let d = index-short i h in omega arith
 place-short (Loc.Param i) h = let d = index-short i h in omega arith
 
+-- a table's names have at most 16 bytes: one test of the table
+abbrev all-short : List String → Bool
+all-short [] = true
+all-short (name ∷ names) = leb (length (ascii name)) 16 && all-short names
+
+name-short : (names : List String) → T (all-short names) → (n : ℕ) → length (ascii (getD names n ε)) ≤ 16
+unfolding ascii
+name-short [] t n = lit≤ tt
+name-short (name ∷ names) t zero = leb→le (length (ascii name)) 16 (and-left (leb (length (ascii name)) 16) (all-short names) t)
+name-short (name ∷ names) t (suc n) = name-short names (and-right (leb (length (ascii name)) 16) (all-short names) t) n
+
 uni-short : (op : UniOp) → length (uniName op) ≤ 16
 unfolding ascii uniName
-uni-short UniOp.Neg = lit≤ tt
-uni-short UniOp.Not = lit≤ tt
-uni-short UniOp.Abs = lit≤ tt
-uni-short UniOp.Root = lit≤ tt
-uni-short UniOp.RealRoot = lit≤ tt
-uni-short UniOp.Recip = lit≤ tt
-uni-short UniOp.Round = lit≤ tt
-uni-short UniOp.Floor = lit≤ tt
-uni-short UniOp.Ceiling = lit≤ tt
-uni-short UniOp.Trunc = lit≤ tt
-uni-short UniOp.Real = lit≤ tt
-uni-short UniOp.Imaginary = lit≤ tt
-uni-short UniOp.Conjugate = lit≤ tt
-uni-short UniOp.Half = lit≤ tt
-uni-short UniOp.IsZero = lit≤ tt
-uni-short UniOp.IsNotZero = lit≤ tt
-uni-short UniOp.Sign = lit≤ tt
-uni-short UniOp.Abs2 = lit≤ tt
-uni-short UniOp.TimesI = lit≤ tt
-uni-short UniOp.TimesNegI = lit≤ tt
+uni-short op = name-short uniNames tt (uniNumber op)
 
 bin-short : (op : BinOp) → length (binName op) ≤ 16
 unfolding ascii binName
-bin-short BinOp.Plus = lit≤ tt
-bin-short BinOp.Minus = lit≤ tt
-bin-short BinOp.Times = lit≤ tt
-bin-short BinOp.Divide = lit≤ tt
-bin-short BinOp.GreaterThan = lit≤ tt
-bin-short BinOp.GreaterThanEqual = lit≤ tt
-bin-short BinOp.LittleThan = lit≤ tt
-bin-short BinOp.LittleThanEqual = lit≤ tt
-bin-short BinOp.Equal = lit≤ tt
-bin-short BinOp.NotEqual = lit≤ tt
-bin-short BinOp.And = lit≤ tt
-bin-short BinOp.AndNot = lit≤ tt
-bin-short BinOp.Or = lit≤ tt
-bin-short BinOp.Xor = lit≤ tt
-bin-short BinOp.Complex = lit≤ tt
+bin-short op = name-short binNames tt (binNumber op)
 
 fused-short : (op : FusedOp) → length (fusedName op) ≤ 16
 unfolding ascii fusedName
-fused-short FusedOp.MulAdd = lit≤ tt
-fused-short FusedOp.MulSub = lit≤ tt
-fused-short FusedOp.NegMulAdd = lit≤ tt
-fused-short FusedOp.NegMulSub = lit≤ tt
+fused-short op = name-short fusedNames tt (fusedNumber op)
 
 complex-short : (op : ArithOp) → length (complexName op) ≤ 16
 unfolding ascii complexName
-complex-short ArithOp.Plus = lit≤ tt
-complex-short ArithOp.Minus = lit≤ tt
-complex-short ArithOp.Times = lit≤ tt
-complex-short ArithOp.Divide = lit≤ tt
+complex-short op = name-short complexNames tt (arithNumber op)
 
 work-short : (w : Work) → SizedWork w → length (workText w) + 1 ≤ 5 * length (encodeWork w)
 unfolding ascii workText recordOf

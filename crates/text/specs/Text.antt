@@ -4,12 +4,13 @@ use Prim.Native.String.{String, [] as ε, _∷_ as _∷ᶜ_}
 use Prim.Native.Char.{code}
 use mathlib.Core.Bool.{cond}
 use mathlib.Core.List.{List, [], _∷_, _++_}
-use lib.ListN.{length}
+use lib.ListN.{length, getD}
 use lib.Dec.{ltb, eqb}
 use Rattle.mir.specs.declared.ops.UniOp.{UniOp}
 use Rattle.mir.specs.declared.ops.BinOp.{BinOp}
 use Rattle.mir.specs.declared.ops.ArithOp.{ArithOp}
 use Rattle.mir.specs.declared.ops.FusedOp.{FusedOp}
+use Rattle.mir.specs.Operation.{uniNumber, binNumber, arithNumber, fusedNumber}
 use Rattle.mir.specs.declared.records.Loc.{Loc}
 use Rattle.mir.specs.declared.records.Work.{Work}
 use Rattle.mir.specs.declared.records.Record.{Record}
@@ -53,62 +54,39 @@ place (Loc.Stack i) = ascii "Stack" ++ space (decimal i)
 place (Loc.Mem i) = ascii "Mem" ++ space (decimal i)
 place (Loc.Param i) = ascii "Param" ++ space (decimal i)
 
--- "a kind with operations prints the operation alone"
+-- "a kind with operations prints the operation alone": the names in mir.rs, by number
+abbrev pub uniNames : List String
+uniNames =
+    "Neg" ∷ "Not" ∷ "Abs" ∷ "Root" ∷ "RealRoot" ∷ "Recip" ∷ "Round" ∷ "Floor" ∷ "Ceiling" ∷ "Trunc" ∷ "Real" ∷
+    "Imaginary" ∷ "Conjugate" ∷ "Half" ∷ "IsZero" ∷ "IsNotZero" ∷ "Sign" ∷ "Abs2" ∷ "TimesI" ∷ "TimesNegI" ∷ []
+
 unfoldable pub uniName : UniOp → List ℕ
 unfolding ascii
-uniName UniOp.Neg = ascii "Neg"
-uniName UniOp.Not = ascii "Not"
-uniName UniOp.Abs = ascii "Abs"
-uniName UniOp.Root = ascii "Root"
-uniName UniOp.RealRoot = ascii "RealRoot"
-uniName UniOp.Recip = ascii "Recip"
-uniName UniOp.Round = ascii "Round"
-uniName UniOp.Floor = ascii "Floor"
-uniName UniOp.Ceiling = ascii "Ceiling"
-uniName UniOp.Trunc = ascii "Trunc"
-uniName UniOp.Real = ascii "Real"
-uniName UniOp.Imaginary = ascii "Imaginary"
-uniName UniOp.Conjugate = ascii "Conjugate"
-uniName UniOp.Half = ascii "Half"
-uniName UniOp.IsZero = ascii "IsZero"
-uniName UniOp.IsNotZero = ascii "IsNotZero"
-uniName UniOp.Sign = ascii "Sign"
-uniName UniOp.Abs2 = ascii "Abs2"
-uniName UniOp.TimesI = ascii "TimesI"
-uniName UniOp.TimesNegI = ascii "TimesNegI"
+uniName op = ascii (getD uniNames (uniNumber op) ε)
+
+abbrev pub binNames : List String
+binNames =
+    "Plus" ∷ "Minus" ∷ "Times" ∷ "Divide" ∷ "GreaterThan" ∷ "GreaterThanEqual" ∷ "LittleThan" ∷ "LittleThanEqual" ∷
+    "Equal" ∷ "NotEqual" ∷ "And" ∷ "AndNot" ∷ "Or" ∷ "Xor" ∷ "Complex" ∷ []
 
 unfoldable pub binName : BinOp → List ℕ
 unfolding ascii
-binName BinOp.Plus = ascii "Plus"
-binName BinOp.Minus = ascii "Minus"
-binName BinOp.Times = ascii "Times"
-binName BinOp.Divide = ascii "Divide"
-binName BinOp.GreaterThan = ascii "GreaterThan"
-binName BinOp.GreaterThanEqual = ascii "GreaterThanEqual"
-binName BinOp.LittleThan = ascii "LittleThan"
-binName BinOp.LittleThanEqual = ascii "LittleThanEqual"
-binName BinOp.Equal = ascii "Equal"
-binName BinOp.NotEqual = ascii "NotEqual"
-binName BinOp.And = ascii "And"
-binName BinOp.AndNot = ascii "AndNot"
-binName BinOp.Or = ascii "Or"
-binName BinOp.Xor = ascii "Xor"
-binName BinOp.Complex = ascii "Complex"
+binName op = ascii (getD binNames (binNumber op) ε)
+
+abbrev pub fusedNames : List String
+fusedNames = "MulAdd" ∷ "MulSub" ∷ "NegMulAdd" ∷ "NegMulSub" ∷ []
 
 unfoldable pub fusedName : FusedOp → List ℕ
 unfolding ascii
-fusedName FusedOp.MulAdd = ascii "MulAdd"
-fusedName FusedOp.MulSub = ascii "MulSub"
-fusedName FusedOp.NegMulAdd = ascii "NegMulAdd"
-fusedName FusedOp.NegMulSub = ascii "NegMulSub"
+fusedName op = ascii (getD fusedNames (fusedNumber op) ε)
 
 -- "a ComplexBi with Complex added"
+abbrev pub complexNames : List String
+complexNames = "PlusComplex" ∷ "MinusComplex" ∷ "TimesComplex" ∷ "DivideComplex" ∷ []
+
 unfoldable pub complexName : ArithOp → List ℕ
 unfolding ascii
-complexName ArithOp.Plus = ascii "PlusComplex"
-complexName ArithOp.Minus = ascii "MinusComplex"
-complexName ArithOp.Times = ascii "TimesComplex"
-complexName ArithOp.Divide = ascii "DivideComplex"
+complexName op = ascii (getD complexNames (arithNumber op) ε)
 
 abbrev pub registers : List ℕ → List ℕ
 registers [] = []

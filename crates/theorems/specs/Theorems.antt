@@ -6,9 +6,9 @@ use Rattle.float.specs.Fused.{fusedMultiplyAdd}
 use Rattle.float.specs.Word.{root, ifElse}
 use Rattle.float.specs.Mends.{mended, EightMends, RootByMends}
 use Rattle.float.specs.Laws.{RootLaw, OneRoot, MulAddLaw, IfElseLaw}
-use Rattle.machine.specs.Count.{most, Bounds}
-use Rattle.machine.specs.Step.{PlaysBySteps}
-use Rattle.machine.specs.Reads.{reads, Confined}
+use Rattle.player_machine.specs.Count.{most, Bounds}
+use Rattle.player_machine.specs.Step.{PlaysBySteps}
+use Rattle.player_machine.specs.Draws.{draws, fills, Confined}
 use Rattle.lowering.specs.declared.realness.Realness.{Realness}
 use Rattle.leftovers.specs.Leftovers.{Leftover}
 use Rattle.leftovers.specs.Kept.{Kept, Parted}
@@ -28,8 +28,8 @@ pub record Theorems : Type 0 where
   pub bound : Bounds most
   -- the machine by steps plays as the machine does
   pub bySteps : PlaysBySteps most
-  -- a record depends on the words that it reads alone, and changes those that it writes alone
-  pub confined : Confined reads
+  -- a record depends on the words that it draws on alone, and writes those that it fills alone
+  pub confined : Confined draws fills
   -- Root goes to the nearest value, and there is one
   pub nearestRoot : RootLaw (squareRoot binary64)
   pub oneRoot : OneRoot

@@ -28,6 +28,11 @@ eight-bytes : (s : List ℕ) → number (take 8 s)
 eight-bytes s =
     omega (arith, number-at 7 0 s, number-at 6 1 s, number-at 5 2 s, number-at 4 3 s, number-at 3 4 s, number-at 2 5 s, number-at 1 6 s, number-at 0 7 s, number-none)
 
+-- the lower half of a word: its first four bytes
+pub low-half : (s : List ℕ) → ((i : ℕ) → getD s i 0 < 256) → number (take 8 s) % 4294967296 ≡ number (take 4 s)
+low-half s h =
+    omega (arith, eight-bytes s, number-at 3 0 s, number-at 2 1 s, number-at 1 2 s, number-at 0 3 s, number-none, h 0, h 1, h 2, h 3)
+
 -- the word of the first eight bytes, as one flat sum
 pub eight : (s : List ℕ) {a b c d e f g h : ℕ} → a ≡ getD s 0 0 → b ≡ getD s 1 0 → c ≡ getD s 2 0 → d ≡ getD s 3 0
     → e ≡ getD s 4 0 → f ≡ getD s 5 0 → g ≡ getD s 6 0 → h ≡ getD s 7 0
@@ -85,9 +90,9 @@ pub save-ended : (l ws : List ℕ) (i : ℕ) → length ws ≤ i → sets l (8 *
 unfolding bytesOf
 save-ended l ws i h = ap (λ x. sets l (8 * i) (bytesOf x)) (drop-of-length-le ws h)
 
-pub bytes-turn : (l s : List ℕ) (at i : ℕ) → i < length s
+pub turn : (l s : List ℕ) (at i : ℕ) → i < length s
     → sets l (at + i) (drop i s) ≡ sets (set l (at + i) (getD s i 0)) (at + (i + 1)) (drop (i + 1) s)
-bytes-turn l s at i h = rw (drop-cons s i 0 h, add-one i, add-suc at i)
+turn l s at i h = rw (drop-cons s i 0 h, add-one i, add-suc at i)
 
-pub bytes-ended : (l s : List ℕ) (at i : ℕ) → length s ≤ i → sets l (at + i) (drop i s) ≡ l
-bytes-ended l s at i h = rw (drop-of-length-le s h)
+pub ended : (l s : List ℕ) (at i : ℕ) → length s ≤ i → sets l (at + i) (drop i s) ≡ l
+ended l s at i h = rw (drop-of-length-le s h)

@@ -2,4 +2,4 @@ pub mod Lengths
 pub mod Copying
 pub mod RoundTrip
 pub mod Stored
-mod Padding
+pub mod Padding

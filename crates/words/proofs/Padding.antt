@@ -5,7 +5,8 @@ use mathlib.Core.List.{List, [], _∷_, _++_}
 use native.Mathlib.Omega.{arith}
 use lib.ListN.{length, take, drop, replicate, length-drop, drop-of-length-le}
 use lib.Seq.{sets, sets-eq, take-all, length-sets}
-use Rattle.words.specs.Bytes.{number, wordAt}
+use Rattle.words.specs.Bytes.{number, wordAt, stored}
+use Rattle.words.proofs.Stored.{stored-fits}
 
 number-zeros : (k n : ℕ) → number (drop k (replicate n 0)) ≡ 0
 unfolding number
@@ -20,11 +21,11 @@ number-append [] k n = number-zeros k n
 number-append (b ∷ s) k n = ap (λ x. b + 256 * x) (number-append s k n)
 
 -- at most eight bytes, put over eight zeros
-pub padded : (s : List ℕ) {t : List ℕ} {w : ℕ} → length s ≤ 8 → t ≡ sets (replicate 8 0) 0 s → w ≡ number (take 8 t) → w ≡ number (take 8 s)
+pub padded : (s : List ℕ) {t : List ℕ} {w : ℕ} → length s ≤ 8 → t ≡ stored (replicate 8 0) 0 s → w ≡ number (take 8 t) → w ≡ number (take 8 s)
 padded s {t} h e f =
     let p : sets (replicate 8 0) 0 s ≡ s ++ drop (0 + length s) (replicate 8 0) = sets-eq s (replicate 8 0) 0 (omega arith) in
     let n = length-sets (replicate 8 0) 0 s in
-    f ∙ ap (λ x. number (take 8 x)) e ∙ ap number (take-all 8 (sets (replicate 8 0) 0 s) (omega (arith, n)) ∙ p)
+    f ∙ ap (λ x. number (take 8 x)) (e ∙ stored-fits (replicate 8 0) 0 s (omega arith)) ∙ ap number (take-all 8 (sets (replicate 8 0) 0 s) (omega (arith, n)) ∙ p)
     ∙ number-append s (0 + length s) 8
     ∙ sym (ap number (take-all 8 s h))
 

@@ -41,7 +41,7 @@ fn short_word(s: &[u8]) -> u64
     ensures { λ r. ⌜ r ≡ number (take 8 (now (s .entry))) ⌝ }
 {
     let mut eight = [0u8; 8];
-    copy(&mut eight, 0, s);
+    put_bytes(&mut eight, 0, s);
     first_word(&eight)
 }
 
@@ -96,17 +96,6 @@ fn write_word(out: &mut [u8], at: usize, word: u64)
     }
 }
 
-// A word as the eight bytes from at on, where they fit.
-pub fn put_word(out: &mut [u8], at: usize, word: u64)
-    ensures { λ r. ⌜ now (out .exit) ≡ stored (now (out .entry)) at (bytes 8 word) ⌝ }
-{
-    if at <= out.len() {
-        if 8 <= out.len() - at {
-            write_word(out, at, word);
-        }
-    }
-}
-
 // The words of a table as bytes, stored from the start of a slice.
 fn save_words(out: &mut [u8], table: &[u64])
     requires { ⌜ 8 * length (now table) ≤ length (now out) ⌝ }
@@ -129,11 +118,16 @@ pub fn save(out: &mut [u8], table: &[u64])
     }
 }
 
-// Bytes stored from at on.
-fn copy(out: &mut [u8], at: usize, s: &[u8])
-    requires { ⌜ at + length (now s) ≤ length (now out) ⌝ }
-    ensures { λ r. ⌜ now (out .exit) ≡ sets (now (out .entry)) at (now (s .entry)) ⌝ }
+// Bytes stored from at on, where they fit.
+pub fn put_bytes(out: &mut [u8], at: usize, s: &[u8])
+    ensures { λ r. ⌜ now (out .exit) ≡ stored (now (out .entry)) at (now (s .entry)) ⌝ }
 {
+    if out.len() < s.len() {
+        return;
+    }
+    if out.len() - s.len() < at {
+        return;
+    }
     let mut i: usize = 0;
     while i < s.len() {
         out[at + i] = s[i];
@@ -141,13 +135,19 @@ fn copy(out: &mut [u8], at: usize, s: &[u8])
     }
 }
 
-// Bytes stored from at on, where they fit.
-pub fn put_bytes(out: &mut [u8], at: usize, s: &[u8])
+// Words stored from at on, where they fit.
+pub fn put_words(out: &mut [u64], at: usize, s: &[u64])
     ensures { λ r. ⌜ now (out .exit) ≡ stored (now (out .entry)) at (now (s .entry)) ⌝ }
 {
-    if at <= out.len() {
-        if s.len() <= out.len() - at {
-            copy(out, at, s);
-        }
+    if out.len() < s.len() {
+        return;
+    }
+    if out.len() - s.len() < at {
+        return;
+    }
+    let mut i: usize = 0;
+    while i < s.len() {
+        out[at + i] = s[i];
+        i += 1;
     }
 }

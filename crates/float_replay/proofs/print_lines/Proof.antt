@@ -17,8 +17,6 @@ print-lines-spec =
     Inv-loop
     μ-loop
     (λ c. tt)
-    (λ c κs. omega arith)
-    (λ c. omega arith)
-    (λ c. omega arith)
+    (λ c κs. omega arith) (λ c. omega arith) (λ c. omega arith)
     (λ c. tt)
     (λ c. tt))

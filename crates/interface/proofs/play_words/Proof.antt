@@ -2,7 +2,7 @@
 use borrow.Author.Needs.{needs}
 use mathlib.Core.Path.{sym, ap, _∙_}
 use lib.Seq.{length-take-le}
-use Rattle.machine.specs.Answer.{answer}
+use Rattle.player_machine.specs.Answer.{answer}
 use Rattle.words.proofs.Stored.{loaded}
 use Rattle.interface.proofs.Playing.{too-many}
 use Rattle.interface.proofs.play_words.Statement.{statement}

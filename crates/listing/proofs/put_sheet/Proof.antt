@@ -14,11 +14,7 @@ pub put-sheet-spec : {M : Type 1} → statement M
 put-sheet-spec =
     tie.close
     (tie.spec
-    (λ c. search needs)
-    (λ c. search needs)
-    (λ c κs. search needs)
-    (λ c. search needs)
-    (λ c. search needs)
+    (λ c. search needs) (λ c. search needs) (λ c κs. search needs) (λ c. search needs) (λ c. search needs)
     (λ c κs.
     let l = c .before .before .before .before .before .lower in
     let h = l .kept .1 .0 ∙ length-replicate {A = ℕ} 65536 0 in

@@ -10,8 +10,7 @@ pub put-text-spec : {M : Type 1} → statement M
 put-text-spec =
     tie.close
     (tie.spec
-    (λ c. search needs)
-    (λ c κs. search needs)
+    (λ c. search needs) (λ c κs. search needs)
     (λ c κs.
     let p = c .refused-line .ensures in
     let f = p .whole .fits in
@@ -20,14 +19,8 @@ put-text-spec =
     (λ c.
     let a = c .before .before .before .before .before .before .before .before .before .before .before .args in
     renamed (refused-text (a .a) (a .constants .now) (a .listing .now) (c .before .before .before .before .before .before .if1 .taken)) (printing (c .before .before .before .refused-line .ensures) (c .before .before .put-line .ensures)))
-    (λ c. search needs)
-    (λ c. search needs)
-    (λ c. search needs)
-    (λ c. search needs)
-    (λ c. search needs)
-    (λ c. search needs)
-    (λ c κs. search needs)
-    (λ c. search needs)
+    (λ c. search needs) (λ c. search needs) (λ c. search needs) (λ c. search needs) (λ c. search needs) (λ c. search needs)
+    (λ c κs. search needs) (λ c. search needs)
     (λ c.
     let a = c .before .before .before .before .before .before .before .before .before .before .before .args in
     renamed (accepted-text (a .a) (a .constants .now) (a .listing .now) (c .before .before .before .before .before .before .if1 .left)) (c .before .before .put-page .ensures)))

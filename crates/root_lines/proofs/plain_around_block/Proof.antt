@@ -10,10 +10,5 @@ unfolding rootBlock plainRootMagnitude
 plain-around-block-spec =
     tie.close
     (tie.spec
-    (λ c κs. search needs)
-    (λ c κs. search needs)
-    (λ c κs. search needs)
-    (λ c κs. search needs)
-    (λ c κs. search needs)
-    (λ c. search needs)
+    (λ c κs. search needs) (λ c κs. search needs) (λ c κs. search needs) (λ c κs. search needs) (λ c κs. search needs) (λ c. search needs)
     (λ c. c .before .before .before .before .before .before .before .before .before .before .before .before .before .before .before .before .before .before .branch .ensures ▹ c .before .before .before .before .before .before .before .before .before .before .before .before .before .before .label .ensures ▹ c .before .before .before .before .before .before .before .before .before .before .plain-root-block .ensures ▹ c .before .before .before .before .before .before .branch2 .ensures ▹ c .before .before .label2 .ensures))

@@ -10,10 +10,5 @@ unfolding rootBlock stableRootMagnitude stableExponent
 stable-around-block-spec =
     tie.close
     (tie.spec
-    (λ c κs. search needs)
-    (λ c κs. search needs)
-    (λ c κs. search needs)
-    (λ c κs. search needs)
-    (λ c κs. search needs)
-    (λ c. search needs)
+    (λ c κs. search needs) (λ c κs. search needs) (λ c κs. search needs) (λ c κs. search needs) (λ c κs. search needs) (λ c. search needs)
     (λ c. c .before .before .before .before .before .before .before .before .before .before .before .before .before .before .before .before .before .before .branch .ensures ▹ c .before .before .before .before .before .before .before .before .before .before .before .before .before .before .label .ensures ▹ c .before .before .before .before .before .before .before .before .before .before .stable-root-block .ensures ▹ c .before .before .before .before .before .before .branch2 .ensures ▹ c .before .before .label2 .ensures))

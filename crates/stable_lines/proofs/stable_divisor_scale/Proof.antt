@@ -10,9 +10,5 @@ unfolding stableDivisorScale stableExponent
 stable-divisor-scale-spec =
     tie.close
     (tie.spec
-    (λ c κs. search needs)
-    (λ c κs. search needs)
-    (λ c κs. search needs)
-    (λ c κs. search needs)
-    (λ c. search needs)
+    (λ c κs. search needs) (λ c κs. search needs) (λ c κs. search needs) (λ c κs. search needs) (λ c. search needs)
     (λ c. c .before .before .before .before .before .before .before .before .before .before .before .before .before .before .stable-exponent .ensures ▹ c .before .before .before .before .before .before .before .before .before .before .bi .ensures ▹ c .before .before .before .before .before .before .load-const .ensures ▹ c .before .before .bi2 .ensures))

@@ -3,9 +3,9 @@ use Rattle.float.proofs.Right.{root-nearest, mul-add-exact, if-else-bit}
 use Rattle.float.proofs.OneRoot.{one-root}
 use Rattle.float.proofs.Heron.{eight-mends}
 use Rattle.float.proofs.ByMends.{root-by-mends}
-use Rattle.machine.proofs.Bound.{answer-bound}
-use Rattle.machine.proofs.Stepping.{by-steps}
-use Rattle.machine.proofs.Reading.{confined}
+use Rattle.player_machine.proofs.Bound.{answer-bound}
+use Rattle.player_machine.proofs.Stepping.{by-steps}
+use Rattle.player_machine.proofs.Drawing.{confined}
 use Rattle.leftovers.proofs.Words.{parted}
 use Rattle.leftovers.proofs.Examples.{needed, met}
 use Rattle.entries.proofs.Demand.{entries-demand-3}

@@ -13,7 +13,6 @@ unfolding wordsOf
 load-spec =
     tie.close
     (tie.spec
-    (λ c κs. search needs)
-    (λ c. search needs)
+    (λ c κs. search needs) (λ c. search needs)
     (λ c. let a = c .before .before .before .before .before .before .before .args in c .before .before .load-words .ensures ∙ sym (stored-fits (a .table .now) 0 (wordsOf (a .s .now)) (omega (arith, length-wordsOf (a .s .now)))))
     (λ c. let a = c .before .before .before .args in sym (stored-full (a .table .now) 0 (wordsOf (a .s .now)) (omega (arith, length-wordsOf (a .s .now))))))

@@ -18,39 +18,16 @@ Inv-loop table₀ s n i₀ table i =
 abbrev μ-loop : tie.MeasureT-loop
 μ-loop table₀ s n i₀ table i = n - i
 
-loop-holds : tie.Need-loop-holds Inv-loop μ-loop
-loop-holds c = (search needs, search needs, simp sub-zero)
-
-mul-at : tie.Need-mul-at Inv-loop μ-loop
-mul-at c = search needs
-
-sub-first-word : tie.Need-sub-first-word Inv-loop μ-loop
-sub-first-word c = search needs
-
-part-first-word-start : tie.Need-part-first-word-start Inv-loop μ-loop
-part-first-word-start c = search needs
-
-part-first-word-end : tie.Need-part-first-word-end Inv-loop μ-loop
-part-first-word-end c = search needs
-
-first-word-requires : tie.Need-first-word-requires Inv-loop μ-loop
-first-word-requires c κs = search needs
-
-mul-table : tie.Need-mul-table Inv-loop μ-loop
-mul-table c = search needs
-
-slice-write-table : tie.Need-slice-write-table Inv-loop μ-loop
-slice-write-table c = search needs
-
-add-i : tie.Need-add-i Inv-loop μ-loop
-add-i c = search needs
-
-loop-less : tie.Need-loop-less Inv-loop μ-loop
-loop-less c = search needs
-
-loop-again : tie.Need-loop-again Inv-loop μ-loop
-loop-again c =
-    let a = c .before .before .before .before .before .before .args in
+pub load-words-spec : {M : Type 1} → statement M
+load-words-spec =
+    tie.close
+    (tie.spec
+    Inv-loop
+    μ-loop
+    (λ c. (search needs, search needs, simp sub-zero))
+    (λ c. search needs) (λ c. search needs) (λ c. search needs) (λ c. search needs) (λ c κs. search needs) (λ c. search needs)
+    (λ c. search needs) (λ c. search needs) (λ c. search needs)
+    (λ c. let a = c .before .before .before .before .before .before .args in
     let l = c .before .before .before .loop in
     let w : c .first-word .result ≡ number (take 8 (drop (8 * l .i) (a .s .now))) =
     c .first-word .ensures ∙ ap number (first-eight (a .s .now) (8 * l .i) (omega arith)) in (
@@ -59,33 +36,8 @@ loop-again c =
       ap (λ x. sets (set (l .table) (l .i) x) (l .i + 1) (words (a .n - (l .i + 1)) (drop (8 * (l .i + 1)) (a .s .now)))) w
           ∙ sym (load-turn (l .table) (a .s .now) (a .n) (l .i) (omega arith))
           ∙ l .inv .2,
-    )
-
-same-length : tie.Need-same-length Inv-loop μ-loop
-same-length c = search needs
-
-returns : tie.Need-returns Inv-loop μ-loop
-returns c =
-    let a = c .before .before .before .before .args in
+    ))
+    (λ c. search needs)
+    (λ c. let a = c .before .before .before .before .args in
     let l = c .before .loop in
-    sym (load-ended (l .table) (a .s .now) (a .n) (l .i) (omega arith)) ∙ l .inv .2
-
-pub load-words-spec : {M : Type 1} → statement M
-load-words-spec =
-    tie.close
-    (tie.spec
-    Inv-loop
-    μ-loop
-    loop-holds
-    mul-at
-    sub-first-word
-    part-first-word-start
-    part-first-word-end
-    first-word-requires
-    mul-table
-    slice-write-table
-    add-i
-    loop-less
-    loop-again
-    same-length
-    returns)
+    sym (load-ended (l .table) (a .s .now) (a .n) (l .i) (omega arith)) ∙ l .inv .2))

@@ -12,7 +12,6 @@ pub save-spec : {M : Type 1} → statement M
 save-spec =
     tie.close
     (tie.spec
-    (λ c κs. search needs)
-    (λ c. search needs)
+    (λ c κs. search needs) (λ c. search needs)
     (λ c. let a = c .before .before .before .before .before .before .before .args in c .before .before .save-words .ensures ∙ sym (stored-fits (a .out .now) 0 (bytesOf (a .table .now)) (omega (arith, length-bytesOf (a .table .now)))))
     (λ c. let a = c .before .before .before .args in sym (stored-full (a .out .now) 0 (bytesOf (a .table .now)) (omega (arith, length-bytesOf (a .table .now))))))

@@ -17,30 +17,15 @@ Inv-loop out₀ table i₀ out i =
 abbrev μ-loop : tie.MeasureT-loop
 μ-loop out₀ table i₀ out i = length table - i
 
-loop-holds : tie.Need-loop-holds Inv-loop μ-loop
-loop-holds c = search needs
-
-mul-at : tie.Need-mul-at Inv-loop μ-loop
-mul-at c = search needs
-
-mul-write-word : tie.Need-mul-write-word Inv-loop μ-loop
-mul-write-word c = search needs
-
-shared-slice-read-write-word : tie.Need-shared-slice-read-write-word Inv-loop μ-loop
-shared-slice-read-write-word c = search needs
-
-write-word-requires : tie.Need-write-word-requires Inv-loop μ-loop
-write-word-requires c κs = search needs
-
-add-i : tie.Need-add-i Inv-loop μ-loop
-add-i c = search needs
-
-loop-less : tie.Need-loop-less Inv-loop μ-loop
-loop-less c = search needs
-
-loop-again : tie.Need-loop-again Inv-loop μ-loop
-loop-again c =
-    let a = c .before .before .before .before .before .before .before .before .before .args in
+pub save-words-spec : {M : Type 1} → statement M
+save-words-spec =
+    tie.close
+    (tie.spec
+    Inv-loop
+    μ-loop
+    (λ c. search needs) (λ c. search needs) (λ c. search needs) (λ c. search needs) (λ c κs. search needs) (λ c. search needs)
+    (λ c. search needs)
+    (λ c. let a = c .before .before .before .before .before .before .before .before .before .args in
     let l = c .before .before .before .before .before .before .loop in
     let p = c .before .before .write-word .ensures in (
       search needs,
@@ -48,29 +33,7 @@ loop-again c =
       ap (λ x. sets x (8 * (l .i + 1)) (bytesOf (drop (l .i + 1) (a .table .now)))) p
           ∙ sym (save-turn (l .out) (a .table .now) (l .i) (omega arith))
           ∙ l .inv .2,
-    )
-
-same-length : tie.Need-same-length Inv-loop μ-loop
-same-length c = search needs
-
-returns : tie.Need-returns Inv-loop μ-loop
-returns c =
-    let l = c .before .loop in
-    sym (save-ended (l .out) (c .before .before .before .before .args .table .now) (l .i) (omega arith)) ∙ l .inv .2
-
-pub save-words-spec : {M : Type 1} → statement M
-save-words-spec =
-    tie.close
-    (tie.spec
-    Inv-loop
-    μ-loop
-    loop-holds
-    mul-at
-    mul-write-word
-    shared-slice-read-write-word
-    write-word-requires
-    add-i
-    loop-less
-    loop-again
-    same-length
-    returns)
+    ))
+    (λ c. search needs)
+    (λ c. let l = c .before .loop in
+    sym (save-ended (l .out) (c .before .before .before .before .args .table .now) (l .i) (omega arith)) ∙ l .inv .2))

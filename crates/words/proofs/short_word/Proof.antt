@@ -8,8 +8,5 @@ pub short-word-spec : {M : Type 1} → statement M
 short-word-spec =
     tie.close
     (tie.spec
-    (λ c. search needs)
-    (λ c κs. search needs)
-    (λ c. search needs)
-    (λ c κs. search needs)
-    (λ c. padded (c .before .before .before .before .before .before .args .s .now) (search needs) (c .before .before .before .copy .ensures) (c .first-word .ensures)))
+    (λ c. search needs) (λ c κs. search needs) (λ c. search needs) (λ c κs. search needs)
+    (λ c. padded (c .before .before .before .before .before .before .args .s .now) (search needs) (c .before .before .before .put-bytes .ensures) (c .first-word .ensures)))

@@ -11,10 +11,7 @@ word-at-spec =
     tie.close
     (tie.spec
     (λ c. let a = c .before .before .args in sym (past (a .s .now) (a .at) (omega arith)))
-    (λ c. search needs)
-    (λ c. search needs)
-    (λ c. search needs)
-    (λ c κs. search needs)
+    (λ c. search needs) (λ c. search needs) (λ c. search needs) (λ c κs. search needs)
     (λ c. let a = c .before .before .before .before .before .args in from (a .s .now) (a .at) (c .short-word .ensures))
     (λ c κs. search needs)
     (λ c. let a = c .before .before .before .before .before .args in from (a .s .now) (a .at) (c .first-word .ensures)))

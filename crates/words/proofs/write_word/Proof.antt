@@ -18,50 +18,17 @@ Inv-loop out₀ at word rest₀ i₀ out rest i =
 abbrev μ-loop : tie.MeasureT-loop
 μ-loop out₀ at word rest₀ i₀ out rest i = 8 - i
 
-loop-holds : tie.Need-loop-holds Inv-loop μ-loop
-loop-holds c = (search needs, search needs, simp add-zero)
-
-cast-out : tie.Need-cast-out Inv-loop μ-loop
-cast-out c = search needs
-
-add-out : tie.Need-add-out Inv-loop μ-loop
-add-out c = search needs
-
-slice-write-out : tie.Need-slice-write-out Inv-loop μ-loop
-slice-write-out c = search needs
-
-add-i : tie.Need-add-i Inv-loop μ-loop
-add-i c = search needs
-
-loop-less : tie.Need-loop-less Inv-loop μ-loop
-loop-less c = search needs
-
-loop-again : tie.Need-loop-again Inv-loop μ-loop
-loop-again c =
-    let a = c .before .before .args in
-    let l = c .before .loop in
-    (search needs, simp length-set (search needs), sym (put-turn (l .out) (a .at) (l .i) (l .rest) (omega arith)) ∙ l .inv .2)
-
-same-length : tie.Need-same-length Inv-loop μ-loop
-same-length c = search needs
-
-returns : tie.Need-returns Inv-loop μ-loop
-returns c =
-    let l = c .before .loop in
-    sym (put-ended (l .out) (c .before .before .args .at) (l .i) (l .rest) (omega arith)) ∙ l .inv .2
-
 pub write-word-spec : {M : Type 1} → statement M
 write-word-spec =
     tie.close
     (tie.spec
     Inv-loop
     μ-loop
-    loop-holds
-    cast-out
-    add-out
-    slice-write-out
-    add-i
-    loop-less
-    loop-again
-    same-length
-    returns)
+    (λ c. (search needs, search needs, simp add-zero))
+    (λ c. search needs) (λ c. search needs) (λ c. search needs) (λ c. search needs) (λ c. search needs)
+    (λ c. let a = c .before .before .args in
+    let l = c .before .loop in
+    (search needs, simp length-set (search needs), sym (put-turn (l .out) (a .at) (l .i) (l .rest) (omega arith)) ∙ l .inv .2))
+    (λ c. search needs)
+    (λ c. let l = c .before .loop in
+    sym (put-ended (l .out) (c .before .before .args .at) (l .i) (l .rest) (omega arith)) ∙ l .inv .2))

@@ -8,7 +8,8 @@ use lib.ListN.{length, drop, set}
 use lib.Seq.{sets}
 use Rattle.sheet.specs.Setup.{constantAt, constantsOf}
 use Rattle.sheet.proofs.Setting.{length-constants}
-use Rattle.complexify.proofs.Copies.{nth, stored, ended}
+use Rattle.words.proofs.Copying.{ended}
+use Rattle.complexify.proofs.Copies.{nth, stored}
 use Rattle.complexify.proofs.copying.copy_constants.Statement.{statement}
 use Rattle.complexify.proofs.copying.copy_constants.Tie as tie
 
@@ -28,11 +29,7 @@ copy-constants-spec =
     Inv-loop
     μ-loop
     (λ c. (search needs, search needs, simp zero-add))
-    (λ c κs. search needs)
-    (λ c. search needs)
-    (λ c. search needs)
-    (λ c. search needs)
-    (λ c. search needs)
+    (λ c κs. search needs) (λ c. search needs) (λ c. search needs) (λ c. search needs) (λ c. search needs)
     (λ c. let a = c .before .before .before .before .before .args in let l = c .before .before .loop in let b = constantsOf (a .sheet .now) (a .count) in let n = length-constants (a .sheet .now) (a .count) 0 in let v = c .constant-at .ensures ∙ ap (constantAt (a .sheet .now)) (sym (zero-add (l .i))) ∙ sym (nth (a .sheet .now) (a .count) 0 (l .i) (omega arith)) in (search needs, search needs, stored (l .constants) b (l .i) v (omega (arith, n)) ∙ l .inv .2))
     (λ c. search needs)
     (λ c. let a = c .before .before .before .before .args in let l = c .before .loop in let n = length-constants (a .sheet .now) (a .count) 0 in sym (ended (l .constants) (constantsOf (a .sheet .now) (a .count)) 0 (l .i) (omega (arith, n))) ∙ l .inv .2))

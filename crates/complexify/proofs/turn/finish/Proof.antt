@@ -22,6 +22,5 @@ finish-spec =
     (λ c. let f = c .before .before .before .before .before .before .before .before .before .before .before .before .pre in f .few)
     (λ c. let f = c .before .before .before .before .before .before .before .before .before .before .before .before .before .pre in let l : length (take (c .before .before .before .before .before .before .before .before .before .before .before .before .before .args .t .added .count) (c .before .before .before .before .before .before .before .before .before .before .before .before .before .args .t .added .words)) ≡ c .before .before .before .before .before .before .before .before .before .before .before .before .before .args .t .added .count = simp length-take (omega (arith, f .few)) in sym l)
     (λ c κs. let f = c .before .before .before .before .before .before .before .before .before .before .before .before .before .before .pre in let l : length (take (c .before .before .before .before .before .before .before .before .before .before .before .before .before .before .args .t .added .count) (c .before .before .before .before .before .before .before .before .before .before .before .before .before .before .args .t .added .words)) ≡ c .before .before .before .before .before .before .before .before .before .before .before .before .before .before .args .t .added .count = simp length-take (omega (arith, f .few)) in omega (arith, f .count, f .words, l))
-    (λ c. search needs)
-    (λ c. search needs)
+    (λ c. search needs) (λ c. search needs)
     (λ c. copied (c .before .before .before .before .before .before .before .before .before .before .if1 .left) refl (c .before .before .before .before .before .before .before .before .copy-bytes .ensures) (c .before .before .copy-words .ensures)))

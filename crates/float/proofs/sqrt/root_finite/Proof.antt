@@ -81,8 +81,7 @@ root-finite-spec =
     (tie.spec
     (λ c κs. search needs)
     odd-digit-requires
-    (λ c. search needs)
-    (λ c. search needs)
+    (λ c. search needs) (λ c. search needs)
     rounded-root-requires
     (λ c κs. search needs)
     (λ c. omega (arith, both c .0))

@@ -13,11 +13,7 @@ differs-spec =
     (tie.spec
     (λ c. search needs)
     (λ c. simp (le-ltb _ 29 (c .if1 .taken)))
-    (λ c κs. search needs)
-    (λ c κs. search needs)
-    (λ c κs. search needs)
-    (λ c κs. search needs)
-    (λ c κs. search needs)
+    (λ c κs. search needs) (λ c κs. search needs) (λ c κs. search needs) (λ c κs. search needs) (λ c κs. search needs)
     (λ c κs. search needs)
     (λ c.
     let at-word4 = c .before .before in

@@ -10,10 +10,6 @@ unfolding tallied
 tally-spec =
     tie.close
     (tie.spec
-    (λ c. search needs)
-    (λ c κs. search needs)
-    (λ c. search needs)
-    (λ c. search needs)
-    (λ c κs. search needs)
+    (λ c. search needs) (λ c κs. search needs) (λ c. search needs) (λ c. search needs) (λ c κs. search needs)
     (λ c. simp (c .before .before .if1 .taken, c .raise2 .ensures, c .before .before .before .raise .ensures))
     (λ c. simp (c .if1 .left, c .before .raise .ensures)))

@@ -9,7 +9,7 @@ use native.Mathlib.Omega.{arith}
 use lib.ListN.{length, drop, set, length-set, length-map, List·getD-map}
 use lib.Seq.{sets}
 use Rattle.interface.specs.Calls.{flag}
-use Rattle.words.proofs.Copying.{bytes-turn, bytes-ended}
+use Rattle.words.proofs.Copying.{turn, ended}
 use Rattle.interface.proofs.flags.put_flags.Statement.{statement}
 use Rattle.interface.proofs.flags.put_flags.Tie as tie
 
@@ -54,7 +54,7 @@ loop-again c =
       search needs,
       simp length-set (search needs),
       ap (λ x. sets (set (l .out) (a .at + l .i) x) (a .at + (l .i + 1)) (drop (l .i + 1) (map flag (a .t3)))) f
-          ∙ sym (bytes-turn (l .out) (map flag (a .t3)) (a .at) (l .i) (omega arith))
+          ∙ sym (turn (l .out) (map flag (a .t3)) (a .at) (l .i) (omega arith))
           ∙ l .inv .3,
     )
 
@@ -66,7 +66,7 @@ returns c =
     let a = c .before .before .before .args in
     let l = c .before .loop in
     let m = length-map (a .t3) flag in
-    sym (bytes-ended (l .out) (map flag (a .t3)) (a .at) (l .i) (omega arith)) ∙ l .inv .3
+    sym (ended (l .out) (map flag (a .t3)) (a .at) (l .i) (omega arith)) ∙ l .inv .3
 
 pub put-flags-spec : {M : Type 1} → statement M
 put-flags-spec =

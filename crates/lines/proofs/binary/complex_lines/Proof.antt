@@ -10,7 +10,5 @@ unfolding complexLines
 complex-lines-spec =
     tie.close
     (tie.spec
-    (λ c κs. search needs)
-    (λ c κs. search needs)
-    (λ c. search needs)
+    (λ c κs. search needs) (λ c κs. search needs) (λ c. search needs)
     (λ c. c .before .before .before .before .before .before .mov .ensures ▹ c .before .before .mov2 .ensures))

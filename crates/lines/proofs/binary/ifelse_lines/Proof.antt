@@ -10,7 +10,5 @@ unfolding ifelseLines
 ifelse-lines-spec =
     tie.close
     (tie.spec
-    (λ c κs. search needs)
-    (λ c κs. search needs)
-    (λ c. search needs)
+    (λ c κs. search needs) (λ c κs. search needs) (λ c. search needs)
     (λ c. c .before .before .before .before .before .before .if-else .ensures ▹ c .before .before .if-else2 .ensures))

@@ -10,17 +10,11 @@ unfolding timesLines
 times-lines-spec =
     tie.close
     (tie.spec
-    (λ c κs. search needs)
-    (λ c. search needs)
+    (λ c κs. search needs) (λ c. search needs)
     (λ c. simp (c .before .before .before .before .before .if1 .taken, c .before .before .before .before .if2 .taken) (c .before .before .bi .ensures))
-    (λ c κs. search needs)
-    (λ c κs. search needs)
-    (λ c. search needs)
+    (λ c κs. search needs) (λ c κs. search needs) (λ c. search needs)
     (λ c. simp (c .before .before .before .before .before .before .before .before .before .if1 .taken, c .before .before .before .before .before .before .before .before .if2 .left) (c .before .before .before .before .before .before .bi2 .ensures ▹ c .before .before .bi3 .ensures))
-    (λ c κs. search needs)
-    (λ c κs. search needs)
-    (λ c. search needs)
+    (λ c κs. search needs) (λ c κs. search needs) (λ c. search needs)
     (λ c. simp (c .before .before .before .before .before .before .before .before .before .if1 .left, c .before .before .before .before .before .before .before .before .if3 .taken) (c .before .before .before .before .before .before .bi4 .ensures ▹ c .before .before .bi5 .ensures))
-    (λ c κs. search needs)
-    (λ c. search needs)
+    (λ c κs. search needs) (λ c. search needs)
     (λ c. simp (c .before .before .before .before .before .if1 .left, c .before .before .before .before .if3 .left) (c .before .before .complex-bi .ensures)))

@@ -8,12 +8,6 @@ pub complex-bi-spec : {M : Type 1} → statement M
 complex-bi-spec =
     tie.close
     (tie.spec
-    (λ c κs. search needs)
-    (λ c κs. search needs)
-    (λ c κs. search needs)
-    (λ c κs. search needs)
-    (λ c κs. search needs)
-    (λ c κs. search needs)
-    (λ c κs. search needs)
-    (λ c. search needs)
+    (λ c κs. search needs) (λ c κs. search needs) (λ c κs. search needs) (λ c κs. search needs) (λ c κs. search needs)
+    (λ c κs. search needs) (λ c κs. search needs) (λ c. search needs)
     (λ c. record { same = c .before .before .push-complex-bi .ensures ∙ simp (c .before .before .before .before .before .before .before .before .before .re .ensures, c .before .before .before .before .before .before .before .before .im .ensures, c .before .before .before .before .before .before .before .re2 .ensures, c .before .before .before .before .before .before .im2 .ensures, c .before .before .before .before .before .re3 .ensures, c .before .before .before .before .im3 .ensures) }))

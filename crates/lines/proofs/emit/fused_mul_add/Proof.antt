@@ -8,10 +8,5 @@ pub fused-mul-add-spec : {M : Type 1} → statement M
 fused-mul-add-spec =
     tie.close
     (tie.spec
-    (λ c κs. search needs)
-    (λ c κs. search needs)
-    (λ c κs. search needs)
-    (λ c κs. search needs)
-    (λ c κs. search needs)
-    (λ c. search needs)
+    (λ c κs. search needs) (λ c κs. search needs) (λ c κs. search needs) (λ c κs. search needs) (λ c κs. search needs) (λ c. search needs)
     (λ c. record { same = c .before .before .push-fused .ensures ∙ simp (c .before .before .before .before .before .before .before .number .ensures, c .before .before .before .before .before .before .number2 .ensures, c .before .before .before .before .before .number3 .ensures, c .before .before .before .before .number4 .ensures) }))

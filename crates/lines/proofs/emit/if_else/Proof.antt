@@ -8,9 +8,5 @@ pub if-else-spec : {M : Type 1} → statement M
 if-else-spec =
     tie.close
     (tie.spec
-    (λ c κs. search needs)
-    (λ c κs. search needs)
-    (λ c κs. search needs)
-    (λ c κs. search needs)
-    (λ c. search needs)
+    (λ c κs. search needs) (λ c κs. search needs) (λ c κs. search needs) (λ c κs. search needs) (λ c. search needs)
     (λ c. record { same = c .before .before .push-if-else .ensures ∙ simp (c .before .before .before .before .before .before .number .ensures, c .before .before .before .before .before .number2 .ensures, c .before .before .before .before .number3 .ensures) }))

@@ -8,7 +8,5 @@ pub load-const-spec : {M : Type 1} → statement M
 load-const-spec =
     tie.close
     (tie.spec
-    (λ c κs. search needs)
-    (λ c κs. search needs)
-    (λ c. search needs)
+    (λ c κs. search needs) (λ c κs. search needs) (λ c. search needs)
     (λ c. record { same = c .before .before .push-load-const .ensures ∙ simp (c .before .before .before .before .number .ensures) }))

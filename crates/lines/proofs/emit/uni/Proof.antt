@@ -8,8 +8,5 @@ pub uni-spec : {M : Type 1} → statement M
 uni-spec =
     tie.close
     (tie.spec
-    (λ c κs. search needs)
-    (λ c κs. search needs)
-    (λ c κs. search needs)
-    (λ c. search needs)
+    (λ c κs. search needs) (λ c κs. search needs) (λ c κs. search needs) (λ c. search needs)
     (λ c. record { same = c .before .before .push-uni .ensures ∙ simp (c .before .before .before .before .before .number .ensures, c .before .before .before .before .number2 .ensures) }))

@@ -10,7 +10,6 @@ unfolding ensureLines
 ensure-lines-spec =
     tie.close
     (tie.spec
-    (λ c κs. search needs)
-    (λ c. search needs)
+    (λ c κs. search needs) (λ c. search needs)
     (λ c. simp (c .before .before .before .before .if1 .taken) (c .before .before .bi .ensures))
     (λ c. simp (c .if1 .left) (none)))

@@ -9,9 +9,7 @@ unfolding loadLines
 load-lines-spec =
     tie.close
     (tie.spec
-    (λ c κs. search needs)
-    (λ c. search needs)
+    (λ c κs. search needs) (λ c. search needs)
     (λ c. simp (c .before .before .before .before .if1 .taken) (c .before .before .load .ensures))
-    (λ c κs. search needs)
-    (λ c. search needs)
+    (λ c κs. search needs) (λ c. search needs)
     (λ c. simp (c .before .before .before .before .if1 .left) (c .before .before .load-complex .ensures)))

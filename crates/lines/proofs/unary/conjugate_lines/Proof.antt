@@ -10,10 +10,7 @@ unfolding conjugateLines
 conjugate-lines-spec =
     tie.close
     (tie.spec
-    (λ c κs. search needs)
-    (λ c. search needs)
+    (λ c κs. search needs) (λ c. search needs)
     (λ c. simp (c .if1 .taken) (c .before .before .before .mov .ensures))
-    (λ c κs. search needs)
-    (λ c κs. search needs)
-    (λ c. search needs)
+    (λ c κs. search needs) (λ c κs. search needs) (λ c. search needs)
     (λ c. simp (c .before .before .before .before .before .before .before .before .if1 .left) (c .before .before .before .before .before .before .before .before .before .before .before .mov .ensures ▹ c .before .before .before .before .before .before .mov2 .ensures ▹ c .before .before .uni .ensures)))

@@ -10,9 +10,7 @@ unfolding eachLines
 each-lines-spec =
     tie.close
     (tie.spec
-    (λ c κs. search needs)
-    (λ c. search needs)
+    (λ c κs. search needs) (λ c. search needs)
     (λ c. simp (c .if1 .taken) (c .before .before .before .uni .ensures))
-    (λ c κs. search needs)
-    (λ c. search needs)
+    (λ c κs. search needs) (λ c. search needs)
     (λ c. simp (c .before .before .before .before .if1 .left) (c .before .before .before .before .before .before .before .uni .ensures ▹ c .before .before .uni2 .ensures)))

@@ -10,7 +10,5 @@ unfolding halfLines
 half-lines-spec =
     tie.close
     (tie.spec
-    (λ c κs. search needs)
-    (λ c κs. search needs)
-    (λ c. search needs)
+    (λ c κs. search needs) (λ c κs. search needs) (λ c. search needs)
     (λ c. c .before .before .before .before .before .before .uni .ensures ▹ c .before .before .uni2 .ensures))

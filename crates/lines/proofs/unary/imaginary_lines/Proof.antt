@@ -10,11 +10,7 @@ unfolding imaginaryLines
 imaginary-lines-spec =
     tie.close
     (tie.spec
-    (λ c κs. search needs)
-    (λ c κs. search needs)
-    (λ c. search needs)
+    (λ c κs. search needs) (λ c κs. search needs) (λ c. search needs)
     (λ c. simp (c .before .before .before .before .before .before .before .before .if1 .taken) (c .before .before .before .before .before .before .bi .ensures ▹ c .before .before .bi2 .ensures))
-    (λ c κs. search needs)
-    (λ c κs. search needs)
-    (λ c. search needs)
+    (λ c κs. search needs) (λ c κs. search needs) (λ c. search needs)
     (λ c. simp (c .before .before .before .before .before .before .before .before .if1 .left) (c .before .before .before .before .before .before .mov .ensures ▹ c .before .before .bi3 .ensures)))

@@ -10,12 +10,7 @@ unfolding timesNegILines
 times-neg-i-lines-spec =
     tie.close
     (tie.spec
-    (λ c κs. search needs)
-    (λ c κs. search needs)
-    (λ c. search needs)
+    (λ c κs. search needs) (λ c κs. search needs) (λ c. search needs)
     (λ c. simp (c .before .before .before .before .before .before .before .before .if1 .taken) (c .before .before .before .before .before .before .uni .ensures ▹ c .before .before .bi .ensures))
-    (λ c κs. search needs)
-    (λ c κs. search needs)
-    (λ c κs. search needs)
-    (λ c. search needs)
+    (λ c κs. search needs) (λ c κs. search needs) (λ c κs. search needs) (λ c. search needs)
     (λ c. simp (c .before .before .before .before .before .before .before .before .before .before .before .before .if1 .left) (c .before .before .before .before .before .before .before .before .before .before .mov .ensures ▹ c .before .before .before .before .before .before .uni2 .ensures ▹ c .before .before .mov2 .ensures)))

@@ -24,15 +24,12 @@ put-constants-spec =
     Inv-loop
     μ-loop
     (λ c. (omega arith, all (omega arith)))
-    (λ c. search needs)
-    (λ c. search needs)
-    (λ c κs. search needs)
+    (λ c. search needs) (λ c. search needs) (λ c κs. search needs)
     (λ c κs.
     let p = c .constant-line .ensures in
     let f = p .whole .fits in
     (omega (arith, f), whole-fits p))
-    (λ c. search needs)
-    (λ c. search needs)
+    (λ c. search needs) (λ c. search needs)
     (λ c.
     let a = c .before .before .before .before .before .before .before .before .before .before .args in
     let l = c .before .before .before .before .before .before .before .loop in

@@ -13,9 +13,7 @@ pub put-line-spec : {M : Type 1} → statement M
 put-line-spec =
     tie.close
     (tie.spec
-    (λ c. search needs)
-    (λ c. search needs)
-    (λ c. search needs)
+    (λ c. search needs) (λ c. search needs) (λ c. search needs)
     (λ c κs.
     let l = c .before .before .before .before .before .args .line in
     let h = length-take-le (l .len - 0) (l .bytes) (omega arith) in

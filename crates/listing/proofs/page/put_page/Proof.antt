@@ -24,8 +24,7 @@ put-page-spec =
     let g = long q in
     let k = q .ends in
     omega (arith, n, f, g, k))
-    (λ c κs. search needs)
-    (λ c κs. search needs)
+    (λ c κs. search needs) (λ c κs. search needs)
     (λ c κs.
     let a = c .before .before .before .before .before .before .before .before .before .before .before .before .before .before .before .args in
     let p = c .before .before .before .before .before .before .before .before .before .before .constants-heading .ensures in

@@ -11,8 +11,7 @@ pub clear-at-spec : {M : Type 1} → statement M
 clear-at-spec =
     tie.close
     (tie.spec
-    (λ c κs. search needs)
-    (λ c. search needs)
+    (λ c κs. search needs) (λ c. search needs)
     (λ c. some _ _ (c .power-of .ensures))
     (λ c. search needs)
     (λ c. held _ _ (some _ _ (c .before .power-of .ensures)) (c .if2 .taken))

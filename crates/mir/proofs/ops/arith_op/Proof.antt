@@ -1,11 +1,9 @@
--- `mir::ops::arith_op` meets its contract: the array is the enum's order.
-use borrow.Author.Needs.{needs}
-use native.Mathlib.Omega.{arith}
+-- `mir::ops::arith_op` meets its contract, number by number.
 use mathlib.Core.Path.{sym}
-use lib.ListN.{List·getD-eq-default}
+use native.Mathlib.Omega.{arith}
 use Rattle.mir.specs.Operation.{arithOps}
-use Rattle.mir.specs.declared.ops.FoundArith.{FoundArith}
-use Rattle.mir.proofs.Tables.{within}
+use Rattle.mir.specs.Takes.{takesArith}
+use Rattle.mir.proofs.Tables.{taken-past}
 use Rattle.mir.proofs.ops.arith_op.Statement.{statement}
 use Rattle.mir.proofs.ops.arith_op.Tie as tie
 
@@ -14,7 +12,8 @@ unfolding arithOps
 arith-op-spec =
     tie.close
     (tie.spec
-    (λ c. search needs)
-    (λ c. search needs)
-    (λ c. within arithOps (c .before .before .args .n) _ _ (omega arith))
-    (λ c. sym (List·getD-eq-default arithOps FoundArith.Nothing {n = c .before .args .n} (omega arith))))
+    (λ c. simp (c .match .keys1))
+    (λ c. simp (c .match .keys2))
+    (λ c. simp (c .match .keys3))
+    (λ c. simp (c .match .keys4))
+    (λ c. sym (taken-past takesArith arithOps (c .before .args .n) (omega (arith, c .match .rest .1, c .match .rest .0 .1, c .match .rest .0 .0 .1, c .match .rest .0 .0 .0 .1)))))

@@ -10,12 +10,11 @@ unfolding expected
 agrees-spec =
     tie.close
     (tie.spec
-    (λ c. search needs)
+    (λ c. search needs) (λ c κs. search needs)
+    (λ c. simp (← c .before .count-at .ensures .0, ne-eqb _ _ (c .if1 .taken)))
     (λ c κs. search needs)
-    (λ c. simp (← c .before .u32-at .ensures .0, ne-eqb _ _ (c .if1 .taken)))
+    (λ c. simp (← c .before .before .before .count-at .ensures .0, eq-eqb _ _ (c .before .before .if1 .left), ← c .before .word-at .ensures, ne-eqb _ _ (c .if2 .taken)))
     (λ c κs. search needs)
-    (λ c. simp (← c .before .before .before .u32-at .ensures .0, eq-eqb _ _ (c .before .before .if1 .left), ← c .before .word-at .ensures, ne-eqb _ _ (c .if2 .taken)))
+    (λ c. simp (← c .before .before .before .before .before .count-at .ensures .0, eq-eqb _ _ (c .before .before .before .before .if1 .left), ← c .before .before .before .word-at .ensures, eq-eqb _ _ (c .before .before .if2 .left), ← c .before .word-at2 .ensures, ne-eqb _ _ (c .if3 .taken)))
     (λ c κs. search needs)
-    (λ c. simp (← c .before .before .before .before .before .u32-at .ensures .0, eq-eqb _ _ (c .before .before .before .before .if1 .left), ← c .before .before .before .word-at .ensures, eq-eqb _ _ (c .before .before .if2 .left), ← c .before .word-at2 .ensures, ne-eqb _ _ (c .if3 .taken)))
-    (λ c κs. search needs)
-    (λ c. simp (← c .before .before .before .before .before .before .u32-at .ensures .0, eq-eqb _ _ (c .before .before .before .before .before .if1 .left), ← c .before .before .before .before .word-at .ensures, eq-eqb _ _ (c .before .before .before .if2 .left), ← c .before .before .word-at2 .ensures, eq-eqb _ _ (c .before .if3 .left), c .same .ensures, c .before .before .before .before .before .before .before .before .before .before .before .pre)))
+    (λ c. simp (← c .before .before .before .before .before .before .count-at .ensures .0, eq-eqb _ _ (c .before .before .before .before .before .if1 .left), ← c .before .before .before .before .word-at .ensures, eq-eqb _ _ (c .before .before .before .if2 .left), ← c .before .before .word-at2 .ensures, eq-eqb _ _ (c .before .if3 .left), c .same-words .ensures, c .before .before .before .before .before .before .before .before .before .before .before .pre)))

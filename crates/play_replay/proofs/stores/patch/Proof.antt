@@ -22,14 +22,8 @@ patch-spec =
     Inv-loop
     μ-loop
     (λ c. (omega arith, (refl, patched-none _ _ _)))
-    (λ c. omega arith)
-    (λ c. omega arith)
-    (λ c κs. omega arith)
-    (λ c. omega arith)
-    (λ c κs. omega arith)
-    (λ c κs. search needs)
-    (λ c. omega arith)
-    (λ c. omega arith)
+    (λ c. omega arith) (λ c. omega arith) (λ c κs. omega arith) (λ c. omega arith) (λ c κs. omega arith) (λ c κs. search needs)
+    (λ c. omega arith) (λ c. omega arith)
     (λ c. (omega arith, (simp (c .before .before .put .ensures, length-set) (c .before .before .before .before .before .before .before .loop .inv .1 .0), patched-next _ _ _ (c .before .before .before .before .before .before .before .loop .i) (c .before .before .before .before .before .before .before .loop .inv .1 .1) (c .before .before .before .before .before .count-at .ensures .0) (c .before .before .before .before .word-at .ensures) (c .before .before .put .ensures))))
     (λ c. c .before .loop .inv .1 .0)
     (λ c. patched-all _ _ _ (c .before .loop .i) _ (c .before .loop .inv .1 .1) (omega arith)))

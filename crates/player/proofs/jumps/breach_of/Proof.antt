@@ -9,8 +9,6 @@ pub breach-of-spec : {M : Type 1} → statement M
 breach-of-spec =
     tie.close
     (tie.spec
-    (λ c.
-    let e = c .before .before .before .pre in
-    e .index ∙ sym (no-breach _ _ _ (sym (e .jumps) ∙ c .if1 .taken)))
+    (λ c. λ count e z. e .index ∙ sym (no-breach _ (sym (e .jumps) ∙ c .if1 .taken)))
     (λ c κs. search needs)
-    (λ c. search needs))
+    (λ c. λ count e z. c .first-breach .ensures count z))

@@ -1,30 +1,29 @@
--- `player::jumps::first_breach` meets its contract. The invariant: the first breach from here on is the listing's first.
+-- `player::jumps::first_breach` meets its contract. The invariant: the tables tell of the records before, and the first breach from here on is the listing's.
 use borrow.Author.Needs.{needs}
 use native.Mathlib.Omega.{arith}
-use Prim.Native.Nat.{_+_, _-_, _≤_}
-use mathlib.Core.Path.{_≡_, sym, ap, _∙_}
-use native.Mathlib.Nat.{zero-add}
+use Prim.Native.Nat.{ℕ, _+_, _-_, _≤_}
+use mathlib.Core.Path.{_≡_, refl, sym, ap, _∙_}
 use lib.ListN.{length}
-use Rattle.machine.specs.Machine.{isLabel}
-use Rattle.machine.specs.Jumps.{isReturn, bit, tally, breachFrom, nothing}
-use Rattle.player.specs.Values.{asBefore}
-use Rattle.player.specs.Positions.{left}
-use Rattle.player.proofs.Walks.{tally-on, breach-none, breach-step}
 use Rattle.mir.proofs.Decoding.{ended}
 use Rattle.records.specs.Record.{recordFrom}
-use Rattle.records.proofs.Reading.{here-record, torn-record}
+use Rattle.player_machine.specs.Jumps.{bit}
+use Rattle.player.specs.Positions.{fault, Sound, Table, AllCounted}
+use Rattle.player.proofs.Walks.{bit-small}
+use Rattle.player.proofs.Looks.{stands}
+use Rattle.player.proofs.Rules.{counted-few, zeros, Ruled, ruled-start, ruled-on, ruled-stop, ruled-end}
 use Rattle.player.proofs.jumps.first_breach.Statement.{statement}
 use Rattle.player.proofs.jumps.first_breach.Tie as tie
 
 abbrev Inv-loop : tie.InvT-loop
-Inv-loop s count one all-twos all-ends at₀ index₀ twos₀ ends₀ c₀ at index twos ends c =
-    (index ≤ at)
-    × (twos ≡ tally (isLabel 2) (left count s at))
-    × (ends ≡ tally isReturn (left count s at))
-    × (index + breachFrom one (asBefore c) (left count s at) ≡ breachFrom one nothing (left count s 0))
+Inv-loop s all stood₀ returns returned₀ inside₀ at₀ index₀ stood returned inside at index =
+    ((index ≤ at) × (returned ≤ at))
+    × AllCounted s all returns
+    × Sound s at
+    × Table at stood
+    × ((count : ℕ) → fault count s 0 ≡ 0 → Ruled count s at index all stood inside returns returned)
 
 abbrev μ-loop : tie.MeasureT-loop
-μ-loop s count one all-twos all-ends at₀ index₀ twos₀ ends₀ c₀ at index twos ends c = length s - at
+μ-loop s all stood₀ returns returned₀ inside₀ at₀ index₀ stood returned inside at index = length s - at
 
 pub first-breach-spec : {M : Type 1} → statement M
 first-breach-spec =
@@ -32,75 +31,60 @@ first-breach-spec =
     (tie.spec
     Inv-loop
     μ-loop
-    (λ c. (omega arith, search needs, search needs, zero-add _))
-    (λ c κs. search needs)
     (λ c. search needs)
-    (λ c. search needs)
+    (λ c κs.
+    let p = c .before .before .pre in
+    (p .0, (p .1, (refl, λ l. let h = zeros 256 l in omega (arith, h)))))
     (λ c.
-    let a = c .before .before .before .before .before .before .args in
+    let p = c .before .before .before .before .pre in
+    ((omega arith, omega arith), c .before .count-labels .ensures, p .1, (refl, λ l. let z = zeros 256 l in omega (arith, z)), λ count z. ruled-start count z (c .before .count-labels .ensures) (λ l. let z = zeros 256 l in omega (arith, z))))
+    (λ c. search needs) (λ c. search needs) (λ c. search needs) (λ c. search needs) (λ c. search needs)
+    (λ c κs.
     let l = c .before .before .before .before .loop in
-    let d = breach-none (a .one) (asBefore (l .s)) (torn-record (a .count) (a .listing .now) (l .at) (c .before .before .read-record .ensures) (c .enum-told .given .1) (omega arith)) in
-    let i = l .inv .3 in
-    omega (arith, d, i))
-    (λ c κs. search needs)
-    (λ c κs. search needs)
+    (l .inv .1 .long, l .inv .3 .0))
     (λ c.
-    let a = c .before .before .before .before .before .before .before .before .before .args in
+    let l = c .before .before .before .before .before .before .loop in
+    λ count z.
+    let k = l .inv .4 count z in
+    ruled-stop k (stands count (k .sound) (c .before .before .before .before .before .loop-test .taken) refl) (c .before .breaks-rule .ensures) (c .if1 .taken))
+    (λ c. search needs)
+    (λ c κs.
     let l = c .before .before .before .before .before .before .before .loop in
-    let h = here-record (a .count) (a .listing .now) (l .at) (c .before .before .before .before .before .read-record .ensures) (c .before .before .before .q .given .1) in
-    let a1 = tally-on (isLabel 2) h in
-    let b1 = c .one-if .ensures ∙ ap bit (c .before .is-label .ensures) in
-    let i1 = l .inv .1 in
-    omega (arith, a1, b1, i1))
-    (λ c κs. search needs)
-    (λ c κs. search needs)
+    (l .inv .3 .0, λ m. let h = l .inv .3 .1 m in omega (arith, h)))
+    (λ c κs. search needs) (λ c κs. search needs)
+    (λ c. let h = bit-small (c .before .spells-return .result) in let e = c .one-if .ensures in omega (arith, h, e))
+    (λ c κs. search needs) (λ c κs. search needs) (λ c. search needs)
     (λ c.
-    let a = c .before .before .before .before .before .before .before .before .before .before .before .args in
-    let l = c .before .before .before .before .before .before .before .before .before .loop in
-    let h = here-record (a .count) (a .listing .now) (l .at) (c .before .before .before .before .before .before .before .read-record .ensures) (c .before .before .before .before .before .q .given .1) in
-    let a2 = tally-on isReturn h in
-    let b2 = c .one-if2 .ensures ∙ ap bit (c .before .is-return .ensures) in
-    let i2 = l .inv .2 in
-    omega (arith, a2, b2, i2))
-    (λ c κs. search needs)
-    (λ c.
-    let a = c .before .before .before .before .before .before .before .before .before .before .before .before .before .args in
-    let l = c .before .before .before .before .before .before .before .before .before .before .before .loop in
-    let h = here-record (a .count) (a .listing .now) (l .at) (c .before .before .before .before .before .before .before .before .before .read-record .ensures) (c .before .before .before .before .before .before .before .q .given .1) in
-    let a1 = tally-on (isLabel 2) h in
-    let b1 = c .before .before .before .before .one-if .ensures ∙ ap bit (c .before .before .before .before .before .is-label .ensures) in
-    let i1 = l .inv .1 in
-    let a2 = tally-on isReturn h in
-    let b2 = c .before .before .one-if2 .ensures ∙ ap bit (c .before .before .before .is-return .ensures) in
-    let i2 = l .inv .2 in
-    let st = breach-step (a .one) (asBefore (l .s)) (l .ends - c .before .before .one-if2 .result) (l .twos - c .before .before .before .before .one-if .result) h (omega (arith, a2, b2, i2)) (omega (arith, a1, b1, i1)) (sym (c .before .breaks-rule .ensures) ∙ c .if1 .taken) in
-    let i3 = l .inv .3 in
-    omega (arith, st, i3))
-    (λ c κs. search needs)
+    let a = c .before .before .before .before .before .before .before .before .before .before .before .before .before .before .before .before .before .before .args in
+    let l = c .before .before .before .before .before .before .before .before .before .before .before .before .before .loop in
+    let w = stands (l .inv .2 .count) (l .inv .2 .none) (c .before .before .before .before .before .before .before .before .before .before .before .before .loop-test .taken) (c .word .ensures) in
+    let h = w .here .inside in
+    omega (arith, h))
     (λ c. search needs)
     (λ c.
-    let a = c .before .before .before .before .before .before .before .before .before .before .before .before .before .before .args in
-    let l = c .before .before .before .before .before .before .before .before .before .before .before .before .loop in
-    let h = here-record (a .count) (a .listing .now) (l .at) (c .before .before .before .before .before .before .before .before .before .before .read-record .ensures) (c .before .before .before .before .before .before .before .before .q .given .1) .on in
+    let a = c .before .before .before .before .before .before .before .before .before .before .before .before .before .before .before .before .before .before .args in
+    let l = c .before .before .before .before .before .before .before .before .before .before .before .before .before .loop in
+    let w = stands (l .inv .2 .count) (l .inv .2 .none) (c .before .before .before .before .before .before .before .before .before .before .before .before .loop-test .taken) (c .word .ensures) in
+    let h = w .here .on in
     omega (arith, h))
     (λ c.
-    let a = c .before .before .before .before .before .before .before .before .before .before .before .before .before .before .args in
-    let l = c .before .before .before .before .before .before .before .before .before .before .before .before .loop in
-    let h = here-record (a .count) (a .listing .now) (l .at) (c .before .before .before .before .before .before .before .before .before .before .read-record .ensures) (c .before .before .before .before .before .before .before .before .q .given .1) in
-    let a1 = tally-on (isLabel 2) h in
-    let b1 = c .before .before .before .before .before .one-if .ensures ∙ ap bit (c .before .before .before .before .before .before .is-label .ensures) in
-    let i1 = l .inv .1 in
-    let a2 = tally-on isReturn h in
-    let b2 = c .before .before .before .one-if2 .ensures ∙ ap bit (c .before .before .before .before .is-return .ensures) in
-    let i2 = l .inv .2 in
-    let st = breach-step (a .one) (asBefore (l .s)) (l .ends - c .before .before .before .one-if2 .result) (l .twos - c .before .before .before .before .before .one-if .result) h (omega (arith, a2, b2, i2)) (omega (arith, a1, b1, i1)) (sym (c .before .before .breaks-rule .ensures) ∙ c .before .if1 .left) in
-    let i3 = l .inv .3 in
+    let a = c .before .before .before .before .before .before .before .before .before .before .before .before .before .before .before .before .before .before .args in
+    let l = c .before .before .before .before .before .before .before .before .before .before .before .before .before .loop in
+    let w = stands (l .inv .2 .count) (l .inv .2 .none) (c .before .before .before .before .before .before .before .before .before .before .before .before .loop-test .taken) (c .word .ensures) in
+    let h = w .here in
     let g = h .on in
-    let m = ap (λ d. breachFrom (a .one) d (left (a .count) (a .listing .now) (c .before .before .before .before .before .before .before .before .q .given .0 .1 .0))) (c .stood-behind .ensures) in
-    (omega (arith, g), omega (arith, a1, b1, i1), omega (arith, a2, b2, i2), omega (arith, st, m, i3)))
+    let b = bit-small (c .before .before .before .spells-return .result) in
+    let e = c .before .before .one-if .ensures in
+    let d = c .before .before .before .before .before .count-label .ensures in (
+      (omega (arith, g), omega (arith, g, b, e)),
+      l .inv .1,
+      record { count = l .inv .2 .count; none = sym (h .sound) ∙ l .inv .2 .none },
+      (d .long ∙ l .inv .3 .0, λ m. let i = l .inv .3 .1 m in let j = counted-few d m in omega (arith, g, i, j)),
+      λ count z.
+          let k = l .inv .4 count z in
+          ruled-on k (stands count (k .sound) (c .before .before .before .before .before .before .before .before .before .before .before .before .loop-test .taken) (c .word .ensures)) (c .before .before .before .before .before .before .before .before .breaks-rule .ensures) (c .before .before .before .before .before .before .before .if1 .left) d (ap (_+_ (l .returned)) (c .before .before .one-if .ensures ∙ ap bit (c .before .before .before .spells-return .ensures))) (c .before .block-open .ensures),
+    ))
     (λ c.
-    let a = c .before .before .before .args in
+    let a = c .before .before .before .before .before .before .args in
     let l = c .before .loop in
-    let d = breach-none (a .one) (asBefore (l .s)) (ended (recordFrom (a .count)) (a .listing .now) (l .at) (omega arith)) in
-    let i = l .inv .3 in
-    omega (arith, d, i)))
+    λ count z. ruled-end (l .inv .4 count z) (ended (recordFrom count) (a .listing .now) (l .at) (omega arith))))

@@ -4,9 +4,9 @@ use native.Mathlib.Omega.{arith}
 use Prim.Native.Nat.{_-_, _*_, _≤_}
 use mathlib.Core.Path.{_≡_, refl, sym, _∙_}
 use lib.ListN.{length}
-use Rattle.machine.specs.Machine.{ticks}
+use Rattle.player_machine.specs.Machine.{ticks}
 use Rattle.player.specs.Positions.{onFrom, fault}
-use Rattle.player.proofs.Steps.{run-start, run-turn, run-stop, run-end}
+use Rattle.player.proofs.Steps.{run-start, run-on, run-stop, run-end}
 use Rattle.mir.proofs.Decoding.{ended}
 use Rattle.records.specs.Record.{recordFrom}
 use Rattle.player.proofs.run.run.Statement.{statement}
@@ -45,7 +45,7 @@ run-spec =
     let w = c .before .before .before .before .run-record .ensures in
     let h = w .on (c .if1 .left) in
     let k = w .small in
-    (omega (arith, h, k), search needs, sym (run-turn (l .played) w (c .if1 .left)) ∙ l .inv .2, w .sound (c .if1 .left)))
+    (omega (arith, h, k), search needs, sym (run-on (l .played) w (c .if1 .left)) ∙ l .inv .2, w .sound (c .if1 .left)))
     (λ c. search needs)
     (λ c.
     let a = c .before .before .before .before .before .args in

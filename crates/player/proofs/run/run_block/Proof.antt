@@ -5,7 +5,7 @@ use native.Mathlib.Omega.{arith}
 use Prim.Native.Nat.{_+_, _-_, _≤_}
 use mathlib.Core.Path.{_≡_, refl, sym, ap, _∙_}
 use lib.ListN.{length}
-use Rattle.machine.specs.Machine.{execs}
+use Rattle.player_machine.specs.Machine.{execs}
 use Rattle.player.specs.Positions.{blockAt, fault}
 use Rattle.player.proofs.Steps.{works-on, works-done, works-jump, execs-none, execs-on}
 use Rattle.player.proofs.Looks.{Tried, readable, did, jumps, kept}
@@ -32,11 +32,7 @@ run-block-spec =
     Inv-loop
     μ-loop
     (λ c. ((omega arith, omega arith), refl, refl, refl, search needs))
-    (λ c. search needs)
-    (λ c. search needs)
-    (λ c. search needs)
-    (λ c κs. search needs)
-    (λ c. search needs)
+    (λ c. search needs) (λ c. search needs) (λ c. search needs) (λ c κs. search needs) (λ c. search needs)
     (λ c.
     let a = c .before .before .before .before .before .before .before .before .before .before .before .args in
     let l = c .before .before .before .before .before .before .before .loop in
@@ -51,8 +47,7 @@ run-block-spec =
       count = omega (arith, g, i);
       small = omega arith;
     })
-    (λ c κs. search needs)
-    (λ c. search needs)
+    (λ c κs. search needs) (λ c. search needs)
     (λ c.
     let a = c .before .before .before .before .before .before .before .before .before .before .before .before .args in
     let l = c .before .before .before .before .before .before .before .before .loop in

@@ -1,10 +1,13 @@
 -- `player::run::run_jump` meets its contract, one law for each way to go on.
 use borrow.Author.Needs.{needs}
 use native.Mathlib.Omega.{arith}
+use mathlib.Core.Path.{refl, sym, ap, _∙_}
+use mathlib.Core.Option.{some}
 use lib.ListN.{length}
-use Rattle.player.proofs.Steps.{turn-torn, turn-label, turn-end, turn-branch, turn-call, known-here}
-use Rattle.player.proofs.Looks.{no-work}
-use Rattle.records.proofs.Reading.{here-record, torn-record}
+use Rattle.mir.specs.declared.records.Record.{Record}
+use Rattle.player.proofs.Spelling.{a-jump, a-call}
+use Rattle.player.proofs.Steps.{play-label, play-end, play-branch, play-call, known-here}
+use Rattle.player.proofs.Looks.{jump-stands}
 use Rattle.player.proofs.run.run_jump.Statement.{statement}
 use Rattle.player.proofs.run.run_jump.Tie as tie
 
@@ -12,37 +15,49 @@ pub run-jump-spec : {M : Type 1} → statement M
 run-jump-spec =
     tie.close
     (tie.spec
-    (λ c κs. search needs)
-    (λ c. search needs)
+    (λ c. search needs) (λ c. search needs) (λ c. search needs) (λ c κs. search needs) (λ c κs. search needs) (λ c κs. search needs)
     (λ c. search needs)
     (λ c.
-    let a = c .before .before .before .before .before .before .args in
-    let z = c .before .before .before .before .before .before .pre .1 .1 .0 in
-    turn-torn z (torn-record (length (a .constants .now)) (a .listing .now) (a .at) (c .before .before .read-record .ensures) (c .enum-told .given .1) (omega arith)))
-    (λ c. search needs)
-    (λ c. search needs)
-    (λ c. search needs)
+    let a = c .before .before .before .before .before .before .before .args in
+    let p = c .before .before .before .before .before .before .before .pre in
+    let z = p .1 .1 .0 in
+    let j = jump-stands (p .1 .1 .1 .0) (c .word2 .ensures) in
+    let w = j .stands in
+    let h = w .here .inside in
+    omega (arith, h))
+    (λ c.
+    let a = c .before .before .before .before .before .before .before .before .args in
+    let p = c .before .before .before .before .before .before .before .before .pre in
+    let z = p .1 .1 .0 in
+    let j = jump-stands (p .1 .1 .1 .0) (c .before .word2 .ensures) in
+    let w = j .stands in
+    play-label z (known-here (w .here) (a-jump _ (w .rec) (w .spells) 14 (sym (c .before .before .before .word .ensures) ∙ c .if1 .taken) refl)))
+    (λ c.
+    let a = c .before .before .before .before .before .before .before .before .before .before .args in
+    let p = c .before .before .before .before .before .before .before .before .before .before .pre in
+    let z = p .1 .1 .0 in
+    let j = jump-stands (p .1 .1 .1 .0) (c .before .before .before .word2 .ensures) in
+    let w = j .stands in
+    play-end z (known-here (w .here) (a-jump _ (w .rec) (w .spells) 15 (sym (c .before .before .before .before .before .word .ensures) ∙ c .before .if2 .taken) refl)) (sym (c .before .before .before .before .byte .ensures) ∙ c .if3 .taken))
+    (λ c κs.
+    let a = c .before .before .before .before .before .before .before .before .before .before .args in
+    let p = c .before .before .before .before .before .before .before .before .before .before .pre in
+    let z = p .1 .1 .0 in
+    let j = jump-stands (p .1 .1 .1 .0) (c .before .before .before .word2 .ensures) in
+    let w = j .stands in
+    record { count = length (a .constants .now); none = sym (w .here .sound) ∙ z })
     (λ c.
     let a = c .before .before .before .before .before .before .before .before .before .before .before .args in
-    let z = c .before .before .before .before .before .before .before .before .before .before .before .pre .1 .1 .0 in
-    turn-end z (known-here (here-record (length (a .constants .now)) (a .listing .now) (a .at) (c .before .before .before .before .before .before .before .read-record .ensures) (c .before .before .before .before .before .q .given .1)) (c .before .before .rec3 .given .1)) (c .if1 .taken))
-    (λ c κs. search needs)
-    (λ c. search needs)
-    (λ c κs. search needs)
-    (λ c. search needs)
+    let p = c .before .before .before .before .before .before .before .before .before .before .before .pre in
+    let z = p .1 .1 .0 in
+    let j = jump-stands (p .1 .1 .1 .0) (c .before .before .before .before .word2 .ensures) in
+    let w = j .stands in
+    play-branch z (known-here (w .here) (a-jump _ (w .rec) (w .spells) 15 (sym (c .before .before .before .before .before .before .word .ensures) ∙ c .before .before .if2 .taken) (ap (λ l. some (Record.Branch l)) (sym (c .before .before .before .before .before .byte .ensures))))) (c .before .if3 .left) (c .find .ensures))
+    (λ c κs. search needs) (λ c. search needs) (λ c. search needs)
     (λ c.
-    let a = c .before .before .before .before .before .before .before .before .before .before .args in
-    absurd (no-work (c .before .before .before .before .before .before .before .before .before .before .pre .1 .1 .1 .0) (known-here (here-record (length (a .constants .now)) (a .listing .now) (a .at) (c .before .before .before .before .before .before .read-record .ensures) (c .before .before .before .before .q .given .1)) (c .before .rec .given .1))))
-    (λ c.
-    let a = c .before .before .before .before .before .before .before .before .before .before .args in
-    let z = c .before .before .before .before .before .before .before .before .before .before .pre .1 .1 .0 in
-    turn-label z (known-here (here-record (length (a .constants .now)) (a .listing .now) (a .at) (c .before .before .before .before .before .before .read-record .ensures) (c .before .before .before .before .q .given .1)) (c .before .rec2 .given .1)))
-    (λ c.
-    let a = c .before .before .before .before .before .before .before .before .before .before .before .before .args in
-    let z = c .before .before .before .before .before .before .before .before .before .before .before .before .pre .1 .1 .0 in
-    turn-branch z (known-here (here-record (length (a .constants .now)) (a .listing .now) (a .at) (c .before .before .before .before .before .before .before .before .read-record .ensures) (c .before .before .before .before .before .before .q .given .1)) (c .before .before .before .rec3 .given .1)) (c .before .if1 .left) (c .find .ensures))
-    (λ c. search needs)
-    (λ c.
-    let a = c .before .before .before .before .before .before .before .before .before .before .before .before .before .before .args in
-    let z = c .before .before .before .before .before .before .before .before .before .before .before .before .before .before .pre .1 .1 .0 in
-    turn-call z (known-here (here-record (length (a .constants .now)) (a .listing .now) (a .at) (c .before .before .before .before .before .before .before .before .before .before .read-record .ensures) (c .before .before .before .before .before .before .before .before .q .given .1)) (c .before .before .before .before .before .rec4 .given .1)) (c .before .before .run-block .ensures)))
+    let a = c .before .before .before .before .before .before .before .before .before .before .before .before .before .args in
+    let p = c .before .before .before .before .before .before .before .before .before .before .before .before .before .pre in
+    let z = p .1 .1 .0 in
+    let j = jump-stands (p .1 .1 .1 .0) (c .before .before .before .before .before .before .word2 .ensures) in
+    let w = j .stands in
+    play-call z (known-here (w .here) (a-call _ (w .rec) (w .spells) (j .jump) (λ e. c .before .before .before .before .before .if1 .left (c .before .before .before .before .before .before .before .before .word .ensures ∙ e)) (λ e. c .before .before .before .before .if2 .left (c .before .before .before .before .before .before .before .before .word .ensures ∙ e)))) (c .before .before .run-block .ensures)))

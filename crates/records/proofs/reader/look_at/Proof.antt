@@ -7,17 +7,8 @@ pub look-at-spec : {M : Type 1} → statement M
 look-at-spec =
     tie.close
     (tie.spec
-    (λ c. search needs)
-    (λ c. search needs)
-    (λ c κs. search needs)
-    (λ c. search needs)
-    (λ c κs. search needs)
-    (λ c. search needs)
-    (λ c κs. search needs)
-    (λ c. search needs)
-    (λ c κs. search needs)
-    (λ c. search needs)
-    (λ c κs. search needs)
+    (λ c. search needs) (λ c. search needs) (λ c κs. search needs) (λ c. search needs) (λ c κs. search needs) (λ c. search needs)
+    (λ c κs. search needs) (λ c. search needs) (λ c κs. search needs) (λ c. search needs) (λ c κs. search needs)
     (λ c. simp (c .before .before .before .before .before .q .given .1, c .before .before .rec .given .1) (c .sighted .ensures))
     (λ c. simp (c .before .before .before .before .before .q .given .1, c .before .before .rec2 .given .1) (c .sighted2 .ensures))
     (λ c. simp (c .before .before .before .before .before .q .given .1, c .before .before .rec3 .given .1) (c .sighted3 .ensures))

@@ -14,15 +14,8 @@ read-record-spec =
     tie.close
     (tie.spec
     (λ c. let a = c .before .before .args in sym (next-past (recordFrom (a .count)) (a .listing .now) (a .at) refl (omega arith)))
-    (λ c. search needs)
-    (λ c. search needs)
-    (λ c. search needs)
-    (λ c κs. search needs)
-    (λ c. search needs)
-    (λ c κs. search needs)
-    (λ c. search needs)
-    (λ c. search needs)
-    (λ c. search needs)
+    (λ c. search needs) (λ c. search needs) (λ c. search needs) (λ c κs. search needs) (λ c. search needs) (λ c κs. search needs)
+    (λ c. search needs) (λ c. search needs) (λ c. search needs)
     (λ c.
     let a = c .before .before .before .before .before .before .before .before .args in
     sym

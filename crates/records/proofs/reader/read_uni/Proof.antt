@@ -1,6 +1,5 @@
 -- `records::reader::read_uni` meets its contract.
 use borrow.Author.Needs.{needs}
-use borrow.Author.Tests.{le-ltb, lt-ltb}
 use Rattle.records.specs.Record.{uniFrom}
 use Rattle.records.proofs.reader.read_uni.Statement.{statement}
 use Rattle.records.proofs.reader.read_uni.Tie as tie
@@ -10,13 +9,8 @@ unfolding uniFrom
 read-uni-spec =
     tie.close
     (tie.spec
-    (λ c κs. search needs)
-    (λ c κs. search needs)
-    (λ c. search needs)
-    (λ c κs. search needs)
-    (λ c. simp (← c .before .before .before .before .before .before .byte .ensures, ← c .before .before .before .before .before .listing-uni .ensures, c .before .before .before .op .given .1, ← c .before .byte2 .ensures, lt-ltb _ _ (c .if1 .taken)))
-    (λ c κs. search needs)
-    (λ c. simp (← c .before .before .before .before .before .before .before .before .byte .ensures, ← c .before .before .before .before .before .before .before .listing-uni .ensures, c .before .before .before .before .before .op .given .1, ← c .before .before .before .byte2 .ensures, le-ltb _ _ (c .before .before .if1 .left), ← c .before .byte3 .ensures, lt-ltb _ _ (c .if2 .taken)))
-    (λ c. search needs)
-    (λ c. simp (← c .before .before .before .before .before .before .before .before .byte .ensures, ← c .before .before .before .before .before .before .before .listing-uni .ensures, c .before .before .before .before .before .op .given .1, ← c .before .before .before .byte2 .ensures, le-ltb _ _ (c .before .before .if1 .left), ← c .before .byte3 .ensures, le-ltb _ _ (c .if2 .left)))
-    (λ c. simp (← c .before .before .before .byte .ensures, ← c .before .before .listing-uni .ensures, c .enum-told .given .1)))
+    (λ c κs. search needs) (λ c κs. search needs) (λ c. search needs) (λ c κs. search needs)
+    (λ c. simp (← c .before .before .before .before .before .before .byte .ensures, ← c .before .before .before .before .before .uni-op .ensures, c .before .before .before .op .given .1, ← c .before .above .ensures, c .if1 .taken))
+    (λ c κs. search needs) (λ c κs. search needs) (λ c. search needs)
+    (λ c. simp (← c .before .before .before .before .before .before .before .before .byte .ensures, ← c .before .before .before .before .before .before .before .uni-op .ensures, c .before .before .before .before .before .op .given .1, ← c .before .before .before .above .ensures, c .before .before .if1 .left, c .before .byte2 .ensures, c .byte3 .ensures))
+    (λ c. simp (← c .before .before .before .byte .ensures, ← c .before .before .uni-op .ensures, c .enum-told .given .1)))

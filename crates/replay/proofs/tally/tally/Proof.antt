@@ -9,8 +9,6 @@ unfolding tallied
 tally-spec =
     tie.close
     (tie.spec
-    (λ c κs. search needs)
-    (λ c κs. search needs)
-    (λ c κs. search needs)
+    (λ c κs. search needs) (λ c κs. search needs) (λ c κs. search needs)
     (λ c. simp (c .raise3 .ensures, c .before .before .before .raise2 .ensures, c .before .before .before .before .before .raise .ensures, c .before .before .if1 .taken))
     (λ c. simp (c .before .raise2 .ensures, c .before .before .before .raise .ensures, c .if1 .left)))

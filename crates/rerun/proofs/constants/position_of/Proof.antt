@@ -25,10 +25,8 @@ position-of-spec =
     Inv-loop
     μ-loop
     (λ c. (search needs, simp zero-add))
-    (λ c. search needs)
-    (λ c. search needs)
+    (λ c. search needs) (λ c. search needs)
     (λ c. let a = c .before .before .before .before .args in let l = c .before .before .before .loop in let h = here (a .v) (a .words .now) (l .i) (c .before .before .loop-test .taken) (c .if1 .taken) in let e = l .inv .1 in omega (arith, h, e))
-    (λ c. search needs)
-    (λ c. search needs)
+    (λ c. search needs) (λ c. search needs)
     (λ c. let a = c .before .before .before .before .args in let l = c .before .before .before .loop in let h = on (a .v) (a .words .now) (l .i) (c .before .before .loop-test .taken) (c .if1 .left) in let e = l .inv .1 in (search needs, ap (λ n. n + position (a .v) (drop n (a .words .now))) (add-one (l .i)) ∙ omega (arith, h, e)))
     (λ c. let a = c .before .before .args in let l = c .before .loop in let h = past (a .v) (a .words .now) (l .i) (c .loop-test .left) in let e = l .inv .1 in omega (arith, h, e)))

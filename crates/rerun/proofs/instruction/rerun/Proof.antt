@@ -9,7 +9,7 @@ rerun-spec =
     tie.close
     (tie.spec
     (λ c κs. search needs)
-    (λ c. many-constants _ (c .before .if1 .taken) (plainly stay (c .turned .ensures)))
+    (λ c. many-constants _ (c .before .if1 .taken) (plainly stay (c .no-constants .ensures)))
     (λ c κs. c .before .if1 .left)
     (λ c. search needs)
     (λ c. few-constants (c .before .before .before .before .if1 .left) (c .before .before .rerun-within .ensures)))

@@ -10,6 +10,5 @@ rerun-mov-spec =
     tie.close
     (tie.spec
     (λ c. to-itself _ _ (c .if1 .taken) stay)
-    (λ c κs. search needs)
-    (λ c. search needs)
+    (λ c κs. search needs) (λ c. search needs)
     (λ c. to-another _ _ (c .before .before .before .before .if1 .left) (c .before .before .fmov .ensures)))

@@ -3,7 +3,7 @@ use borrow.Author.Needs.{needs}
 use mathlib.Core.Path.{sym, _∙_}
 use mathlib.Core.Bool.{true, false}
 use Rattle.lowering.specs.Lines.{absLines}
-use Rattle.lowering.specs.Complexifier.{abs}
+use Rattle.lowering.specs.Complexifier.{absBy, abs}
 use Rattle.complexifier.specs.Does.{made}
 use Rattle.rerun.specs.Ends.{plainly, byFlag}
 use Rattle.rerun.proofs.methods.abs.Statement.{statement}
@@ -14,17 +14,10 @@ unfolding abs
 abs-spec =
     tie.close
     (tie.spec
-    (λ c κs. search needs)
-    (λ c κs. search needs)
-    (λ c κs. search needs)
-    (λ c κs. search needs)
-    (λ c. search needs)
-    (λ c. byFlag (λ x. abs (c .before .before .before .before .before .before .before .before .before .before .args .stable) x (c .before .before .before .before .before .before .before .before .before .before .args .dst) (c .before .before .before .before .before .before .before .before .before .before .args .s1)) _ (sym (c .before .before .before .before .before .before .if1 .taken) ∙ c .before .before .before .before .before .before .before .is-real-reg .ensures) (plainly (made (absLines true _ _) _ true (c .before .before .before .before .abs-lines .ensures) (c .before .set-reg-real .ensures)) (c .turned .ensures)))
+    (λ c κs. search needs) (λ c κs. search needs) (λ c κs. search needs) (λ c κs. search needs) (λ c. search needs)
+    (λ c. byFlag (λ x. absBy (c .before .before .before .before .before .before .before .before .before .before .args .stable) x (c .before .before .before .before .before .before .before .before .before .before .args .dst) (c .before .before .before .before .before .before .before .before .before .before .args .s1)) _ (sym (c .before .before .before .before .before .before .if1 .taken) ∙ c .before .before .before .before .before .before .before .is-real-reg .ensures) (plainly (made (absLines true _ _) _ true (c .before .before .before .before .abs-lines .ensures) (c .before .set-reg-real .ensures)) (c .no-constants .ensures)))
     (λ c κs. c .before .before .before .before .before .before .pre)
     (λ c. search needs)
-    (λ c. simp (c .before .before .before .before .if2 .taken) (byFlag (λ x. abs true x (c .before .before .before .before .before .before .before .before .before .args .dst) (c .before .before .before .before .before .before .before .before .before .args .s1)) _ (sym (c .before .before .before .before .before .if1 .left) ∙ c .before .before .before .before .before .before .is-real-reg .ensures) (c .before .before .stable-abs .ensures)))
-    (λ c κs. search needs)
-    (λ c κs. search needs)
-    (λ c κs. search needs)
-    (λ c. search needs)
-    (λ c. simp (c .before .before .before .before .before .before .if2 .left) (byFlag (λ x. abs false x (c .before .before .before .before .before .before .before .before .before .before .before .args .dst) (c .before .before .before .before .before .before .before .before .before .before .before .args .s1)) _ (sym (c .before .before .before .before .before .before .before .if1 .left) ∙ c .before .before .before .before .before .before .before .before .is-real-reg .ensures) (plainly (made (absLines false _ _) _ false (c .before .before .before .before .abs-lines2 .ensures) (c .before .set-reg-complex .ensures)) (c .turned2 .ensures)))))
+    (λ c. simp (c .before .before .before .before .if2 .taken) (byFlag (λ x. absBy true x (c .before .before .before .before .before .before .before .before .before .args .dst) (c .before .before .before .before .before .before .before .before .before .args .s1)) _ (sym (c .before .before .before .before .before .if1 .left) ∙ c .before .before .before .before .before .before .is-real-reg .ensures) (c .before .before .stable-abs .ensures)))
+    (λ c κs. search needs) (λ c κs. search needs) (λ c κs. search needs) (λ c. search needs)
+    (λ c. simp (c .before .before .before .before .before .before .if2 .left) (byFlag (λ x. absBy false x (c .before .before .before .before .before .before .before .before .before .before .before .args .dst) (c .before .before .before .before .before .before .before .before .before .before .before .args .s1)) _ (sym (c .before .before .before .before .before .before .before .if1 .left) ∙ c .before .before .before .before .before .before .before .before .is-real-reg .ensures) (plainly (made (absLines false _ _) _ false (c .before .before .before .before .abs-lines2 .ensures) (c .before .set-reg-complex .ensures)) (c .no-constants2 .ensures)))))

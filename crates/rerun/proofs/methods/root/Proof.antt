@@ -12,10 +12,7 @@ unfolding root
 root-spec =
     tie.close
     (tie.spec
-    (λ c κs. search needs)
-    (λ c κs. search needs)
-    (λ c κs. search needs)
-    (λ c κs. search needs)
+    (λ c κs. search needs) (λ c κs. search needs) (λ c κs. search needs) (λ c κs. search needs)
     (λ c κs. c .before .before .before .before .before .before .before .before .before .before .before .before .before .before .before .before .before .before .before .before .before .before .before .pre)
     (λ c. omega (arith, c .before .before .before .before .before .before .before .before .before .before .before .before .before .before .before .before .before .before .before .before .before .before .ensure-complex .kept .1 .0, c .before .before .before .before .before .before .before .before .before .before .before .before .before .before .before .before .before .fmov .kept .1 .0, c .before .before .before .before .before .before .before .before .before .before .before .before .call-root .kept .1 .0, c .before .before .before .before .before .before .before .fmov2 .kept .1 .0, c .before .before .define-root .kept .1 .1 .1 .0))
     (λ c. c .before .before .before .before .before .before .before .before .before .before .before .before .before .before .before .before .before .before .before .before .before .before .ensure-complex .ensures ▸ c .before .before .before .before .before .before .before .before .before .before .before .before .before .before .before .before .before .fmov .ensures ▸ c .before .before .before .before .before .before .before .before .before .before .before .before .call-root .ensures ▸ c .before .before .before .before .before .before .before .fmov2 .ensures ▸▸ c .before .before .define-root .ensures))

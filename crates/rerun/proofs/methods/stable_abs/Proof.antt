@@ -13,7 +13,5 @@ stable-abs-spec =
     tie.close
     (tie.spec
     (λ c κs. c .before .before .pre)
-    (λ c κs. search needs)
-    (λ c κs. search needs)
-    (λ c. search needs)
+    (λ c κs. search needs) (λ c κs. search needs) (λ c. search needs)
     (λ c. threefold FLOOR_FINITE EXP_MASK_FINITE INFINITY (stableAbsLines _ _) _ (c .before .before .before .before .before .before .seek-three .ensures) (c .before .before .before .before .stable-abs-lines .ensures) (c .set-reg-complex .ensures) refl))

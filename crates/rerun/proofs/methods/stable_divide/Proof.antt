@@ -14,7 +14,5 @@ stable-divide-spec =
     tie.close
     (tie.spec
     (λ c κs. c .before .before .pre)
-    (λ c κs. search needs)
-    (λ c κs. search needs)
-    (λ c. search needs)
+    (λ c κs. search needs) (λ c κs. search needs) (λ c. search needs)
     (λ c. threefold MIN_POSITIVE INFINITY QUARTER (stableDivideLines (ltb (c .before .before .before .before .before .before .before .before .before .args .dst) 30) (c .before .before .before .before .before .before .before .before .before .args .x) (c .before .before .before .before .before .before .before .before .before .args .dst) (c .before .before .before .before .before .before .before .before .before .args .s1) (c .before .before .before .before .before .before .before .before .before .args .s2)) _ (c .before .before .before .before .before .before .seek-three .ensures) (c .before .before .before .before .stable-divide-lines .ensures) (c .set-reg-complex .ensures) refl))

@@ -13,7 +13,5 @@ stable-recip-spec =
     tie.close
     (tie.spec
     (λ c κs. c .before .before .pre)
-    (λ c κs. search needs)
-    (λ c κs. search needs)
-    (λ c. search needs)
+    (λ c κs. search needs) (λ c κs. search needs) (λ c. search needs)
     (λ c. threefold MIN_POSITIVE INFINITY QUARTER (stableRecipLines _ _) _ (c .before .before .before .before .before .before .seek-three .ensures) (c .before .before .before .before .stable-recip-lines .ensures) (c .set-reg-complex .ensures) refl))

@@ -9,9 +9,6 @@ unfolding instructionFrom
 read-first-spec =
     tie.close
     (tie.spec
-    (λ c κs. search needs)
-    (λ c. search needs)
-    (λ c κs. search needs)
-    (λ c. search needs)
+    (λ c κs. search needs) (λ c. search needs) (λ c κs. search needs) (λ c. search needs)
     (λ c. simp (← c .before .before .before .before .read-head .ensures, c .before .before .kind .given .1, ← c .read-fields .ensures))
     (λ c. simp (← c .before .before .before .read-head .ensures, c .before .n .given .1)))

@@ -14,15 +14,8 @@ read-instruction-spec =
     tie.close
     (tie.spec
     (λ c. let a = c .before .before .args in sym (next-past (instructionFrom (a .count)) (a .sheet .now) (a .at) refl (omega arith)))
-    (λ c. search needs)
-    (λ c. search needs)
-    (λ c. search needs)
-    (λ c κs. search needs)
-    (λ c. search needs)
-    (λ c κs. search needs)
-    (λ c. search needs)
-    (λ c. search needs)
-    (λ c. search needs)
+    (λ c. search needs) (λ c. search needs) (λ c. search needs) (λ c κs. search needs) (λ c. search needs) (λ c κs. search needs)
+    (λ c. search needs) (λ c. search needs) (λ c. search needs)
     (λ c.
     let a = c .before .before .before .before .before .before .before .before .args in
     sym

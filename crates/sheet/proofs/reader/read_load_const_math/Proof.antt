@@ -1,8 +1,7 @@
 -- `sheet::reader::read_load_const_math` meets its contract.
 use borrow.Author.Needs.{needs}
-use borrow.Author.Tests.{le-leb, le-ltb, lt-leb, lt-ltb}
+use borrow.Author.Tests.{le-leb, lt-leb}
 use Rattle.sheet.specs.Instruction.{loadConstMathFrom}
-use Rattle.sheet.proofs.Taken.{takes-arith}
 use Rattle.sheet.proofs.reader.read_load_const_math.Statement.{statement}
 use Rattle.sheet.proofs.reader.read_load_const_math.Tie as tie
 
@@ -11,16 +10,10 @@ unfolding loadConstMathFrom
 read-load-const-math-spec =
     tie.close
     (tie.spec
-    (λ c κs. search needs)
-    (λ c κs. search needs)
-    (λ c. search needs)
-    (λ c κs. search needs)
-    (λ c. simp (takes-arith, ← c .before .before .before .before .before .before .byte .ensures, ← c .before .before .before .before .before .arith-op .ensures, c .before .before .before .op .given .1, ← c .before .byte2 .ensures, lt-ltb _ _ (c .if1 .taken)))
-    (λ c κs. search needs)
-    (λ c. simp (takes-arith, ← c .before .before .before .before .before .before .before .before .byte .ensures, ← c .before .before .before .before .before .before .before .arith-op .ensures, c .before .before .before .before .before .op .given .1, ← c .before .before .before .byte2 .ensures, le-ltb _ _ (c .before .before .if1 .left), ← c .before .byte3 .ensures, lt-ltb _ _ (c .if2 .taken)))
-    (λ c κs. search needs)
-    (λ c. search needs)
-    (λ c. simp (takes-arith, ← c .before .before .before .before .before .before .before .before .before .before .byte .ensures, ← c .before .before .before .before .before .before .before .before .before .arith-op .ensures, c .before .before .before .before .before .before .before .op .given .1, ← c .before .before .before .before .before .byte2 .ensures, le-ltb _ _ (c .before .before .before .before .if1 .left), ← c .before .before .before .byte3 .ensures, le-ltb _ _ (c .before .before .if2 .left), ← c .before .word .ensures, le-leb _ _ (c .if3 .taken)))
-    (λ c. search needs)
-    (λ c. simp (takes-arith, ← c .before .before .before .before .before .before .before .before .before .before .byte .ensures, ← c .before .before .before .before .before .before .before .before .before .arith-op .ensures, c .before .before .before .before .before .before .before .op .given .1, ← c .before .before .before .before .before .byte2 .ensures, le-ltb _ _ (c .before .before .before .before .if1 .left), ← c .before .before .before .byte3 .ensures, le-ltb _ _ (c .before .before .if2 .left), ← c .before .word .ensures, lt-leb _ _ (c .if3 .left)))
+    (λ c κs. search needs) (λ c κs. search needs) (λ c. search needs) (λ c κs. search needs)
+    (λ c. simp (← c .before .before .before .before .before .before .byte .ensures, ← c .before .before .before .before .before .arith-op .ensures, c .before .before .before .op .given .1, ← c .before .above .ensures, c .if1 .taken))
+    (λ c κs. search needs) (λ c. search needs)
+    (λ c. simp (← c .before .before .before .before .before .before .before .before .byte .ensures, ← c .before .before .before .before .before .before .before .arith-op .ensures, c .before .before .before .before .before .op .given .1, ← c .before .before .before .above .ensures, c .before .before .if1 .left, ← c .before .word .ensures, le-leb _ _ (c .if2 .taken)))
+    (λ c κs. search needs) (λ c κs. search needs) (λ c. search needs)
+    (λ c. simp (← c .before .before .before .before .before .before .before .before .before .before .byte .ensures, ← c .before .before .before .before .before .before .before .before .before .arith-op .ensures, c .before .before .before .before .before .before .before .op .given .1, ← c .before .before .before .before .before .above .ensures, c .before .before .before .before .if1 .left, ← c .before .before .before .word .ensures, lt-leb _ _ (c .before .before .if2 .left), c .before .byte2 .ensures, c .byte3 .ensures))
     (λ c. simp (← c .before .before .before .byte .ensures, ← c .before .before .arith-op .ensures, c .enum-told .given .1)))

@@ -1,10 +1,10 @@
 -- `sheet::setup::constant_at` meets its contract.
 use borrow.Author.Needs.{needs}
+use Prim.Native.Nat.{_+_, _*_}
 use native.Mathlib.Omega.{arith}
-use mathlib.Core.Path.{sym, ap, _∙_}
-use Rattle.mir.proofs.Parts.{part}
-use Rattle.sheet.specs.Setup.{wordFrom, constantAt}
-use Rattle.sheet.proofs.Constants.{past}
+use mathlib.Core.Path.{sym}
+use Rattle.words.proofs.Padding.{past}
+use Rattle.sheet.specs.Setup.{constantAt}
 use Rattle.sheet.proofs.setup.constant_at.Statement.{statement}
 use Rattle.sheet.proofs.setup.constant_at.Tie as tie
 
@@ -13,13 +13,8 @@ unfolding constantAt
 constant-at-spec =
     tie.close
     (tie.spec
-    (λ c. let a = c .before .before .args in sym (past (a .sheet .now) (a .i) (omega arith)))
+    (λ c. let a = c .before .before .args in sym (past (a .sheet .now) (73 + 12 * a .i) (omega arith)))
     (λ c. search needs)
-    (λ c. let a = c .before .before .before .args in sym (past (a .sheet .now) (a .i) (omega arith)))
-    (λ c. search needs)
-    (λ c. search needs)
-    (λ c. search needs)
-    (λ c. search needs)
-    (λ c. search needs)
-    (λ c κs. search needs)
-    (λ c. c .first-word .ensures ∙ ap wordFrom (part (c .before .before .before .before .before .args .sheet .now) _)))
+    (λ c. let a = c .before .before .before .args in sym (past (a .sheet .now) (73 + 12 * a .i) (omega arith)))
+    (λ c. search needs) (λ c. search needs) (λ c κs. search needs)
+    (λ c. c .word-at .ensures))

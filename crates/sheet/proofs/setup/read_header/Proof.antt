@@ -1,6 +1,7 @@
 -- `sheet::setup::read_header` meets its contract.
 use borrow.Author.Needs.{needs}
 use borrow.Author.Tests.{eq-eqb, le-ltb, lt-ltb, ne-eqb}
+use mathlib.Core.Path.{_∙_}
 use Rattle.sheet.specs.Setup.{headerFrom}
 use Rattle.sheet.proofs.setup.read_header.Statement.{statement}
 use Rattle.sheet.proofs.setup.read_header.Tie as tie
@@ -16,6 +17,5 @@ read-header-spec =
     (λ c. simp (le-ltb _ _ (c .before .before .before .if1 .left), le-ltb _ _ (c .before .before .if2 .left), ← c .before .word .ensures, ne-eqb _ _ (c .if3 .taken)))
     (λ c κs. search needs)
     (λ c. simp (le-ltb _ _ (c .before .before .before .before .before .if1 .left), le-ltb _ _ (c .before .before .before .before .if2 .left), ← c .before .before .before .word .ensures, eq-eqb _ _ (c .before .before .if3 .left), ← c .before .word2 .ensures, ne-eqb _ _ (c .if4 .taken)))
-    (λ c κs. search needs)
-    (λ c. simp (le-ltb _ _ (c .before .before .before .before .before .before .before .if1 .left), le-ltb _ _ (c .before .before .before .before .before .before .if2 .left), ← c .before .before .before .before .before .word .ensures, eq-eqb _ _ (c .before .before .before .before .if3 .left), ← c .before .before .before .word2 .ensures, eq-eqb _ _ (c .before .before .if4 .left), ← c .before .byte .ensures, lt-ltb _ _ (c .if5 .taken)))
-    (λ c. simp (le-ltb _ _ (c .before .before .before .before .before .before .before .if1 .left), le-ltb _ _ (c .before .before .before .before .before .before .if2 .left), ← c .before .before .before .before .before .word .ensures, eq-eqb _ _ (c .before .before .before .before .if3 .left), ← c .before .before .before .word2 .ensures, eq-eqb _ _ (c .before .before .if4 .left), ← c .before .byte .ensures, le-ltb _ _ (c .if5 .left))))
+    (λ c κs. search needs) (λ c κs. search needs)
+    (λ c. c .read-mode .ensures ∙ simp (le-ltb _ _ (c .before .before .before .before .before .before .before .if1 .left), le-ltb _ _ (c .before .before .before .before .before .before .if2 .left), ← c .before .before .before .before .before .word .ensures, eq-eqb _ _ (c .before .before .before .before .if3 .left), ← c .before .before .before .word2 .ensures, eq-eqb _ _ (c .before .before .if4 .left), ← c .before .byte .ensures)))

@@ -1,7 +1,7 @@
 -- `case::all_bytes` meets its contract. Assumes nothing.
 use borrow.Author.Needs.{needs}
 use mathlib.Core.Path.{refl}
-use Rattle.sheet_replay.specs.Compare.{lentBytes}
+use Rattle.sheet_replay.specs.Case.{lentBytes}
 use Rattle.sheet_replay.proofs.case.all_bytes.Statement.{statement}
 use Rattle.sheet_replay.proofs.case.all_bytes.Tie as tie
 

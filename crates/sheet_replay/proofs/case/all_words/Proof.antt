@@ -1,7 +1,7 @@
 -- `case::all_words` meets its contract. Assumes nothing.
 use borrow.Author.Needs.{needs}
 use mathlib.Core.Path.{refl}
-use Rattle.sheet_replay.specs.Compare.{lentWords}
+use Rattle.sheet_replay.specs.Case.{lentWords}
 use Rattle.sheet_replay.proofs.case.all_words.Statement.{statement}
 use Rattle.sheet_replay.proofs.case.all_words.Tie as tie
 

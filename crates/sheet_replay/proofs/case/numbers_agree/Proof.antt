@@ -11,8 +11,7 @@ unfolding numbersAgree
 numbers-agree-spec =
     tie.close
     (tie.spec
-    (λ c. search needs)
-    (λ c κs. search needs)
+    (λ c. search needs) (λ c κs. search needs)
     (λ c. simp (← c .before .count-at .ensures .0, ne-eqb _ _ (c .if1 .taken)))
     (λ c κs. search needs)
     (λ c. simp (← c .before .before .before .before .count-at .ensures .0, eq-eqb _ _ (c .before .before .before .if1 .left), ← c .before .before .count-at2 .ensures .0, ne-eqb _ _ (c .if2 .taken)))

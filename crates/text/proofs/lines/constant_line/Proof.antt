@@ -12,9 +12,5 @@ unfolding constantLine
 constant-line-spec =
     tie.close
     (tie.spec
-    (λ c κs. search needs)
-    (λ c κs. search needs)
-    (λ c κs. search needs)
-    (λ c κs. search needs)
-    (λ c κs. search needs)
+    (λ c κs. search needs) (λ c κs. search needs) (λ c κs. search needs) (λ c κs. search needs) (λ c κs. search needs)
     (λ c. prints (c .before .before .before .before .empty-line .ensures) ((c .before .before .before .decimal .ensures ▹ (c .before .before .byte .ensures ▹ c .before .hex .ensures)) ▹ c .byte2 .ensures) (constant-short (c .before .before .before .before .before .args .index) (c .before .before .before .before .before .args .word))))

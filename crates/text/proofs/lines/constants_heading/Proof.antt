@@ -12,9 +12,5 @@ unfolding ascii constantsHeading
 constants-heading-spec =
     tie.close
     (tie.spec
-    (λ c κs. search needs)
-    (λ c. search needs)
-    (λ c κs. search needs)
-    (λ c κs. search needs)
-    (λ c κs. search needs)
+    (λ c κs. search needs) (λ c. search needs) (λ c κs. search needs) (λ c κs. search needs) (λ c κs. search needs)
     (λ c. prints (c .before .before .before .before .empty-line .ensures) (c .before .before .text .ensures ▹ c .before .number .ensures ▹ c .byte .ensures) (constants-heading-short (c .before .before .before .before .before .args .count))))

@@ -12,10 +12,5 @@ unfolding ascii listingHeading
 listing-heading-spec =
     tie.close
     (tie.spec
-    (λ c κs. search needs)
-    (λ c. search needs)
-    (λ c κs. search needs)
-    (λ c κs. search needs)
-    (λ c κs. search needs)
-    (λ c κs. search needs)
+    (λ c κs. search needs) (λ c. search needs) (λ c κs. search needs) (λ c κs. search needs) (λ c κs. search needs) (λ c κs. search needs)
     (λ c. prints (c .before .before .before .before .before .empty-line .ensures) (c .before .before .before .text .ensures ▹ c .before .before .number .ensures ▹ c .before .number2 .ensures ▹ c .byte .ensures) (listing-heading-short (c .before .before .before .before .before .before .args .records) (c .before .before .before .before .before .before .args .bytes))))

@@ -13,9 +13,7 @@ unfolding recordLine
 record-line-spec =
     tie.close
     (tie.spec
-    (λ c κs. search needs)
-    (λ c κs. search needs)
-    (λ c κs. search needs)
+    (λ c κs. search needs) (λ c κs. search needs) (λ c κs. search needs)
     (λ c.
     let r = c .before .before .before .args .«record» in
     let h = c .before .«record» .ensures .1 in

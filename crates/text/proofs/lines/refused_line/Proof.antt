@@ -12,10 +12,5 @@ unfolding ascii refusedLine
 refused-line-spec =
     tie.close
     (tie.spec
-    (λ c κs. search needs)
-    (λ c. search needs)
-    (λ c κs. search needs)
-    (λ c κs. search needs)
-    (λ c κs. search needs)
-    (λ c κs. search needs)
+    (λ c κs. search needs) (λ c. search needs) (λ c κs. search needs) (λ c κs. search needs) (λ c κs. search needs) (λ c κs. search needs)
     (λ c. prints (c .before .before .before .before .before .empty-line .ensures) (c .before .before .before .text .ensures ▹ c .before .before .number .ensures ▹ c .before .number2 .ensures ▹ c .byte .ensures) (refused-short (c .before .before .before .before .before .before .args .number) (c .before .before .before .before .before .before .args .index))))

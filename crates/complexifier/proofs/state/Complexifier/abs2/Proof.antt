@@ -10,8 +10,5 @@ pub abs2-spec : {M : Type 1} → statement M
 abs2-spec =
     tie.close
     (tie.spec
-    (λ c κs. search needs)
-    (λ c κs. search needs)
-    (λ c κs. search needs)
-    (λ c. search needs)
+    (λ c κs. search needs) (λ c κs. search needs) (λ c κs. search needs) (λ c. search needs)
     (λ c. made₁ abs2Lines copied _ _ (c .before .before .before .before .before .is-real-reg .ensures) (c .before .before .before .abs2-lines .ensures) (c .copy-real .ensures)))

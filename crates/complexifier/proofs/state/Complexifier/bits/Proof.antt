@@ -11,9 +11,5 @@ unfolding bits
 bits-spec =
     tie.close
     (tie.spec
-    (λ c κs. search needs)
-    (λ c κs. search needs)
-    (λ c κs. search needs)
-    (λ c κs. search needs)
-    (λ c. search needs)
+    (λ c κs. search needs) (λ c κs. search needs) (λ c κs. search needs) (λ c κs. search needs) (λ c. search needs)
     (λ c. made₂ (bitsLines _) promoted _ _ _ (c .before .before .before .before .before .before .is-real-reg .ensures) (c .before .before .before .before .before .is-real-reg2 .ensures) (c .before .before .before .bits-lines .ensures) (c .promote-real .ensures)))

@@ -15,7 +15,5 @@ unfolding callRoot
 call-root-spec =
     tie.close
     (tie.spec
-    (λ c κs. search needs)
-    (λ c κs. search needs)
-    (λ c. search needs)
+    (λ c κs. search needs) (λ c κs. search needs) (λ c. search needs)
     (λ c. listing (Record.Call 1 ∷ []) (λ ρ. setReg ρ Ret false) (c .before .before .before .call .ensures) (c .set-reg-complex .ensures)))

@@ -12,7 +12,5 @@ unfolding complexLines
 complex-spec =
     tie.close
     (tie.spec
-    (λ c κs. search needs)
-    (λ c κs. search needs)
-    (λ c. search needs)
+    (λ c κs. search needs) (λ c κs. search needs) (λ c. search needs)
     (λ c. made₂ complexLines bothAsComplex _ _ _ refl refl (c .before .before .before .complex-lines .ensures) (c .set-reg-complex .ensures)))

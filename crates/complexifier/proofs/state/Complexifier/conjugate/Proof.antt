@@ -10,8 +10,5 @@ pub conjugate-spec : {M : Type 1} → statement M
 conjugate-spec =
     tie.close
     (tie.spec
-    (λ c κs. search needs)
-    (λ c κs. search needs)
-    (λ c κs. search needs)
-    (λ c. search needs)
+    (λ c κs. search needs) (λ c κs. search needs) (λ c κs. search needs) (λ c. search needs)
     (λ c. made₁ conjugateLines copied _ _ (c .before .before .before .before .before .is-real-reg .ensures) (c .before .before .before .conjugate-lines .ensures) (c .copy-real .ensures)))

@@ -10,8 +10,5 @@ pub each-spec : {M : Type 1} → statement M
 each-spec =
     tie.close
     (tie.spec
-    (λ c κs. search needs)
-    (λ c κs. search needs)
-    (λ c κs. search needs)
-    (λ c. search needs)
+    (λ c κs. search needs) (λ c κs. search needs) (λ c κs. search needs) (λ c. search needs)
     (λ c. made₁ (eachLines _) copied _ _ (c .before .before .before .before .before .is-real-reg .ensures) (c .before .before .before .each-lines .ensures) (c .copy-real .ensures)))

@@ -11,8 +11,5 @@ unfolding ensureComplex byOne
 ensure-complex-spec =
     tie.close
     (tie.spec
-    (λ c κs. search needs)
-    (λ c κs. search needs)
-    (λ c κs. search needs)
-    (λ c. search needs)
+    (λ c κs. search needs) (λ c κs. search needs) (λ c κs. search needs) (λ c. search needs)
     (λ c. made₁ (λ x d a. ensureLines x d) asComplex _ _ (c .before .before .before .before .before .is-real-reg .ensures) (c .before .before .before .ensure-lines .ensures) (c .set-reg-complex .ensures)))

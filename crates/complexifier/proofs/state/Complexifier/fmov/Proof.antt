@@ -11,8 +11,5 @@ unfolding fmov
 fmov-spec =
     tie.close
     (tie.spec
-    (λ c κs. search needs)
-    (λ c κs. search needs)
-    (λ c κs. search needs)
-    (λ c. search needs)
+    (λ c κs. search needs) (λ c κs. search needs) (λ c κs. search needs) (λ c. search needs)
     (λ c. made₁ fmovLines copied _ _ (c .before .before .before .before .before .is-real-reg .ensures) (c .before .before .before .fmov-lines .ensures) (c .copy-real .ensures)))

@@ -10,8 +10,5 @@ unfolding fusedNegMulSub
 fused-neg-mul-sub-spec =
     tie.close
     (tie.spec
-    (λ c κs. search needs)
-    (λ c κs. search needs)
-    (λ c κs. search needs)
-    (λ c. search needs)
+    (λ c κs. search needs) (λ c κs. search needs) (λ c κs. search needs) (λ c. search needs)
     (λ c. c .before .before .before .before .before .before .before .before .before .before .before .before .times .ensures ▸ c .before .before .before .before .before .before .before .plus .ensures ▸ c .before .before .each .ensures))

@@ -14,6 +14,5 @@ unfolding half
 half-spec =
     tie.close
     (tie.spec
-    (λ c κs. search needs)
-    (λ c. search needs)
+    (λ c κs. search needs) (λ c. search needs)
     (λ c. listing (map Record.Work (halfLines _ _)) (λ ρ. ρ) (c .before .before .half-lines .ensures) refl))

@@ -12,9 +12,5 @@ unfolding ifelse
 ifelse-spec =
     tie.close
     (tie.spec
-    (λ c κs. search needs)
-    (λ c κs. search needs)
-    (λ c κs. search needs)
-    (λ c κs. search needs)
-    (λ c. search needs)
+    (λ c κs. search needs) (λ c κs. search needs) (λ c κs. search needs) (λ c κs. search needs) (λ c. search needs)
     (λ c. c .before .before .before .before .before .before .before .before .before .before .before .before .before .ensure-complex .ensures ▸ c .before .before .before .before .before .before .before .before .ensure-complex2 .ensures ▸ made (ifelseLines _ _ _ _) _ false (c .before .before .before .ifelse-lines .ensures) (c .set-reg-complex .ensures)))

@@ -10,8 +10,5 @@ pub imaginary-spec : {M : Type 1} → statement M
 imaginary-spec =
     tie.close
     (tie.spec
-    (λ c κs. search needs)
-    (λ c κs. search needs)
-    (λ c κs. search needs)
-    (λ c. search needs)
+    (λ c κs. search needs) (λ c κs. search needs) (λ c κs. search needs) (λ c. search needs)
     (λ c. made₁ imaginaryLines asReal _ _ (c .before .before .before .before .before .is-real-reg .ensures) (c .before .before .before .imaginary-lines .ensures) (c .set-reg-real .ensures)))

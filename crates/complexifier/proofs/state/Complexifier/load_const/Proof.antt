@@ -14,7 +14,5 @@ unfolding loadConst
 load-const-spec =
     tie.close
     (tie.spec
-    (λ c κs. search needs)
-    (λ c κs. search needs)
-    (λ c. search needs)
+    (λ c κs. search needs) (λ c κs. search needs) (λ c. search needs)
     (λ c. made (mir.loadConst (re _) _ ∷ []) _ true (c .before .before .before .load-const-lines .ensures) (c .set-reg-real .ensures)))

@@ -12,7 +12,5 @@ unfolding notLines
 not-spec =
     tie.close
     (tie.spec
-    (λ c κs. search needs)
-    (λ c κs. search needs)
-    (λ c. search needs)
+    (λ c κs. search needs) (λ c κs. search needs) (λ c. search needs)
     (λ c. made₁ notLines asReal _ _ refl (c .before .before .before .not-lines .ensures) (c .set-reg-real .ensures)))

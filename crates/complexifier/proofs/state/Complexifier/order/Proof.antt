@@ -12,7 +12,5 @@ unfolding orderLines
 order-spec =
     tie.close
     (tie.spec
-    (λ c κs. search needs)
-    (λ c κs. search needs)
-    (λ c. search needs)
+    (λ c κs. search needs) (λ c κs. search needs) (λ c. search needs)
     (λ c. made₂ (orderLines _) bothAsReal _ _ _ refl refl (c .before .before .before .order-lines .ensures) (c .set-reg-real .ensures)))

@@ -12,7 +12,5 @@ unfolding realLines
 real-spec =
     tie.close
     (tie.spec
-    (λ c κs. search needs)
-    (λ c κs. search needs)
-    (λ c. search needs)
+    (λ c κs. search needs) (λ c κs. search needs) (λ c. search needs)
     (λ c. made₁ realLines asReal _ _ refl (c .before .before .before .real-lines .ensures) (c .set-reg-real .ensures)))

@@ -9,15 +9,8 @@ unfolding rerunFused
 rerun-fused-spec =
     tie.close
     (tie.spec
-    (λ c. search needs)
-    (λ c κs. search needs)
-    (λ c. search needs)
-    (λ c κs. search needs)
-    (λ c. search needs)
-    (λ c κs. search needs)
-    (λ c. search needs)
-    (λ c κs. search needs)
-    (λ c. search needs)
+    (λ c. search needs) (λ c κs. search needs) (λ c. search needs) (λ c κs. search needs) (λ c. search needs) (λ c κs. search needs)
+    (λ c. search needs) (λ c κs. search needs) (λ c. search needs)
     (λ c. simp (c .before .before .before .before .enum-told .given .1) (c .before .before .fused-mul-add .ensures))
     (λ c. search needs)
     (λ c. simp (c .before .before .before .before .enum-told2 .given .1) (c .before .before .fused-mul-sub .ensures))

@@ -13,8 +13,5 @@ unfolding saveTo
 save-to-spec =
     tie.close
     (tie.spec
-    (λ c κs. search needs)
-    (λ c κs. search needs)
-    (λ c κs. search needs)
-    (λ c. search needs)
+    (λ c κs. search needs) (λ c κs. search needs) (λ c κs. search needs) (λ c. search needs)
     (λ c. c .before .before .before .before .before .before .before .before .ensure-complex .ensures ▸ listing (map Record.Work (saveLines _ _)) (savedReal (c .before .before .before .before .before .before .before .before .before .before .before .args .loc)) (c .before .before .before .save-lines .ensures) (c .saved .ensures)))

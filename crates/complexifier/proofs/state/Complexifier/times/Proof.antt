@@ -11,9 +11,5 @@ unfolding times
 times-spec =
     tie.close
     (tie.spec
-    (λ c κs. search needs)
-    (λ c κs. search needs)
-    (λ c κs. search needs)
-    (λ c κs. search needs)
-    (λ c. search needs)
+    (λ c κs. search needs) (λ c κs. search needs) (λ c κs. search needs) (λ c κs. search needs) (λ c. search needs)
     (λ c. made₂ timesLines promoted _ _ _ (c .before .before .before .before .before .before .is-real-reg .ensures) (c .before .before .before .before .before .is-real-reg2 .ensures) (c .before .before .before .times-lines .ensures) (c .promote-real .ensures)))

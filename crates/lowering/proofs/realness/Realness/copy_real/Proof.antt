@@ -8,6 +8,5 @@ pub copy-real-spec : {M : Type 1} → statement M
 copy-real-spec =
     tie.close
     (tie.spec
-    (λ c κs. search needs)
-    (λ c κs. search needs)
+    (λ c κs. search needs) (λ c κs. search needs)
     (λ c. c .set-reg .ensures ∙ simp (c .before .is-real-reg .ensures)))

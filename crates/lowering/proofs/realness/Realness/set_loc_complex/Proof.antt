@@ -10,14 +10,8 @@ unfolding withoutLoc
 set-loc-complex-spec =
     tie.close
     (tie.spec
-    (λ c. search needs)
-    (λ c. search needs)
-    (λ c κs. search needs)
-    (λ c. search needs)
-    (λ c. search needs)
-    (λ c. search needs)
-    (λ c. search needs)
-    (λ c κs. search needs)
+    (λ c. search needs) (λ c. search needs) (λ c κs. search needs) (λ c. search needs) (λ c. search needs) (λ c. search needs)
+    (λ c. search needs) (λ c κs. search needs)
     (λ c. simp (c .before .before .loc .given .1, c .clear-at .ensures))
     (λ c. simp (c .enum-told .given .1))
     (λ c. simp (c .before .before .loc2 .given .1, c .clear-at2 .ensures)))

@@ -10,7 +10,6 @@ unfolding added
 byte-spec =
     tie.close
     (tie.spec
-    (λ c. search needs)
-    (λ c. search needs)
+    (λ c. search needs) (λ c. search needs)
     (λ c. record { same = simp (lt-ltb _ _ (c .before .if1 .taken)) })
     (λ c. record { same = simp (le-ltb _ _ (c .if1 .left)) }))

@@ -9,6 +9,5 @@ pub hex-spec : {M : Type 1} → statement M
 hex-spec =
     tie.close
     (tie.spec
-    (λ c κs. search needs)
-    (λ c κs. search needs)
+    (λ c κs. search needs) (λ c κs. search needs)
     (λ c. halves 8 (c .before .before .args .word) _ (omega arith) (c .before .hex8 .ensures) (c .hex82 .ensures)))

@@ -11,10 +11,7 @@ unfolding hexIn
 hex1-spec =
     tie.close
     (tie.spec
-    (λ c. search needs)
-    (λ c. search needs)
-    (λ c κs. search needs)
+    (λ c. search needs) (λ c. search needs) (λ c κs. search needs)
     (λ c. record { same = c .byte .ensures .same ∙ simp (lt-ltb _ _ (c .before .if1 .taken)) })
-    (λ c. search needs)
-    (λ c κs. search needs)
+    (λ c. search needs) (λ c κs. search needs)
     (λ c. record { same = c .byte2 .ensures .same ∙ simp (le-ltb _ _ (c .before .if1 .left)) }))

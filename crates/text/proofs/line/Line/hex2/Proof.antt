@@ -9,6 +9,5 @@ pub hex2-spec : {M : Type 1} → statement M
 hex2-spec =
     tie.close
     (tie.spec
-    (λ c κs. search needs)
-    (λ c κs. search needs)
+    (λ c κs. search needs) (λ c κs. search needs)
     (λ c. halves 1 (c .before .before .args .n) _ (omega arith) (c .before .hex1 .ensures) (c .hex12 .ensures)))

@@ -9,6 +9,5 @@ pub hex4-spec : {M : Type 1} → statement M
 hex4-spec =
     tie.close
     (tie.spec
-    (λ c κs. search needs)
-    (λ c κs. search needs)
+    (λ c κs. search needs) (λ c κs. search needs)
     (λ c. halves 2 (c .before .before .args .n) _ (omega arith) (c .before .hex2 .ensures) (c .hex22 .ensures)))

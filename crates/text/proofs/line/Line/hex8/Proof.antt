@@ -9,6 +9,5 @@ pub hex8-spec : {M : Type 1} → statement M
 hex8-spec =
     tie.close
     (tie.spec
-    (λ c κs. search needs)
-    (λ c κs. search needs)
+    (λ c κs. search needs) (λ c κs. search needs)
     (λ c. halves 4 (c .before .before .args .n) _ (omega arith) (c .before .hex4 .ensures) (c .hex42 .ensures)))

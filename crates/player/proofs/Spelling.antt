@@ -1,0 +1,166 @@
+-- A record that is read from bytes is the jump that they spell, or a working record where they spell none.
+use Prim.Native.Nat.{ℕ}
+use mathlib.Core.Path.{_≡_, refl, sym, ap, _∙_}
+use mathlib.Core.Bool.{Bool, true, false, cond, true≢false}
+use mathlib.Core.List.{List, [], _∷_}
+use mathlib.Core.Option.{Option, none, some}
+use lib.Dec.{ltb, leb, eqb}
+use borrow.Author.Tests.{eqb-true, ne-eqb}
+use Rattle.mir.specs.declared.records.Work.{Work}
+use Rattle.mir.specs.declared.records.Record.{Record}
+use Rattle.mir.specs.Read.{Read, got, refused, refuse, andThen, above, registers}
+use Rattle.mir.specs.Operation.{uniOps, binOps, arithOps, fusedOps, taken}
+use Rattle.mir.specs.Takes.{takesUni, takesBin, takesArith, takesFused}
+use Rattle.mir.specs.Field.{byteAt, wordAt, takesKind, headFrom, placeAt, savePlace, condPlace}
+use Rattle.mir.proofs.Passing.{then, got-same, clash}
+use Rattle.mir.proofs.Heads.{headed}
+use Rattle.records.specs.Record.{fieldsFrom, recordFrom}
+use Rattle.player_machine.specs.Machine.{isLabel}
+use Rattle.player_machine.specs.Jumps.{isJump, isReturn}
+use Rattle.player.specs.Spelled.{jumpOf, jumpSpelled, jumpIn, such}
+
+module _ (kind label : ℕ) where
+  -- what was read is what a kind and a label spell
+  data Spells : Read Record → Type 0 where
+    read : {r : Record} → jumpOf kind label ≡ jumpIn r → Spells (got r)
+    told : {n : ℕ} → Spells (refused n)
+
+  spelt : {x : Read Record} {r : Record} → Spells x → x ≡ got r → jumpOf kind label ≡ jumpIn r
+  spelt (read e) f = e ∙ ap jumpIn (got-same _ _ f)
+  spelt (told {n}) f = absurd (clash n _ f)
+
+  -- the tests and the parts of a reader keep it
+  tested : (b : Bool) (n : ℕ) {x : Read Record} → Spells x → Spells (refuse b n x)
+  tested true n h = told
+  tested false n h = h
+
+  parted : {A : Type 0} (x : Read A) {f : A → Read Record} → ((a : A) → Spells (f a)) → Spells (andThen x f)
+  parted (got a) h = h a
+  parted (refused n) h = told
+
+  limited : (xs : List ℕ) {x : Read Record} → Spells x → Spells (registers 65 xs x)
+  limited xs h = tested (above 65 xs) 3 h
+
+  -- a kind by its test
+  chosen : (n : ℕ) {x y : Read Record} → (kind ≡ n → Spells x) → Spells y → Spells (cond (eqb kind n) x y)
+  chosen n {x} {y} f h = go (eqb kind n) (λ e. f (eqb-true kind n e))
+    where
+      go : (b : Bool) → (b ≡ true → Spells x) → Spells (cond b x y)
+      go true f = f refl
+      go false f = h
+
+  works : {w : Work} (n : ℕ) → none ≡ jumpOf n label → kind ≡ n → Spells (got (Record.Work w))
+  works n e k = read (ap (λ k. jumpOf k label) k ∙ sym e)
+
+  jumps : {r : Record} (n : ℕ) → jumpOf n label ≡ jumpIn r → kind ≡ n → Spells (got r)
+  jumps n e k = read (ap (λ k. jumpOf k label) k ∙ e)
+
+-- kind by kind
+fields : (count : ℕ) (s : List ℕ) → Spells (wordAt s 2) (byteAt s 4) (fieldsFrom count (wordAt s 2) s)
+unfolding fieldsFrom
+fields count s =
+    let b = byteAt s in
+    chosen _ _ 1 (λ k. parted _ _ (taken (takesUni true) uniOps (b 4)) (λ op. limited _ _ (b 5 ∷ b 6 ∷ []) (works _ _ 1 refl k)))
+    (chosen _ _ 2 (λ k. parted _ _ (taken (takesBin true) binOps (b 4)) (λ op. limited _ _ (b 5 ∷ b 6 ∷ b 7 ∷ []) (works _ _ 2 refl k)))
+    (chosen _ _ 3 (λ k. limited _ _ (b 4 ∷ b 5 ∷ []) (works _ _ 3 refl k))
+    (chosen _ _ 4 (λ k. limited _ _ (b 4 ∷ []) (parted _ _ (placeAt s 5) (λ loc. works _ _ 4 refl k)))
+    (chosen _ _ 5 (λ k. limited _ _ (b 4 ∷ []) (parted _ _ (savePlace s 5) (λ loc. works _ _ 5 refl k)))
+    (chosen _ _ 6 (λ k. limited _ _ (b 4 ∷ []) (tested _ _ (leb count (wordAt s 5)) 5 (works _ _ 6 refl k)))
+    (chosen _ _ 7
+    (λ k. parted _ _ (taken (takesFused true) fusedOps (b 4)) (λ op. limited _ _ (b 5 ∷ b 6 ∷ b 7 ∷ b 8 ∷ []) (works _ _ 7 refl k)))
+    (chosen _ _ 8 (λ k. limited _ _ (b 4 ∷ b 5 ∷ b 6 ∷ []) (parted _ _ (condPlace s 7) (λ loc. works _ _ 8 refl k)))
+    (chosen _ _ 11 (λ k. limited _ _ (b 4 ∷ b 5 ∷ []) (parted _ _ (placeAt s 6) (λ loc. works _ _ 11 refl k)))
+    (chosen _ _ 12 (λ k. limited _ _ (b 4 ∷ b 5 ∷ []) (parted _ _ (savePlace s 6) (λ loc. works _ _ 12 refl k)))
+    (chosen _ _ 13
+    (λ k.
+    parted _ _ (taken takesArith arithOps (b 4))
+    (λ op. limited _ _ (b 5 ∷ b 6 ∷ b 7 ∷ b 8 ∷ b 9 ∷ b 10 ∷ []) (works _ _ 13 refl k)))
+    (chosen _ _ 14 (λ k. tested _ _ (ltb 2 (b 4)) 2 (jumps _ _ 14 refl k))
+    (chosen _ _ 15 (λ k. tested _ _ (ltb 2 (b 4)) 2 (jumps _ _ 15 refl k))
+    (chosen _ _ 16 (λ k. tested _ _ (ltb 2 (b 4)) 2 (jumps _ _ 16 refl k))
+    told)))))))))))))
+
+pub spelling : (count : ℕ) (s : List ℕ) (rec : Record) → recordFrom count s ≡ got rec → jumpSpelled s ≡ jumpIn rec
+unfolding recordFrom
+spelling count s rec e =
+    let t = then (headFrom (takesKind true) s) (λ kind. fieldsFrom count kind s) rec e in
+    let h = headed (takesKind true) s (t .first) (t .found) in
+    spelt _ _ (fields count s) (ap (λ kind. fieldsFrom count kind s) (sym (h .same)) ∙ t .rest)
+
+-- the jump that a record is
+jump-by : (rec r : Record) → jumpIn rec ≡ some r → rec ≡ r
+jump-by (Record.Work w) r e = cc
+jump-by (Record.Label l) r e = cc
+jump-by (Record.Branch l) r e = cc
+jump-by (Record.Call l) r e = cc
+
+none-jumps : (rec r : Record) → isJump rec ≡ true → none ≡ jumpIn rec → rec ≡ r
+none-jumps (Record.Work w) r j e = absurd (true≢false (sym j))
+none-jumps (Record.Label l) r j e = cc
+none-jumps (Record.Branch l) r j e = cc
+none-jumps (Record.Call l) r j e = cc
+
+module _ (s : List ℕ) (rec : Record) (e : jumpSpelled s ≡ jumpIn rec) where
+  pub a-jump : (n : ℕ) {r : Record} → wordAt s 2 ≡ n → jumpOf n (byteAt s 4) ≡ some r → rec ≡ r
+  a-jump n k f = jump-by rec _ (sym e ∙ ap (λ k. jumpOf k (byteAt s 4)) k ∙ f)
+
+  -- a jump of the third kind
+  pub a-call : isJump rec ≡ true → (wordAt s 2 ≡ 14 → ⊥) → (wordAt s 2 ≡ 15 → ⊥) → rec ≡ Record.Call (byteAt s 4)
+  a-call j x y =
+      go (eqb (wordAt s 2) 16)
+      (sym (jump-rest (eqb (wordAt s 2) 14) (eqb (wordAt s 2) 15) (ne-eqb _ _ x) (ne-eqb _ _ y)) ∙ e)
+    where
+      jump-rest : {o : Option Record} (a b : Bool) → a ≡ false → b ≡ false
+          → cond a (some (Record.Label (byteAt s 4))) (cond b (some (Record.Branch (byteAt s 4))) o) ≡ o
+      jump-rest a b f g = simp (f, g)
+
+      go : (b : Bool) → cond b (some (Record.Call (byteAt s 4))) none ≡ jumpIn rec → rec ≡ Record.Call (byteAt s 4)
+      go true f = jump-by rec _ (sym f)
+      go false f = none-jumps rec _ j f
+
+  -- a test that holds of no working record
+  such-in : (p : Record → Bool) → ((w : Work) → p (Record.Work w) ≡ false) → such p (jumpSpelled s) ≡ p rec
+  such-in p h = ap (such p) e ∙ go rec
+    where
+      go : (r : Record) → such p (jumpIn r) ≡ p r
+      go (Record.Work w) = sym (h w)
+      go (Record.Label m) = refl
+      go (Record.Branch m) = refl
+      go (Record.Call m) = refl
+
+  pub such-label : (l : ℕ) → such (isLabel l) (jumpSpelled s) ≡ isLabel l rec
+  unfolding isLabel
+  such-label l = such-in (isLabel l) (λ w. refl)
+
+  pub such-return : such isReturn (jumpSpelled s) ≡ isReturn rec
+  unfolding isReturn
+  such-return = such-in isReturn (λ w. refl)
+
+-- what each kind spells
+pub label-of : (kind label l : ℕ) → such (isLabel l) (jumpOf kind label) ≡ cond (eqb kind 14) (eqb label l) false
+unfolding isLabel
+label-of kind label l = go (eqb kind 14) (eqb kind 15) (eqb kind 16)
+  where
+    go : (a b c : Bool)
+        → such (isLabel l) (cond a (some (Record.Label label)) (cond b (some (Record.Branch label)) (cond c (some (Record.Call label)) none)))
+        ≡ cond a (eqb label l) false
+    go true b c = refl
+    go false true c = refl
+    go false false true = refl
+    go false false false = refl
+
+pub return-at : (kind label : ℕ) → kind ≡ 15 → such isReturn (jumpOf kind label) ≡ eqb label 0
+unfolding isReturn
+return-at kind label e = ap (λ k. such isReturn (jumpOf k label)) e
+
+pub return-of : (kind label : ℕ) → (kind ≡ 15 → ⊥) → such isReturn (jumpOf kind label) ≡ false
+unfolding isReturn
+return-of kind label n = go (eqb kind 14) (eqb kind 15) (eqb kind 16) (λ e. n (eqb-true kind 15 e))
+  where
+    go : (a b c : Bool) → (b ≡ true → ⊥)
+        → such isReturn (cond a (some (Record.Label label)) (cond b (some (Record.Branch label)) (cond c (some (Record.Call label)) none)))
+        ≡ false
+    go true b c n = refl
+    go false true c n = absurd (n refl)
+    go false false true n = refl
+    go false false false n = refl

@@ -1,0 +1,32 @@
+-- The jump that bytes spell (document 01, Sheet). Every record of a listing is tested by the first pass; what follows reads the length, the
+-- kind and the label alone, and tests nothing again.
+use Prim.Native.Nat.{ℕ}
+use mathlib.Core.Bool.{Bool, false, cond}
+use mathlib.Core.List.{List}
+use mathlib.Core.Option.{Option, none, some}
+use lib.Dec.{eqb}
+use Rattle.mir.specs.declared.records.Record.{Record}
+use Rattle.mir.specs.Field.{byteAt, wordAt}
+
+-- 14 Label, 15 Branch, 16 Call: label; any other kind spells no jump
+abbrev pub jumpOf : ℕ → ℕ → Option Record
+jumpOf kind label =
+    cond (eqb kind 14) (some (Record.Label label))
+    (cond (eqb kind 15) (some (Record.Branch label))
+    (cond (eqb kind 16) (some (Record.Call label))
+    none))
+
+abbrev pub jumpSpelled : List ℕ → Option Record
+jumpSpelled s = jumpOf (wordAt s 2) (byteAt s 4)
+
+-- the jump of a record that was read
+abbrev pub jumpIn : Record → Option Record
+jumpIn (Record.Work w) = none
+jumpIn (Record.Label l) = some (Record.Label l)
+jumpIn (Record.Branch l) = some (Record.Branch l)
+jumpIn (Record.Call l) = some (Record.Call l)
+
+-- is there such a jump?
+abbrev pub such : (Record → Bool) → Option Record → Bool
+such p none = false
+such p (some r) = p r

@@ -1,0 +1,5 @@
+pub mod Seeking
+pub mod Bound
+pub mod Drawing
+pub mod Keeping
+pub mod Stepping

@@ -1,0 +1,102 @@
+-- The working record that bytes spell (document 01, Sheet). Every record of a listing is tested before the first is
+-- played; it is then played from its bytes, and here registers, constants, and the class of a place that is saved to or is a condition, are not tested again.
+use Prim.Native.Nat.{ℕ}
+use mathlib.Core.Bool.{Bool, true, false, cond}
+use mathlib.Core.List.{List}
+use mathlib.Core.Option.{Option, none, some}
+use lib.Dec.{eqb}
+use Rattle.mir.specs.declared.records.Work.{Work}
+use Rattle.mir.specs.declared.records.Record.{Record}
+use Rattle.mir.specs.Operation.{uniOps, binOps, arithOps, fusedOps, taken}
+use Rattle.mir.specs.Read.{Read, got, refused}
+use Rattle.mir.specs.Field.{byteAt, wordAt, placeAt}
+use Rattle.mir.specs.Takes.{takesUni, takesBin, takesArith, takesFused}
+use Rattle.player_machine.specs.Machine.{Store, exec}
+
+-- the record of an operation or a place that is read; none where it is refused
+abbrev pub ofPart : {A : Type 0} → Read A → (A → Work) → Option Work
+ofPart (got a) f = some (f a)
+ofPart (refused n) f = none
+
+-- 1 Uni: op, dst, s1
+unfoldable pub uniSpelled : List ℕ → Option Work
+uniSpelled s = ofPart (taken (takesUni true) uniOps (byteAt s 4)) (λ op. Work.Uni op (byteAt s 5) (byteAt s 6))
+
+-- 2 Bi: op, dst, s1, s2
+unfoldable pub biSpelled : List ℕ → Option Work
+biSpelled s =
+    ofPart (taken (takesBin true) binOps (byteAt s 4)) (λ op. Work.Bi op (byteAt s 5) (byteAt s 6) (byteAt s 7))
+
+-- 3 Mov: dst, s1
+unfoldable pub movSpelled : List ℕ → Option Work
+movSpelled s = some (Work.Mov (byteAt s 4) (byteAt s 5))
+
+-- 4 Load: register, place
+unfoldable pub loadSpelled : List ℕ → Option Work
+loadSpelled s = ofPart (placeAt s 5) (λ loc. Work.Load (byteAt s 4) loc)
+
+-- 5 Save: register, place
+unfoldable pub saveSpelled : List ℕ → Option Work
+saveSpelled s = ofPart (placeAt s 5) (λ loc. Work.Save (byteAt s 4) loc)
+
+-- 6 LoadConst: dst, constant
+unfoldable pub loadConstSpelled : List ℕ → Option Work
+loadConstSpelled s = some (Work.LoadConst (byteAt s 4) (wordAt s 5))
+
+-- 7 Fused: op, dst, a, b, c
+unfoldable pub fusedSpelled : List ℕ → Option Work
+fusedSpelled s =
+    ofPart (taken (takesFused true) fusedOps (byteAt s 4))
+    (λ op. Work.Fused op (byteAt s 5) (byteAt s 6) (byteAt s 7) (byteAt s 8))
+
+-- 8 IfElse: dst, true, false, place
+unfoldable pub ifElseSpelled : List ℕ → Option Work
+ifElseSpelled s = ofPart (placeAt s 7) (λ loc. Work.IfElse (byteAt s 4) (byteAt s 5) (byteAt s 6) loc)
+
+-- 11 LoadComplex: two registers, place
+unfoldable pub loadComplexSpelled : List ℕ → Option Work
+loadComplexSpelled s = ofPart (placeAt s 6) (λ loc. Work.LoadComplex (byteAt s 4) (byteAt s 5) loc)
+
+-- 12 SaveComplex: two registers, place
+unfoldable pub saveComplexSpelled : List ℕ → Option Work
+saveComplexSpelled s = ofPart (placeAt s 6) (λ loc. Work.SaveComplex (byteAt s 4) (byteAt s 5) loc)
+
+-- 13 ComplexBi: op, xd, yd, x1, y1, x2, y2
+unfoldable pub complexBiSpelled : List ℕ → Option Work
+complexBiSpelled s =
+    ofPart (taken takesArith arithOps (byteAt s 4))
+    (λ op. Work.ComplexBi op (byteAt s 5) (byteAt s 6) (byteAt s 7) (byteAt s 8) (byteAt s 9) (byteAt s 10))
+
+-- by kind; Label, Branch and Call spell no work
+unfoldable pub spelled : List ℕ → Option Work
+unfolding uniSpelled biSpelled movSpelled loadSpelled saveSpelled loadConstSpelled fusedSpelled ifElseSpelled loadComplexSpelled saveComplexSpelled complexBiSpelled
+spelled s =
+    cond (eqb (wordAt s 2) 1) (uniSpelled s)
+    (cond (eqb (wordAt s 2) 2) (biSpelled s)
+    (cond (eqb (wordAt s 2) 3) (movSpelled s)
+    (cond (eqb (wordAt s 2) 4) (loadSpelled s)
+    (cond (eqb (wordAt s 2) 5) (saveSpelled s)
+    (cond (eqb (wordAt s 2) 6) (loadConstSpelled s)
+    (cond (eqb (wordAt s 2) 7) (fusedSpelled s)
+    (cond (eqb (wordAt s 2) 8) (ifElseSpelled s)
+    (cond (eqb (wordAt s 2) 11) (loadComplexSpelled s)
+    (cond (eqb (wordAt s 2) 12) (saveComplexSpelled s)
+    (cond (eqb (wordAt s 2) 13) (complexBiSpelled s)
+    none))))))))))
+
+-- the work of a record that was read
+abbrev pub workIn : Record → Option Work
+workIn (Record.Work w) = some w
+workIn (Record.Label l) = none
+workIn (Record.Branch l) = none
+workIn (Record.Call l) = none
+
+-- whether there is work
+abbrev pub hasWork : Option Work → Bool
+hasWork none = false
+hasWork (some w) = true
+
+-- the store after the work, where there is one
+abbrev pub worked : List ℕ → Option Work → Store → Store
+worked constants none σ = σ
+worked constants (some w) σ = exec constants w σ

@@ -1,2 +1,0 @@
-mod Arith
-pub mod Spelling
