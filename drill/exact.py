@@ -6,6 +6,7 @@ word nearest to a fraction is found by halving the range of words and by
 comparing with the middle between two neighbours.
 """
 
+import math
 from fractions import Fraction
 
 SIGN = 1 << 63
@@ -111,9 +112,9 @@ def square_root(a):
     return nearest(0, lambda v: None if value(a) == v * v else value(a) < v * v)
 
 
-def whole(a):
-    """Python rounds a fraction to the nearest whole number, ties to even."""
-    return a if is_infinite(a) else rounded(Fraction(round(value(a))), a & SIGN)
+def whole(rounding):
+    """To a whole number by a rounding of fractions; Python's own goes to the nearest, ties to even."""
+    return with_nan(lambda a: a if is_infinite(a) else rounded(Fraction(rounding(value(a))), a & SIGN))
 
 
 def comparison(holds, with_a_nan):
@@ -145,9 +146,13 @@ OPERATIONS = {
     "Plus": PLUS, "Minus": minus, "Times": TIMES, "Divide": DIVIDE,
     "Half": lambda a: TIMES(a, ONE_HALF), "Recip": lambda a: DIVIDE(ONE, a),
     "MulAdd": with_nan(product_and_sum), "Root": with_nan(square_root),
-    "Round": with_nan(whole),
+    "Round": whole(round), "Floor": whole(math.floor),
+    "Ceiling": whole(math.ceil), "Trunc": whole(math.trunc),
+    "IsZero": lambda a: ONES if not is_nan(a) and value(a) == 0 else 0,
     "GreaterThan": comparison(lambda x, y: x > y, 0),
+    "GreaterThanEqual": comparison(lambda x, y: x >= y, 0),
     "LittleThan": comparison(lambda x, y: x < y, 0),
+    "LittleThanEqual": comparison(lambda x, y: x <= y, 0),
     "Equal": comparison(lambda x, y: x == y, 0),
     "NotEqual": comparison(lambda x, y: x != y, ONES),
     "Neg": lambda a: a ^ SIGN, "Abs": lambda a: a & ~SIGN,

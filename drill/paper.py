@@ -14,8 +14,11 @@ ONES = 2**64 - 1
 FUNCTIONS = {
     "Plus": "plus", "Minus": "minus", "Times": "times", "Divide": "divide",
     "Half": "half", "Recip": "recip", "MulAdd": "mul_add", "Root": "root",
-    "Round": "round_to_whole", "GreaterThan": "greater_than",
-    "LittleThan": "little_than", "Equal": "equal", "NotEqual": "not_equal",
+    "Round": "round_to_whole", "Floor": "floor", "Ceiling": "ceiling",
+    "Trunc": "trunc", "IsZero": "ones_where_zero",
+    "GreaterThan": "greater_than", "GreaterThanEqual": "greater_than_equal",
+    "LittleThan": "little_than", "LittleThanEqual": "little_than_equal",
+    "Equal": "equal", "NotEqual": "not_equal",
     "Neg": "neg", "Abs": "absolute", "Not": "turn_all", "Sign": "only_sign",
     "And": "both", "Or": "either", "Xor": "one_only",
     "ComplexBi Plus": "complex_plus", "ComplexBi Minus": "complex_minus",

@@ -180,15 +180,32 @@ def root(a):
     return k * 2**52 + p
 
 
-def round_to_whole(a):
+def to_whole(a, adds_one):
+    """Round, Floor, Ceiling and Trunc; adds_one(s, i, r) says where 1 is added to i."""
     if is_nan(a):
         return Q
     if is_infinite(a):
         return a
     i, r = divmod(size(a), UNIT)
-    if 2 * r > UNIT or (2 * r == UNIT and i % 2 == 1):
+    if adds_one(sign(a), i, r):
         i += 1
     return near(sign(a), i, 1)
+
+
+def round_to_whole(a):
+    return to_whole(a, lambda s, i, r: 2 * r > UNIT or (2 * r == UNIT and i % 2 == 1))
+
+
+def floor(a):
+    return to_whole(a, lambda s, i, r: r > 0 and s == 1)
+
+
+def ceiling(a):
+    return to_whole(a, lambda s, i, r: r > 0 and s == 0)
+
+
+def trunc(a):
+    return to_whole(a, lambda s, i, r: False)
 
 
 def value_to_compare(w):
@@ -213,6 +230,18 @@ def little_than(a, b):
     return ones_where(value_to_compare(a) < value_to_compare(b))
 
 
+def greater_than_equal(a, b):
+    if is_nan(a) or is_nan(b):
+        return 0
+    return ones_where(value_to_compare(a) >= value_to_compare(b))
+
+
+def little_than_equal(a, b):
+    if is_nan(a) or is_nan(b):
+        return 0
+    return ones_where(value_to_compare(a) <= value_to_compare(b))
+
+
 def equal(a, b):
     if is_nan(a) or is_nan(b):
         return 0
@@ -223,6 +252,10 @@ def not_equal(a, b):
     if is_nan(a) or is_nan(b):
         return ALL_ONES
     return ones_where(value_to_compare(a) != value_to_compare(b))
+
+
+def ones_where_zero(a):
+    return ones_where(is_zero(a))
 
 
 def neg(a):
@@ -321,10 +354,11 @@ KINDS = {
 
 OPERATIONS = {
     "Uni": {0: neg, 1: turn_all, 2: absolute, 3: root, 5: recip,
-            6: round_to_whole, 13: half, 16: only_sign},
+            6: round_to_whole, 7: floor, 8: ceiling, 9: trunc, 13: half,
+            14: ones_where_zero, 16: only_sign},
     "Bi": {0: plus, 1: minus, 2: times, 3: divide, 4: greater_than,
-           6: little_than, 8: equal, 9: not_equal, 10: both, 12: either,
-           13: one_only},
+           5: greater_than_equal, 6: little_than, 7: little_than_equal,
+           8: equal, 9: not_equal, 10: both, 12: either, 13: one_only},
     "Fused": {0: mul_add},
     "ComplexBi": {0: complex_plus, 1: complex_minus, 2: complex_times,
                   3: complex_divide},

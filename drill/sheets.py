@@ -37,11 +37,13 @@ KINDS = {
 ARITHMETIC = {0: "Plus", 1: "Minus", 2: "Times", 3: "Divide"}
 OPERATIONS = {
     "Uni": {0: "Neg", 1: "Not", 2: "Abs", 3: "Root", 4: "RealRoot", 5: "Recip",
-            6: "Round", 10: "Real", 11: "Imaginary", 12: "Conjugate",
-            13: "Half", 15: "IsNotZero", 16: "Sign", 17: "Abs2",
-            18: "TimesI", 19: "TimesNegI"},
+            6: "Round", 7: "Floor", 8: "Ceiling", 9: "Trunc", 10: "Real",
+            11: "Imaginary", 12: "Conjugate", 13: "Half", 14: "IsZero",
+            15: "IsNotZero", 16: "Sign", 17: "Abs2", 18: "TimesI",
+            19: "TimesNegI"},
     "Bi": {0: "Plus", 1: "Minus", 2: "Times", 3: "Divide", 4: "GreaterThan",
-           6: "LittleThan", 9: "NotEqual", 10: "And", 12: "Or", 13: "Xor",
+           5: "GreaterThanEqual", 6: "LittleThan", 7: "LittleThanEqual",
+           8: "Equal", 9: "NotEqual", 10: "And", 12: "Or", 13: "Xor",
            14: "Complex"},
     "Fused": {0: "MulAdd", 1: "MulSub", 2: "NegMulAdd", 3: "NegMulSub"},
     "LoadMath": ARITHMETIC,
@@ -49,10 +51,11 @@ OPERATIONS = {
 }
 
 # 5. WHAT IS RECORDED AS REAL
-REAL = {"LoadConst", "Not", "Real", "Imaginary", "IsNotZero", "GreaterThan",
-        "LittleThan", "NotEqual"}
-AS_A = {"Mov", "Neg", "Round", "Sign", "Conjugate", "Abs", "Abs2", "RealRoot",
-        "Recip"}
+REAL = {"LoadConst", "Not", "Real", "Imaginary", "GreaterThan",
+        "GreaterThanEqual", "LittleThan", "LittleThanEqual", "Equal",
+        "NotEqual"}
+AS_A = {"Mov", "Neg", "Round", "Floor", "Ceiling", "Trunc", "Sign",
+        "Conjugate", "Abs", "Abs2", "RealRoot", "Recip"}
 WHERE_BOTH = {"Plus", "Minus", "Times", "Divide", "And", "Or", "Xor"}
 COMPLEX = {"Root", "TimesI", "TimesNegI", "Complex", "IfElse"}
 
@@ -78,7 +81,7 @@ class Record:
     def do(self, name, d, a, b=None):
         """One operation into d."""
         real = self.registers
-        if name in ("Root", "IfElse", "NotEqual"):
+        if name in ("Root", "IfElse", "Equal", "NotEqual"):
             for operand in (a, b):
                 if operand is not None:
                     real[operand] = False
@@ -115,8 +118,8 @@ class Record:
         elif kind == "LoadConstMath":
             self.registers[TEMP] = True
             self.do(name, d, a, TEMP)
-        elif name == "IsNotZero":
-            self.do("NotEqual", d, a, TEMP)
+        elif name in ("IsZero", "IsNotZero"):
+            self.do("Equal" if name == "IsZero" else "NotEqual", d, a, TEMP)
         elif kind != "Nop":
             self.do(name, d, a, b)
 

@@ -11,7 +11,7 @@ enum { MOST = 4096 };
 static const uint8_t LENGTHS[17] = {4, 7, 8, 6, 8, 8, 7, 9, 10, 10, 9, 9, 9, 11, 5, 5, 5};
 
 /* Bytes at which a field's meaning changes. */
-static const uint8_t TELLING[] = {0, 1, 2, 3, 4, 5, 13, 14, 15, 19, 20, 29, 30, 31, 32, 33, 63, 64, 65, 66, 255};
+static const uint8_t TELLING[] = {0, 1, 2, 3, 4, 5, 6, 7, 8, 9, 10, 11, 12, 13, 14, 15, 16, 17, 19, 20, 29, 30, 31, 32, 33, 63, 64, 65, 66, 255};
 
 /* SplitMix64. */
 static uint64_t state;

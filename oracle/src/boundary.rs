@@ -7,6 +7,7 @@ use crate::random::{ToLower, ToPlay, SPECIAL};
 
 const NONE: [u8; 64] = [0; 64];
 const TWO: u64 = 0x4000_0000_0000_0000;
+const SIGN: u64 = 1 << 63;
 
 /// Bytes at which a field's meaning changes.
 const BYTES: [u8; 36] = [
@@ -152,9 +153,23 @@ fn filled(first: Vec<u8>, nops: usize) -> ToLower {
     whole([make::header(false, &NONE), first, make::nop().repeat(nops)].concat())
 }
 
-/// Limits that every list of sheets has: the longest sheet, the most room, the words of the constants slice, and their neighbours.
+/// A sheet of every operation on one and on two registers, of complex registers and of a real one.
+fn every_operation(stable: bool) -> ToLower {
+    let mut row = Vec::new();
+    for op in SHEET_UNI {
+        row.extend([make::uni(op, 3, 1), make::load_const(4, 0), make::uni(op, 5, 4)]);
+    }
+    for op in SHEET_BI {
+        row.extend([make::bi(op, 3, 1, 2), make::load_const(4, 0), make::bi(op, 5, 4, 4)]);
+    }
+    whole(make::sheet(stable, &NONE, &[TWO], &row))
+}
+
+/// What every list of sheets has: every operation, and the longest sheet, the most room, the words of the constants slice, and their
+/// neighbours.
 pub fn kept_sheets() -> Vec<ToLower> {
     let mut found = vec![filled(make::uni(0, 1, 2), 4077), filled(make::bi(0, 1, 2, 3), 4077)];
+    found.extend([false, true].map(every_operation));
     for room in [65_535, 65_536, 65_537] {
         found.push(ToLower { sheet: paper(), room, table: TABLE });
     }
@@ -353,7 +368,8 @@ pub fn every_instruction(registers: &[u8]) -> Vec<Vec<u8>> {
     found
 }
 
-/// Limits that every list of plays has: the store's words, the count of constants, places by class, and the infinities of MulAdd.
+/// What every list of plays has: the store's words, the count of constants, places by class, the infinities of MulAdd, and every
+/// operation on words that rounding and comparing tell apart.
 pub fn kept_plays() -> Vec<ToPlay> {
     let mut found = vec![on_zeros(make::load_const(4, 255), 256, 0), on_zeros(make::load_const(4, 255), 257, 0)];
     found.extend(
@@ -373,6 +389,11 @@ pub fn kept_plays() -> Vec<ToPlay> {
         (one, one, minus_infinity),
     ] {
         found.push(all_operations(a, b, c));
+    }
+    let (half, unit) = (0.5f64.to_bits(), 1);
+    for (a, b) in [(half, one), (SIGN | half, zero), (SIGN, zero), (zero, unit), (SIGN | unit, SIGN), (TWO, SIGN | TWO)]
+    {
+        found.push(all_operations(a, b, one));
     }
     found
 }

@@ -5,28 +5,28 @@ use crate::rust::mir::{ArithOp, BinOp, FusedOp, Instruction, UniOp};
 use crate::rust::symbol::Loc;
 use crate::rust::utils::Reg;
 
-/// Operations by position in the enums of mir.rs. An operation that sheets do not take is `None`.
-const UNI: [Option<UniOp>; 20] = [
-    Some(UniOp::Neg),
-    Some(UniOp::Not),
-    Some(UniOp::Abs),
-    Some(UniOp::Root),
-    Some(UniOp::RealRoot),
-    Some(UniOp::Recip),
-    Some(UniOp::Round),
-    None,
-    None,
-    None,
-    Some(UniOp::Real),
-    Some(UniOp::Imaginary),
-    Some(UniOp::Conjugate),
-    Some(UniOp::Half),
-    None,
-    Some(UniOp::IsNotZero),
-    Some(UniOp::Sign),
-    Some(UniOp::Abs2),
-    Some(UniOp::TimesI),
-    Some(UniOp::TimesNegI),
+/// Operations by position in the enums of mir.rs. The one that sheets do not take, AndNot, is `None`.
+const UNI: [UniOp; 20] = [
+    UniOp::Neg,
+    UniOp::Not,
+    UniOp::Abs,
+    UniOp::Root,
+    UniOp::RealRoot,
+    UniOp::Recip,
+    UniOp::Round,
+    UniOp::Floor,
+    UniOp::Ceiling,
+    UniOp::Trunc,
+    UniOp::Real,
+    UniOp::Imaginary,
+    UniOp::Conjugate,
+    UniOp::Half,
+    UniOp::IsZero,
+    UniOp::IsNotZero,
+    UniOp::Sign,
+    UniOp::Abs2,
+    UniOp::TimesI,
+    UniOp::TimesNegI,
 ];
 
 const BI: [Option<BinOp>; 15] = [
@@ -35,10 +35,10 @@ const BI: [Option<BinOp>; 15] = [
     Some(BinOp::Times),
     Some(BinOp::Divide),
     Some(BinOp::GreaterThan),
-    None,
+    Some(BinOp::GreaterThanEqual),
     Some(BinOp::LittleThan),
-    None,
-    None,
+    Some(BinOp::LittleThanEqual),
+    Some(BinOp::Equal),
     Some(BinOp::NotEqual),
     Some(BinOp::And),
     None,
@@ -53,7 +53,7 @@ const FUSED: [FusedOp; 4] = [FusedOp::MulAdd, FusedOp::MulSub, FusedOp::NegMulAd
 
 /// The operation of a sheet's Uni; its number is its position in the enum.
 pub fn uni(op: u8) -> Option<UniOp> {
-    let found = UNI.get(op as usize).copied().flatten();
+    let found = UNI.get(op as usize).copied();
     assert!(found.is_none_or(|o| o as u8 == op));
     found
 }

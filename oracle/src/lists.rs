@@ -16,6 +16,8 @@
 //!   the word that fills the store, then the words set before, each a u32 store index and a word,
 //!   then the words changed at the end, likewise; all others are as before.
 
+use std::collections::BTreeMap;
+
 use crate::machine::{Machine, Reference};
 use crate::player::Played;
 use crate::random::{ToLower, ToPlay};
@@ -86,9 +88,16 @@ fn at_indices(out: &mut Vec<u8>, store: &[u64], indices: &[usize]) {
     }
 }
 
+/// The word that stands most often in a store, the highest of those that do.
+fn commonest(store: &[u64]) -> u64 {
+    let mut counts = BTreeMap::new();
+    store.iter().for_each(|word| *counts.entry(*word).or_insert(0) += 1);
+    counts.into_iter().max_by_key(|(_, count)| *count).map_or(0, |(word, _)| word)
+}
+
 fn play_case(out: &mut Vec<u8>, case: &ToPlay) {
     let (answer, last) = played(&Reference, case);
-    let fill = case.store.last().copied().unwrap_or(0);
+    let fill = commonest(&case.store);
     let set = differing(&vec![fill; case.store.len()], &case.store);
     let changed = differing(&case.store, &last);
     numbers(out, &[case.listing.len(), case.constants.len(), case.store.len(), set.len(), changed.len()]);

@@ -70,10 +70,14 @@ pub mod uni {
     pub const REAL_ROOT: u8 = 4;
     pub const RECIP: u8 = 5;
     pub const ROUND: u8 = 6;
+    pub const FLOOR: u8 = 7;
+    pub const CEILING: u8 = 8;
+    pub const TRUNC: u8 = 9;
     pub const REAL: u8 = 10;
     pub const IMAGINARY: u8 = 11;
     pub const CONJUGATE: u8 = 12;
     pub const HALF: u8 = 13;
+    pub const IS_ZERO: u8 = 14;
     pub const IS_NOT_ZERO: u8 = 15;
     pub const SIGN: u8 = 16;
     pub const ABS2: u8 = 17;
@@ -87,19 +91,22 @@ pub mod bi {
     pub const TIMES: u8 = 2;
     pub const DIVIDE: u8 = 3;
     pub const GREATER_THAN: u8 = 4;
+    pub const GREATER_THAN_EQUAL: u8 = 5;
     pub const LITTLE_THAN: u8 = 6;
+    pub const LITTLE_THAN_EQUAL: u8 = 7;
     pub const EQUAL: u8 = 8;
     pub const NOT_EQUAL: u8 = 9;
     pub const AND: u8 = 10;
+    pub const AND_NOT: u8 = 11;
     pub const OR: u8 = 12;
     pub const XOR: u8 = 13;
     pub const COMPLEX: u8 = 14;
 }
 
-/// Uni and Bi as sheets take them.
-pub const SHEET_UNI: [u8; 16] = [0, 1, 2, 3, 4, 5, 6, 10, 11, 12, 13, 15, 16, 17, 18, 19];
-pub const SHEET_BI: [u8; 11] = [0, 1, 2, 3, 4, 6, 9, 10, 12, 13, 14];
+/// Uni and Bi as sheets take them: all but AndNot.
+pub const SHEET_UNI: [u8; 20] = [0, 1, 2, 3, 4, 5, 6, 7, 8, 9, 10, 11, 12, 13, 14, 15, 16, 17, 18, 19];
+pub const SHEET_BI: [u8; 14] = [0, 1, 2, 3, 4, 5, 6, 7, 8, 9, 10, 12, 13, 14];
 
 /// Uni and Bi as listings take them.
-pub const LISTING_UNI: [u8; 8] = [0, 1, 2, 3, 5, 6, 13, 16];
-pub const LISTING_BI: [u8; 11] = [0, 1, 2, 3, 4, 6, 8, 9, 10, 12, 13];
+pub const LISTING_UNI: [u8; 12] = [0, 1, 2, 3, 5, 6, 7, 8, 9, 13, 14, 16];
+pub const LISTING_BI: [u8; 13] = [0, 1, 2, 3, 4, 5, 6, 7, 8, 9, 10, 12, 13];

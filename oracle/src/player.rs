@@ -1,4 +1,4 @@
-//! Document 01's player, over f64 arithmetic of this machine. Written from its rules alone.
+//! Document 01's player with document 02's operations, over f64 arithmetic of this machine. Written from their rules alone.
 
 use crate::format::*;
 use crate::names::{bi, uni, LISTING_BI, LISTING_UNI};
@@ -11,7 +11,7 @@ pub struct Played {
     pub played: u64,
 }
 
-/// A NaN that arithmetic, Root, Round or MulAdd gives.
+/// A NaN that arithmetic, Root, a rounding to a whole number or MulAdd gives.
 const NAN: u64 = 0x7ff8_0000_0000_0000;
 const SIGN: u64 = 1 << 63;
 
@@ -230,7 +230,11 @@ fn unary(op: u8, a: u64) -> u64 {
         uni::ROOT => folded(f64::from_bits(a).sqrt()),
         uni::RECIP => divide(1.0f64.to_bits(), a),
         uni::ROUND => folded(f64::from_bits(a).round_ties_even()),
+        uni::FLOOR => folded(f64::from_bits(a).floor()),
+        uni::CEILING => folded(f64::from_bits(a).ceil()),
+        uni::TRUNC => folded(f64::from_bits(a).trunc()),
         uni::HALF => times(a, 0.5f64.to_bits()),
+        uni::IS_ZERO => mask(a & !SIGN == 0),
         uni::SIGN => a & SIGN,
         _ => unreachable!("examined"),
     }
@@ -244,7 +248,9 @@ fn binary(op: u8, a: u64, b: u64) -> u64 {
         bi::TIMES => times(a, b),
         bi::DIVIDE => divide(a, b),
         bi::GREATER_THAN => mask(x > y),
+        bi::GREATER_THAN_EQUAL => mask(x >= y),
         bi::LITTLE_THAN => mask(x < y),
+        bi::LITTLE_THAN_EQUAL => mask(x <= y),
         bi::EQUAL => mask(x == y),
         bi::NOT_EQUAL => mask(x != y),
         bi::AND => a & b,

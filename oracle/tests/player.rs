@@ -116,7 +116,9 @@ fn refused_records() {
     one(make::raw(256, &[]), UNKNOWN);
     one(make::raw(3, &[1]), TORN);
     one(make::uni(uni::REAL_ROOT, 1, 2), UNKNOWN);
+    one(make::uni(uni::IS_NOT_ZERO, 1, 2), UNKNOWN);
     one(make::bi(bi::COMPLEX, 1, 2, 3), UNKNOWN);
+    one(make::bi(bi::AND_NOT, 1, 2, 3), UNKNOWN);
     one(make::fused(1, 1, 2, 3, 4), UNKNOWN);
     one(make::complex_bi(4, [1; 6]), UNKNOWN);
     one(make::call(3), UNKNOWN);
@@ -159,7 +161,7 @@ fn nans_are_folded_by_arithmetic_alone() {
         assert_eq!(word(make::bi(op, 5, 0, 1), odd, 0), NAN);
         assert_eq!(word(make::bi(op, 5, 1, 0), odd, 0), NAN);
     }
-    for op in [uni::ROOT, uni::ROUND, uni::HALF, uni::RECIP] {
+    for op in [uni::ROOT, uni::ROUND, uni::FLOOR, uni::CEILING, uni::TRUNC, uni::HALF, uni::RECIP] {
         assert_eq!(word(make::uni(op, 5, 0), odd, 0), NAN);
     }
     assert_eq!(word(make::fused(0, 5, 0, 1, 1), odd, 0), NAN);
@@ -173,12 +175,22 @@ fn nans_are_folded_by_arithmetic_alone() {
 
 #[test]
 fn comparisons_with_a_nan() {
-    for (op, holds) in [(bi::GREATER_THAN, 0), (bi::LITTLE_THAN, 0), (bi::EQUAL, 0), (bi::NOT_EQUAL, u64::MAX)] {
+    let never = [bi::GREATER_THAN, bi::GREATER_THAN_EQUAL, bi::LITTLE_THAN, bi::LITTLE_THAN_EQUAL, bi::EQUAL];
+    for (op, holds) in never.map(|op| (op, 0)).into_iter().chain([(bi::NOT_EQUAL, u64::MAX)]) {
         assert_eq!(word(make::bi(op, 5, 0, 1), NAN, 0), holds);
         assert_eq!(word(make::bi(op, 5, 0, 0), NAN, 0), holds);
     }
     assert_eq!(word(make::bi(bi::EQUAL, 5, 0, 1), 1 << 63, 0), u64::MAX);
     assert_eq!(word(make::bi(bi::LITTLE_THAN, 5, 0, 1), 1 << 63, 0), 0);
+    assert_eq!(word(make::bi(bi::GREATER_THAN_EQUAL, 5, 0, 1), 1 << 63, 0), u64::MAX);
+    assert_eq!(word(make::bi(bi::LITTLE_THAN_EQUAL, 5, 1, 0), 1 << 63, 0), u64::MAX);
+}
+
+#[test]
+fn either_zero_is_zero() {
+    for (a, expected) in [(0, u64::MAX), (1 << 63, u64::MAX), (1, 0), (1 << 63 | 1, 0), (NAN, 0), (u64::MAX, 0)] {
+        assert_eq!(word(make::uni(uni::IS_ZERO, 5, 0), a, 0), expected);
+    }
 }
 
 #[test]
@@ -187,6 +199,26 @@ fn rounding_to_even() {
         [(0.5, 0.0), (1.5, 2.0), (2.5, 2.0), (-0.5, -0.0), (-1.5, -2.0), (4503599627370495.5, 4503599627370496.0)]
     {
         assert_eq!(word(make::uni(uni::ROUND, 5, 0), f64::to_bits(value), 0), f64::to_bits(expected));
+    }
+}
+
+/// Toward minus infinity, plus infinity and zero; a zero keeps the sign.
+#[test]
+fn rounding_in_a_direction() {
+    for (value, floor, ceiling, trunc) in [
+        (1.5, 1.0, 2.0, 1.0),
+        (-1.5, -2.0, -1.0, -1.0),
+        (0.5, 0.0, 1.0, 0.0),
+        (-0.5, -1.0, -0.0, -0.0),
+        (-0.0, -0.0, -0.0, -0.0),
+        (f64::from_bits(1), 0.0, 1.0, 0.0),
+        (-3.0, -3.0, -3.0, -3.0),
+        (-4503599627370495.5, -4503599627370496.0, -4503599627370495.0, -4503599627370495.0),
+        (f64::NEG_INFINITY, f64::NEG_INFINITY, f64::NEG_INFINITY, f64::NEG_INFINITY),
+    ] {
+        for (op, expected) in [(uni::FLOOR, floor), (uni::CEILING, ceiling), (uni::TRUNC, trunc)] {
+            assert_eq!(word(make::uni(op, 5, 0), f64::to_bits(value), 0), f64::to_bits(expected), "{op} of {value}");
+        }
     }
 }
 

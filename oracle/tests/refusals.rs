@@ -2,7 +2,7 @@
 
 use oracle::format::*;
 use oracle::make;
-use oracle::names::uni;
+use oracle::names::{bi, uni};
 use oracle::reference::{lower, Answer, Realness};
 
 const NONE: [u8; 64] = [0; 64];
@@ -90,10 +90,10 @@ fn unknown_work() {
     for kind in [11, 13, 14, 17, 32, 33, 255, 256, 257, 266] {
         assert_eq!(refusal(&then(&make::raw(kind, &[0; 3]))), (UNKNOWN, 1));
     }
-    for op in [7, 8, 9, 14, 20, 255] {
+    for op in [20, 21, 255] {
         assert_eq!(refusal(&then(&make::uni(op, 255, 1))), (UNKNOWN, 1));
     }
-    for op in [5, 7, 8, 11, 15, 255] {
+    for op in [bi::AND_NOT, 15, 255] {
         assert_eq!(refusal(&then(&make::bi(op, 1, 255, 1))), (UNKNOWN, 1));
     }
     for op in [4, 255] {
@@ -102,6 +102,17 @@ fn unknown_work() {
         assert_eq!(refusal(&then(&make::load_const_math(op, 1, 99, 999))), (UNKNOWN, 1));
     }
     assert_eq!(refusal(&then(&make::raw(1, &[255, 1]))), (TORN, 1)); // the kind's length before the operation
+}
+
+/// Every operation of mir.rs but AndNot.
+#[test]
+fn known_work() {
+    for op in 0..20 {
+        assert_eq!(refusal(&then(&make::uni(op, 1, 2))), (0, 2));
+    }
+    for op in (0..15).filter(|op| *op != bi::AND_NOT) {
+        assert_eq!(refusal(&then(&make::bi(op, 1, 2, 3))), (0, 2));
+    }
 }
 
 #[test]
@@ -163,7 +174,7 @@ fn nothing_listed_needs_no_room() {
 #[test]
 fn refusals_carry_the_realness_before() {
     let places = make::real_places(&[(STACK, 0), (STACK, 255), (PARAM, 0), (PARAM, 255)]);
-    let row = [make::save(1, STACK, 255), make::load_const(5, 0), make::uni(7, 1, 1)];
+    let row = [make::save(1, STACK, 255), make::load_const(5, 0), make::uni(20, 1, 1)];
     let (answer, _, _) = lowered(&make::sheet(false, &places, &[TWO], &row), 100);
     assert_eq!((answer.number, answer.index), (UNKNOWN, 2));
     assert_eq!(answer.realness.places, make::real_places(&[(STACK, 0), (PARAM, 0), (PARAM, 255)]));

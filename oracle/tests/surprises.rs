@@ -55,6 +55,16 @@ fn is_not_zero_of_temp_never_holds() {
     assert_eq!(result(&[], make::uni(uni::IS_NOT_ZERO, 2, TEMP), &[(0, 5.0)]).0.to_bits(), 0);
 }
 
+/// Likewise IsZero, which therefore always holds; it lists Equal, and never a Uni IsZero.
+#[test]
+fn is_zero_of_temp_always_holds() {
+    assert_eq!(
+        lines(&[], make::uni(uni::IS_ZERO, 2, TEMP)),
+        ["Xor G1 G1 G1", "Xor G0 G0 G0", "Equal G9 G1 G1", "Equal G8 G0 G0", "And G8 G8 G9"]
+    );
+    assert_eq!(result(&[], make::uni(uni::IS_ZERO, 2, TEMP), &[(0, 5.0)]).0.to_bits(), u64::MAX);
+}
+
 /// The load into Temp comes before Temp is read.
 #[test]
 fn load_math_of_temp_reads_the_place_twice() {
@@ -100,5 +110,16 @@ fn stable_abs_overwrites_ret() {
 fn comparisons_and_not_leave_the_imaginary_half() {
     assert_eq!(lines(&[], make::bi(bi::GREATER_THAN, 2, 0, 1)), ["GreaterThan G8 G4 G6"]);
     assert_eq!(lines(&[], make::bi(bi::LITTLE_THAN, 2, 0, 1)), ["LittleThan G8 G4 G6"]);
+    assert_eq!(lines(&[], make::bi(bi::GREATER_THAN_EQUAL, 2, 0, 1)), ["GreaterThanEqual G8 G4 G6"]);
+    assert_eq!(lines(&[], make::bi(bi::LITTLE_THAN_EQUAL, 2, 0, 1)), ["LittleThanEqual G8 G4 G6"]);
     assert_eq!(lines(&[], make::uni(uni::NOT, 2, 0)), ["Not G8 G4"]);
+}
+
+/// Equal looks at both halves, as NotEqual does, and clears that of a real operand first.
+#[test]
+fn equal_looks_at_both_halves() {
+    assert_eq!(
+        lines(&[0], make::bi(bi::EQUAL, 2, 0, 1)),
+        ["Xor G5 G5 G5", "Equal G9 G5 G7", "Equal G8 G4 G6", "And G8 G8 G9"]
+    );
 }

@@ -5,7 +5,7 @@ use mathlib.Core.Path.{_≡_, refl}
 use mathlib.Core.Bool.{true}
 use mathlib.Core.List.{List, [], _∷_, _++_, map}
 use lib.ListN.{replicate}
-use lib.Ieee.{ofBits, toBits, add, sub, mul, div, lt, eq, ne}
+use lib.Ieee.{ofBits, toBits, add, sub, mul, div, lt, le, eq, ne}
 use Rattle.mir.specs.declared.ops.UniOp.{UniOp}
 use Rattle.mir.specs.declared.ops.BinOp.{BinOp}
 use Rattle.mir.specs.declared.ops.ArithOp.{ArithOp}
@@ -21,6 +21,7 @@ use Rattle.float.specs.Root.{squareRoot}
 use Rattle.float.specs.Fused.{fusedMultiplyAdd}
 use Rattle.float.specs.Integral.{roundToIntegral}
 use Rattle.player_machine.specs.Machine.{uniWord, binWord, fusedWord, complexWords, writes}
+use Rattle.lowering.specs.Lines.{eachLines, orderLines}
 use Rattle.lowering.specs.Complexifier as c
 use Rattle.lowering.specs.Rerun.{rerun, rerunUni, rerunBin}
 use Rattle.lowering.specs.Lower.{lowerSheet}
@@ -227,6 +228,90 @@ table =
       registers = [];
       places = noPlaces;
     })
+    -- ---- document 02, a: "listed as complexify.rs and mir.rs list them"
+    -- Floor of complex 0 into 1, a half at a time: Floor G6 G4, Floor G7 G5
+    ∷ lowered
+    (record {
+      sheet = header 0 noPlaces ++ (7 ∷ 0 ∷ 1 ∷ 0 ∷ 7 ∷ 1 ∷ 0 ∷ []);
+      room = 14;
+      number = 0;
+      index = 1;
+      written = 14;
+      bytes = (7 ∷ 0 ∷ 1 ∷ 0 ∷ 7 ∷ 6 ∷ 4 ∷ []) ++ (7 ∷ 0 ∷ 1 ∷ 0 ∷ 7 ∷ 7 ∷ 5 ∷ []);
+      count = 0;
+      constants = [];
+      registers = [];
+      places = noPlaces;
+    })
+    -- IsZero of complex 0 into 1: Temp is cleared by Xor G1 G1 G1, Xor G0 G0 G0, and then compared with it as by Equal: Equal G7 G5 G1,
+    -- Equal G6 G4 G0, And G6 G6 G7; 1 is then real
+    ∷ lowered
+    (record {
+      sheet = header 0 noPlaces ++ (7 ∷ 0 ∷ 1 ∷ 0 ∷ 14 ∷ 1 ∷ 0 ∷ []);
+      room = 45;
+      number = 0;
+      index = 1;
+      written = 40;
+      bytes =
+          (8 ∷ 0 ∷ 2 ∷ 0 ∷ 13 ∷ 1 ∷ 1 ∷ 1 ∷ [])
+          ++ (8 ∷ 0 ∷ 2 ∷ 0 ∷ 13 ∷ 0 ∷ 0 ∷ 0 ∷ [])
+          ++ (8 ∷ 0 ∷ 2 ∷ 0 ∷ 8 ∷ 7 ∷ 5 ∷ 1 ∷ [])
+          ++ (8 ∷ 0 ∷ 2 ∷ 0 ∷ 8 ∷ 6 ∷ 4 ∷ 0 ∷ [])
+          ++ (8 ∷ 0 ∷ 2 ∷ 0 ∷ 10 ∷ 6 ∷ 6 ∷ 7 ∷ []);
+      count = 0;
+      constants = [];
+      registers = 1 ∷ [];
+      places = noPlaces;
+    })
+    -- Equal of real 0 and complex 1 into 2: 0 is real by Load general 0, Param 9, listed as Load G4 Param 9; its imaginary half is cleared by
+    -- Xor G5 G5 G5, then Equal G9 G5 G7, Equal G8 G4 G6, And G8 G8 G9
+    ∷ lowered
+    (record {
+      sheet = header 0 paramNine ++ (8 ∷ 0 ∷ 4 ∷ 0 ∷ 0 ∷ 2 ∷ 9 ∷ 0 ∷ []) ++ (8 ∷ 0 ∷ 2 ∷ 0 ∷ 8 ∷ 2 ∷ 0 ∷ 1 ∷ []);
+      room = 46;
+      number = 0;
+      index = 2;
+      written = 40;
+      bytes =
+          (8 ∷ 0 ∷ 4 ∷ 0 ∷ 4 ∷ 2 ∷ 9 ∷ 0 ∷ [])
+          ++ (8 ∷ 0 ∷ 2 ∷ 0 ∷ 13 ∷ 5 ∷ 5 ∷ 5 ∷ [])
+          ++ (8 ∷ 0 ∷ 2 ∷ 0 ∷ 8 ∷ 9 ∷ 5 ∷ 7 ∷ [])
+          ++ (8 ∷ 0 ∷ 2 ∷ 0 ∷ 8 ∷ 8 ∷ 4 ∷ 6 ∷ [])
+          ++ (8 ∷ 0 ∷ 2 ∷ 0 ∷ 10 ∷ 8 ∷ 8 ∷ 9 ∷ []);
+      count = 0;
+      constants = [];
+      registers = 2 ∷ [];
+      places = paramNine;
+    })
+    -- LittleThanEqual of complex 0 and 1 into 2, real halves alone: LittleThanEqual G8 G4 G6; 2 is then real
+    ∷ lowered
+    (record {
+      sheet = header 0 noPlaces ++ (8 ∷ 0 ∷ 2 ∷ 0 ∷ 7 ∷ 2 ∷ 0 ∷ 1 ∷ []);
+      room = 8;
+      number = 0;
+      index = 1;
+      written = 8;
+      bytes = 8 ∷ 0 ∷ 2 ∷ 0 ∷ 7 ∷ 8 ∷ 4 ∷ 6 ∷ [];
+      count = 0;
+      constants = [];
+      registers = 2 ∷ [];
+      places = noPlaces;
+    })
+    -- AndNot stays out: 2
+    ∷ lowered
+    (record {
+      sheet = header 0 noPlaces ++ (8 ∷ 0 ∷ 2 ∷ 0 ∷ 11 ∷ 2 ∷ 0 ∷ 1 ∷ []);
+      room = 8;
+      number = 2;
+      index = 0;
+      written = 0;
+      bytes = [];
+      count = 0;
+      constants = [];
+      registers = [];
+      places = noPlaces;
+    })
+    -- ---- document 01's words
     -- "Half of 0000000000000003 is 0000000000000002": 3 units of 2 ^ -1074 by 2 is a tie, and 2 units are even
     ∷ gives (uni UniOp.Half) (0x0000_0000_0000_0003 ∷ []) (0x0000_0000_0000_0002 ∷ [])
     -- "Root of -0 is -0" (6.3)
@@ -280,6 +365,29 @@ table =
     ∷ gives (uni UniOp.Round) (0x4004_0000_0000_0000 ∷ []) (0x4000_0000_0000_0000 ∷ [])
     -- 6.3: -0.5 goes to a zero of its own sign
     ∷ gives (uni UniOp.Round) (0xbfe0_0000_0000_0000 ∷ []) (0x8000_0000_0000_0000 ∷ [])
+    -- ---- document 02, a: "toward minus infinity, plus infinity and zero, a NaN folded as for Round" (5.3.1)
+    -- -0.5 and 2.5 go down to -1 and 2
+    ∷ gives (uni UniOp.Floor) (0xbfe0_0000_0000_0000 ∷ []) (0xbff0_0000_0000_0000 ∷ [])
+    ∷ gives (uni UniOp.Floor) (0x4004_0000_0000_0000 ∷ []) (0x4000_0000_0000_0000 ∷ [])
+    -- 2 ^ -1074 goes up to 1, and -0.5 to a zero of its own sign (6.3)
+    ∷ gives (uni UniOp.Ceiling) (0x0000_0000_0000_0001 ∷ []) (0x3ff0_0000_0000_0000 ∷ [])
+    ∷ gives (uni UniOp.Ceiling) (0xbfe0_0000_0000_0000 ∷ []) (0x8000_0000_0000_0000 ∷ [])
+    -- -2.5 goes to -2, and -0.5 to -0
+    ∷ gives (uni UniOp.Trunc) (0xc004_0000_0000_0000 ∷ []) (0xc000_0000_0000_0000 ∷ [])
+    ∷ gives (uni UniOp.Trunc) (0xbfe0_0000_0000_0000 ∷ []) (0x8000_0000_0000_0000 ∷ [])
+    ∷ gives (uni UniOp.Trunc) (0xfff0_0000_0000_0001 ∷ []) (0x7ff8_0000_0000_0000 ∷ [])
+    -- "IsZero, where a listing holds it, gives all ones for either zero, else zero": of 2 ^ -1074 and of a NaN zero
+    ∷ gives (uni UniOp.IsZero) (0x0000_0000_0000_0000 ∷ []) (ones ∷ [])
+    ∷ gives (uni UniOp.IsZero) (0x8000_0000_0000_0000 ∷ []) (ones ∷ [])
+    ∷ gives (uni UniOp.IsZero) (0x0000_0000_0000_0001 ∷ []) (0 ∷ [])
+    ∷ gives (uni UniOp.IsZero) (0x7ff8_0000_0000_0000 ∷ []) (0 ∷ [])
+    -- "the three new comparisons with a NaN are false"; -0 is not below +0, and -1 is not below -2
+    ∷ gives (bi BinOp.GreaterThanEqual) (0x8000_0000_0000_0000 ∷ 0x0000_0000_0000_0000 ∷ []) (ones ∷ [])
+    ∷ gives (bi BinOp.GreaterThanEqual) (0xc000_0000_0000_0000 ∷ 0xbff0_0000_0000_0000 ∷ []) (0 ∷ [])
+    ∷ gives (bi BinOp.GreaterThanEqual) (0x7ff0_0000_0000_0001 ∷ 0x7ff0_0000_0000_0001 ∷ []) (0 ∷ [])
+    ∷ gives (bi BinOp.LittleThanEqual) (0xc000_0000_0000_0000 ∷ 0xbff0_0000_0000_0000 ∷ []) (ones ∷ [])
+    ∷ gives (bi BinOp.LittleThanEqual) (0xbff0_0000_0000_0000 ∷ 0xc000_0000_0000_0000 ∷ []) (0 ∷ [])
+    ∷ gives (bi BinOp.LittleThanEqual) (0x7ff0_0000_0000_0001 ∷ 0x7ff0_0000_0000_0001 ∷ []) (0 ∷ [])
     -- ---- "comparisons give all ones or zero, and with a NaN only NotEqual holds" (5.11)
     -- -1 is above -2, and infinity is not above a NaN
     ∷ gives (bi BinOp.GreaterThan) (0xbff0_0000_0000_0000 ∷ 0xc000_0000_0000_0000 ∷ []) (ones ∷ [])
@@ -329,11 +437,12 @@ table =
 
 -- in each row what the definitions give is what the row says
 pub facts : map given table ≡ map stated table
-unfolding lowerSheet setup constantAt decoded instructionFrom takesKind placeAt savePlace uniOps binOps fusedOps rerun rerunUni rerunBin c.unlisted c.loadConst c.loadFrom c.saveTo c.times c.minus c.half c.abs re im recordOf writes uniWord binWord fusedWord complexWords ofBits toBits add sub mul div lt eq ne squareRoot fusedMultiplyAdd roundToIntegral
+unfolding lowerSheet setup constantAt decoded instructionFrom takesKind placeAt savePlace uniOps binOps fusedOps rerun rerunUni rerunBin c.unlisted c.loadConst c.loadFrom c.saveTo c.times c.minus c.half c.abs c.byOne c.byTwo c.bits c.compare eachLines orderLines re im recordOf writes uniWord binWord fusedWord complexWords ofBits toBits add sub mul div lt le eq ne squareRoot fusedMultiplyAdd roundToIntegral
 facts = refl
 
 -- what a listing's records compute with (document 01, Sheet): "Uni Neg, Not, Abs, Root, Recip, Round, Half, Sign; Bi Plus, Minus, Times,
--- Divide, GreaterThan, LittleThan, Equal, NotEqual, And, Or, Xor; ArithOp Plus, Minus, Times, Divide; Fused MulAdd"; and IfElse
+-- Divide, GreaterThan, LittleThan, Equal, NotEqual, And, Or, Xor; ArithOp Plus, Minus, Times, Divide; Fused MulAdd"; with document 02, a, Uni
+-- Floor, Ceiling, Trunc, IsZero and Bi GreaterThanEqual, LittleThanEqual; and IfElse
 abbrev pub operations : List Operation
 operations =
     uni UniOp.Neg
@@ -342,14 +451,20 @@ operations =
     ∷ uni UniOp.Root
     ∷ uni UniOp.Recip
     ∷ uni UniOp.Round
+    ∷ uni UniOp.Floor
+    ∷ uni UniOp.Ceiling
+    ∷ uni UniOp.Trunc
     ∷ uni UniOp.Half
+    ∷ uni UniOp.IsZero
     ∷ uni UniOp.Sign
     ∷ bi BinOp.Plus
     ∷ bi BinOp.Minus
     ∷ bi BinOp.Times
     ∷ bi BinOp.Divide
     ∷ bi BinOp.GreaterThan
+    ∷ bi BinOp.GreaterThanEqual
     ∷ bi BinOp.LittleThan
+    ∷ bi BinOp.LittleThanEqual
     ∷ bi BinOp.Equal
     ∷ bi BinOp.NotEqual
     ∷ bi BinOp.And

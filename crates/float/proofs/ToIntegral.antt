@@ -3,24 +3,55 @@
 use mathlib.Core.Path.{_≡_, refl, sym, ap, ap₂, _∙_, subst}
 use mathlib.Core.Logic.{inl, inr}
 use mathlib.Core.Bool.{Bool, true, false, cond}
-use Prim.Native.Nat.{ℕ, zero, suc, _+_, _-_, _*_, _/_, _%_, _^_, _≤_, _<_}
-use native.Mathlib.Nat.{add-zero, eq-zero-or-pos, lt-of-le-of-lt, lt-of-lt-of-le, le-of-eq, mul-pos, lt-of-mul-lt-mul-right, eq-of-mul-eq-mul-right, div-add-mod', zero-mul, mul-div-cancel, mul-mod-left, mul-one, mod-lt}
+use Prim.Native.Nat.{ℕ, zero, suc, _+_, _-_, _*_, _/_, _%_, _^_, _≤_, _<_, compare}
+use native.Mathlib.Nat.{add-zero, eq-zero-or-pos, lt-of-le-of-lt, lt-of-lt-of-le, le-of-eq, mul-pos, lt-of-mul-lt-mul-right, eq-of-mul-eq-mul-right, div-add-mod', zero-mul, mul-div-cancel, mul-mod-left, mul-one, mod-lt, mod-self, mod-eq-of-lt, div-self, div-eq-of-lt, mul-add-div-right, mul-add-mod-self-right, eq-or-lt-of-le}
 use native.Mathlib.Omega.{arith}
 use lib.Dec.{leb, eqb, lit<}
 use lib.IntN.{ℤ, pos}
 use lib.Pow.{pow-mono, pow-pos, shl-lt}
 use lib.Ieee.{Float, nan, inf, fin, binary64, up, down, round, ofBits, toBits}
-use lib.Ieee.Fits.{down-pos}
+use lib.Ieee.Fits.{down-pos, nearest-le}
 use lib.Ieee.Exact.{HasValue, odd-sign, round-exact}
 use lib.Ieee.Nearest.{div-same, closest-same}
 use borrow.Author.Tests.{eq-eqb, ne-eqb}
-use Rattle.float.specs.Integral.{Direction, tiesToEven, towardNegative, towardPositive, towardZero, ceiling, whole, roundToIntegral}
+use Rattle.float.specs.Integral.{ceiling, whole, roundToIntegral}
+use Rattle.float.specs.declared.integral.Direction.{Direction}
+use Rattle.float.specs.declared.integral.Direction.the-variants.{TiesToEven, TowardNegative, TowardPositive, TowardZero}
 use Rattle.float.proofs.Closest.{closest-exact}
 use Rattle.float.proofs.Nan.{kept-word, quiet}
 use Rattle.float.proofs.RoundBits.{value-bits}
 use Rattle.float.proofs.RoundWord.{shifts}
 use Rattle.float.proofs.Signed.{Is, is-pow}
 use Rattle.float.proofs.Fields.{together, of-normal, rescale, word-infinite, word-zero}
+
+-- ---- the least whole number that is not below a fraction
+ceiling-most : (n c : ℕ) → ceiling n c ≤ n / c + 1
+ceiling-most n c = go (eqb (n % c) 0)
+  where
+    go : (b : Bool) → n / c + cond b 0 1 ≤ n / c + 1
+    go true = omega arith
+    go false = omega arith
+
+-- it is one above the whole part of the fraction a unit below
+pub ceiling-suc : (n c : ℕ) → 0 < c → ceiling (suc n) c ≡ n / c + 1
+ceiling-suc n c C =
+    let q = n / c in
+    let k = suc (n % c) in
+    ap (λ (x : ℕ). ceiling x c) {x = suc n} {y = q * c + k} (omega (arith, div-add-mod' n c))
+    ∙ ap₂ (λ (x y : ℕ). x + cond (eqb y 0) 0 1) (mul-add-div-right C q k) (mul-add-mod-self-right q c k)
+    ∙ go q k (omega arith) (mod-lt n C)
+  where
+    go : (q k : ℕ) → 0 < k → k ≤ c → q + k / c + cond (eqb (k % c) 0) 0 1 ≡ q + 1
+    go q k K h = elim (eq-or-lt-of-le h) [
+      | inl e ↦
+          ap (λ (x : ℕ). q + x / c + cond (eqb (x % c) 0) 0 1) e
+          ∙ ap₂ (λ (x : ℕ) (z : Bool). q + x + cond z 0 1) (div-self C) (eq-eqb (c % c) 0 (mod-self c))
+          ∙ omega arith
+      | inr l ↦
+          ap₂ (λ (x y : ℕ). q + x + cond (eqb y 0) 0 1) (div-eq-of-lt l) (mod-eq-of-lt l)
+          ∙ ap (λ (z : Bool). q + 0 + cond z 0 1) (ne-eqb k 0 (λ (e : k ≡ 0). omega (arith, K, e)))
+          ∙ omega arith
+    ]
 
 -- ---- equal fractions
 module _ (a b c d : ℕ) (B : 0 < b) (D : 0 < d) (e : a * d ≡ c * b) where
@@ -51,10 +82,19 @@ module _ (a b c d : ℕ) (B : 0 < b) (D : 0 < d) (e : a * d ≡ c * b) where
       ]
 
   pub whole-same : (t : Direction) (s : Bool) → whole t s a b ≡ whole t s c d
-  whole-same tiesToEven s = closest-same a b c d B D e
-  whole-same towardNegative s = ap₂ (cond s) ceiling-same (div-same a b c d B D e)
-  whole-same towardPositive s = ap₂ (cond s) (div-same a b c d B D e) ceiling-same
-  whole-same towardZero s = div-same a b c d B D e
+  whole-same TiesToEven s = closest-same a b c d B D e
+  whole-same TowardNegative s = ap₂ (cond s) ceiling-same (div-same a b c d B D e)
+  whole-same TowardPositive s = ap₂ (cond s) (div-same a b c d B D e) ceiling-same
+  whole-same TowardZero s = div-same a b c d B D e
+
+-- the whole part or one more
+pub whole-most : (t : Direction) (s : Bool) (n c : ℕ) → whole t s n c ≤ n / c + 1
+whole-most TiesToEven s n c = omega (arith, nearest-le (n / c) (compare (n % c * 2) c))
+whole-most TowardNegative true n c = ceiling-most n c
+whole-most TowardNegative false n c = omega arith
+whole-most TowardPositive true n c = omega arith
+whole-most TowardPositive false n c = ceiling-most n c
+whole-most TowardZero s n c = omega arith
 
 pub integral-at : (t : Direction) (x : Float) (s : Bool) (p c : ℕ) → 0 < c → HasValue x s p c → roundToIntegral t binary64 x ≡ round binary64 s (whole t s p c) 1
 unfolding roundToIntegral
@@ -75,12 +115,12 @@ no-rest t s n c C = go t s
     up-exact = ap₂ (λ (q : ℕ) (z : Bool). q + cond z 0 1) exact (eq-eqb (n * c % c) 0 (mul-mod-left n c)) ∙ add-zero n
 
     go : (t : Direction) (s : Bool) → whole t s (n * c) c ≡ n
-    go tiesToEven s = closest-exact n c C
-    go towardNegative true = up-exact
-    go towardNegative false = exact
-    go towardPositive true = exact
-    go towardPositive false = up-exact
-    go towardZero s = exact
+    go TiesToEven s = closest-exact n c C
+    go TowardNegative true = up-exact
+    go TowardNegative false = exact
+    go TowardPositive true = exact
+    go TowardPositive false = up-exact
+    go TowardZero s = exact
 
 pub large-word : (t : Direction) (a : ℕ) → a < 2 ^ 64 → 1075 * 2 ^ 52 ≤ a % 2 ^ 63 → a % 2 ^ 63 < 2047 * 2 ^ 52 → toBits binary64 (roundToIntegral t binary64 (ofBits binary64 a)) ≡ a
 large-word t a fits lo hi = go (a / 2 ^ 52 % 2 ^ 11) refl
@@ -127,14 +167,14 @@ zero-word t a h e =
     ap (λ (x : Float). toBits binary64 (roundToIntegral t binary64 x)) (word-zero a e) ∙ go t (leb (2 ^ 63) a) ∙ ap (toBits binary64) (sym (word-zero a e)) ∙ kept-word a h (omega (arith, e))
   where
     go : (t : Direction) (s : Bool) → toBits binary64 (roundToIntegral t binary64 (fin s 0 (pos 0))) ≡ toBits binary64 (fin s 0 (pos 0))
-    go tiesToEven true = refl
-    go tiesToEven false = refl
-    go towardNegative true = refl
-    go towardNegative false = refl
-    go towardPositive true = refl
-    go towardPositive false = refl
-    go towardZero true = refl
-    go towardZero false = refl
+    go TiesToEven true = refl
+    go TiesToEven false = refl
+    go TowardNegative true = refl
+    go TowardNegative false = refl
+    go TowardPositive true = refl
+    go TowardPositive false = refl
+    go TowardZero true = refl
+    go TowardZero false = refl
 
 -- ---- a word taken apart: the whole number that its significand over 2 ^ k goes to
 pub small-word : (t : Direction) (a : ℕ) (s : Bool) (m : ℕ) (e : ℤ) (k : ℕ) → HasValue (ofBits binary64 a) s (m * up e) (down e) → Is e 0 k

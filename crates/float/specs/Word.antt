@@ -3,10 +3,12 @@
 use Prim.Native.Nat.{ℕ, _-_, _*_, _/_, _%_, _^_}
 use mathlib.Core.Bool.{Bool, cond}
 use lib.Bits.{bitAnd, bitOr, bitXor}
-use lib.Ieee.{Float, Format, binary64, ofBits, toBits, add, sub, mul, div, lt, eq, ne}
+use lib.Ieee.{Float, Format, binary64, ofBits, toBits, add, sub, mul, div, lt, le, eq, ne}
 use Rattle.float.specs.Root.{squareRoot}
 use Rattle.float.specs.Fused.{fusedMultiplyAdd}
-use Rattle.float.specs.Integral.{tiesToEven, roundToIntegral}
+use Rattle.float.specs.Integral.{roundToIntegral}
+use Rattle.float.specs.declared.integral.Direction.{Direction}
+use Rattle.float.specs.declared.integral.Direction.the-variants.{TiesToEven, TowardNegative, TowardPositive, TowardZero}
 
 -- ---- values and words
 -- 3.4: the value of a word; every NaN's pattern is the one NaN
@@ -60,11 +62,25 @@ root a = unary squareRoot a
 abbrev pub mulAdd : ℕ → ℕ → ℕ → ℕ
 mulAdd a b c = ternary fusedMultiplyAdd a b c
 
+-- roundToIntegral (5.3.1), in each direction
+abbrev pub integral : Direction → ℕ → ℕ
+integral d a = unary (roundToIntegral d) a
+
 -- "Round is IEEE roundToIntegralTiesToEven"
 abbrev pub round : ℕ → ℕ
-round a = unary (roundToIntegral tiesToEven) a
+round a = integral TiesToEven a
 
--- ---- comparisons (5.6.1, 5.11): "comparisons give all ones or zero, and with a NaN only NotEqual holds"
+-- document 02, a): Floor, Ceiling and Trunc have "the IEEE 754 meanings toward minus infinity, plus infinity and zero, a NaN folded as for Round"
+abbrev pub floor : ℕ → ℕ
+floor a = integral TowardNegative a
+
+abbrev pub ceiling : ℕ → ℕ
+ceiling a = integral TowardPositive a
+
+abbrev pub trunc : ℕ → ℕ
+trunc a = integral TowardZero a
+
+-- ---- comparisons (5.6.1, 5.11): "comparisons give all ones or zero, and with a NaN only NotEqual holds"; with document 02, a), "the three new comparisons with a NaN are false"
 abbrev pub flag : Bool → ℕ
 flag b = cond b (2 ^ 64 - 1) 0
 
@@ -76,6 +92,14 @@ greaterThan a b = flag (lt (value b) (value a))
 abbrev pub littleThan : ℕ → ℕ → ℕ
 littleThan a b = flag (lt (value a) (value b))
 
+-- a is above b or equals it
+abbrev pub greaterThanEqual : ℕ → ℕ → ℕ
+greaterThanEqual a b = flag (le (value b) (value a))
+
+-- a is below b or equals it
+abbrev pub littleThanEqual : ℕ → ℕ → ℕ
+littleThanEqual a b = flag (le (value a) (value b))
+
 -- -0 equals +0
 abbrev pub equal : ℕ → ℕ → ℕ
 equal a b = flag (eq (value a) (value b))
@@ -83,6 +107,10 @@ equal a b = flag (eq (value a) (value b))
 -- the opposite of Equal
 abbrev pub notEqual : ℕ → ℕ → ℕ
 notEqual a b = flag (ne (value a) (value b))
+
+-- document 02, a): "IsZero gives all ones for either zero, else zero": 0 is the word of +0, and of a NaN Equal is false
+abbrev pub isZero : ℕ → ℕ
+isZero a = equal a 0
 
 -- ---- "Neg, Abs, Not, And, Or, Xor act on bits"
 abbrev pub and : ℕ → ℕ → ℕ

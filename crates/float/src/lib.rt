@@ -13,6 +13,9 @@ mod parts;
 mod sqrt;
 mod wide;
 
+use integral::Direction;
+use integral::round_to_integral;
+
 const NAN: u64 = 0x7ff8_0000_0000_0000;
 
 const INFINITY: u64 = 0x7ff0_0000_0000_0000;
@@ -107,6 +110,18 @@ pub fn little_than(a: u64, b: u64) -> u64
     flag(read(a) < read(b))
 }
 
+pub fn greater_than_equal(a: u64, b: u64) -> u64
+    ensures { λ r. ⌜ r ≡ Word.greaterThanEqual a b ⌝ }
+{
+    flag(read(a) >= read(b))
+}
+
+pub fn little_than_equal(a: u64, b: u64) -> u64
+    ensures { λ r. ⌜ r ≡ Word.littleThanEqual a b ⌝ }
+{
+    flag(read(a) <= read(b))
+}
+
 pub fn equal(a: u64, b: u64) -> u64
     ensures { λ r. ⌜ r ≡ Word.equal a b ⌝ }
 {
@@ -117,6 +132,13 @@ pub fn not_equal(a: u64, b: u64) -> u64
     ensures { λ r. ⌜ r ≡ Word.notEqual a b ⌝ }
 {
     flag(read(a) != read(b))
+}
+
+// Whether a is either zero.
+pub fn is_zero(a: u64) -> u64
+    ensures { λ r. ⌜ r ≡ Word.isZero a ⌝ }
+{
+    equal(a, 0)
 }
 
 pub fn neg(a: u64) -> u64
@@ -168,21 +190,32 @@ pub fn if_else(cond: u64, true_val: u64, false_val: u64) -> u64
     (cond & true_val) | (!cond & false_val)
 }
 
-// The nearest whole number, a tie to the even one. From 2^52 up every value is a whole number.
+// The nearest whole number, a tie to the even one.
 pub fn round(a: u64) -> u64
     ensures { λ r. ⌜ r ≡ Word.round a ⌝ }
 {
-    let size = abs(a);
-    if size > INFINITY {
-        return NAN;
-    }
-    if size >= 0x4330_0000_0000_0000 {
-        return a;
-    }
-    if size == 0 {
-        return a;
-    }
-    integral::round_small(a)
+    round_to_integral(Direction::TiesToEven, a)
+}
+
+// The greatest whole number that is not above a.
+pub fn floor(a: u64) -> u64
+    ensures { λ r. ⌜ r ≡ Word.floor a ⌝ }
+{
+    round_to_integral(Direction::TowardNegative, a)
+}
+
+// The least whole number that is not below a.
+pub fn ceiling(a: u64) -> u64
+    ensures { λ r. ⌜ r ≡ Word.ceiling a ⌝ }
+{
+    round_to_integral(Direction::TowardPositive, a)
+}
+
+// The whole number that is left where the digits below the point are cut off.
+pub fn trunc(a: u64) -> u64
+    ensures { λ r. ⌜ r ≡ Word.trunc a ⌝ }
+{
+    round_to_integral(Direction::TowardZero, a)
 }
 
 // The square root, rounded once.

@@ -59,6 +59,20 @@ pub extern "C" fn tulipcricket_little_than(a: u64, b: u64) -> u64
 }
 
 #[no_mangle]
+pub extern "C" fn tulipcricket_greater_than_equal(a: u64, b: u64) -> u64
+    ensures { λ r. ⌜ r ≡ Word.greaterThanEqual a b ⌝ }
+{
+    float::greater_than_equal(a, b)
+}
+
+#[no_mangle]
+pub extern "C" fn tulipcricket_little_than_equal(a: u64, b: u64) -> u64
+    ensures { λ r. ⌜ r ≡ Word.littleThanEqual a b ⌝ }
+{
+    float::little_than_equal(a, b)
+}
+
+#[no_mangle]
 pub extern "C" fn tulipcricket_equal(a: u64, b: u64) -> u64
     ensures { λ r. ⌜ r ≡ Word.equal a b ⌝ }
 {
@@ -70,6 +84,13 @@ pub extern "C" fn tulipcricket_not_equal(a: u64, b: u64) -> u64
     ensures { λ r. ⌜ r ≡ Word.notEqual a b ⌝ }
 {
     float::not_equal(a, b)
+}
+
+#[no_mangle]
+pub extern "C" fn tulipcricket_is_zero(a: u64) -> u64
+    ensures { λ r. ⌜ r ≡ Word.isZero a ⌝ }
+{
+    float::is_zero(a)
 }
 
 #[no_mangle]
@@ -133,6 +154,27 @@ pub extern "C" fn tulipcricket_round(a: u64) -> u64
     ensures { λ r. ⌜ r ≡ Word.round a ⌝ }
 {
     float::round(a)
+}
+
+#[no_mangle]
+pub extern "C" fn tulipcricket_floor(a: u64) -> u64
+    ensures { λ r. ⌜ r ≡ Word.floor a ⌝ }
+{
+    float::floor(a)
+}
+
+#[no_mangle]
+pub extern "C" fn tulipcricket_ceiling(a: u64) -> u64
+    ensures { λ r. ⌜ r ≡ Word.ceiling a ⌝ }
+{
+    float::ceiling(a)
+}
+
+#[no_mangle]
+pub extern "C" fn tulipcricket_trunc(a: u64) -> u64
+    ensures { λ r. ⌜ r ≡ Word.trunc a ⌝ }
+{
+    float::trunc(a)
 }
 
 #[no_mangle]

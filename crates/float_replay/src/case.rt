@@ -61,6 +61,12 @@ fn result(op: u8, a: u64, b: u64, c: u64, d: u64) -> u64
         26 => float::complex_times(a, b, c, d).im,
         27 => float::complex_divide(a, b, c, d).re,
         28 => float::complex_divide(a, b, c, d).im,
+        29 => float::floor(a),
+        30 => float::ceiling(a),
+        31 => float::trunc(a),
+        32 => float::is_zero(a),
+        33 => float::greater_than_equal(a, b),
+        34 => float::little_than_equal(a, b),
         _ => 0,
     }
 }
@@ -71,7 +77,7 @@ pub(crate) fn differs(s: &[u8]) -> bool
     ensures { λ r. ⌜ r ≡ Case.differs (now (s .entry)) ⌝ }
 {
     let op = s[0];
-    if op >= 29 {
+    if op >= 35 {
         return true;
     }
     let r = result(op, word(s, 1), word(s, 9), word(s, 17), word(s, 25));

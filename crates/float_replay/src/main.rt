@@ -9,7 +9,7 @@ use libc::STDIN_FILENO;
 use libc::STDOUT_FILENO;
 
 // Reads up to 100 cases, counts them, and answers whether more may follow.
-fn replay_some(t: &mut [u64; 62]) -> bool {
+fn replay_some(t: &mut [u64; 74]) -> bool {
     let mut list = [0u8; 4100];
     let n = io::read_full(STDIN_FILENO, &mut list);
     tally::replay(&list[..n], t);
@@ -20,7 +20,7 @@ fn replay_some(t: &mut [u64; 62]) -> bool {
 }
 
 // Reads to the end of the list, or 100,000 cases.
-fn replay_all(t: &mut [u64; 62]) {
+fn replay_all(t: &mut [u64; 74]) {
     let mut turns: u64 = 1000;
     while turns > 0 && replay_some(t) {
         turns -= 1;
@@ -59,6 +59,12 @@ fn print_name(k: usize) {
         26 => io::write_all(STDOUT_FILENO, b"TimesComplex imaginary"),
         27 => io::write_all(STDOUT_FILENO, b"DivideComplex real"),
         28 => io::write_all(STDOUT_FILENO, b"DivideComplex imaginary"),
+        29 => io::write_all(STDOUT_FILENO, b"Floor"),
+        30 => io::write_all(STDOUT_FILENO, b"Ceiling"),
+        31 => io::write_all(STDOUT_FILENO, b"Trunc"),
+        32 => io::write_all(STDOUT_FILENO, b"IsZero"),
+        33 => io::write_all(STDOUT_FILENO, b"GreaterThanEqual"),
+        34 => io::write_all(STDOUT_FILENO, b"LittleThanEqual"),
         _ => io::write_all(STDOUT_FILENO, b"no operation"),
     }
     ;
@@ -73,8 +79,8 @@ fn print_counts(before: &[u8], cases: u64, between: &[u8], differ: u64, after: &
 }
 
 // The line of operation k, where the list has cases of it.
-fn print_line(t: &[u64; 62], k: usize)
-    requires { ⌜ k < 30 ⌝ }
+fn print_line(t: &[u64; 74], k: usize)
+    requires { ⌜ k < 36 ⌝ }
 {
     let cases = t[2 * k];
     if cases != 0 {
@@ -83,17 +89,17 @@ fn print_line(t: &[u64; 62], k: usize)
     }
 }
 
-fn print_lines(t: &[u64; 62]) {
+fn print_lines(t: &[u64; 74]) {
     let mut k: usize = 0;
-    while k < 30 {
+    while k < 36 {
         print_line(t, k);
         k += 1;
     }
 }
 
 fn main() {
-    let mut t = [0u64; 62];
+    let mut t = [0u64; 74];
     replay_all(&mut t);
     print_lines(&t);
-    print_counts(b"", t[60], b" cases, ", t[61], b" differ\n");
+    print_counts(b"", t[72], b" cases, ", t[73], b" differ\n");
 }

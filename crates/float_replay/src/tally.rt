@@ -7,16 +7,16 @@ ghost use Rattle.float_replay.specs.Tally.{raised, tallied, counted, rep
 use crate::case::differs;
 
 // One more at i.
-fn raise(t: &mut [u64; 62], i: usize)
-    requires { ⌜ i < 62 ⌝ }
+fn raise(t: &mut [u64; 74], i: usize)
+    requires { ⌜ i < 74 ⌝ }
     ensures { λ _. ⌜ now (t .exit) ≡ raised (now (t .entry)) i ⌝ }
 {
     t[i] = std::num::wrapping_add_u64(t[i], 1);
 }
 
 // One case more of k, which differs or does not.
-fn tally(t: &mut [u64; 62], k: usize, d: bool)
-    requires { ⌜ k < 31 ⌝ }
+fn tally(t: &mut [u64; 74], k: usize, d: bool)
+    requires { ⌜ k < 37 ⌝ }
     ensures { λ _. ⌜ now (t .exit) ≡ tallied (now (t .entry)) k d ⌝ }
 {
     raise(t, 2 * k);
@@ -27,23 +27,23 @@ fn tally(t: &mut [u64; 62], k: usize, d: bool)
 
 // Where the cases of an operation's number are counted.
 fn slot(op: u8) -> usize
-    ensures { λ r. ⌜ (r ≡ Tally.slot op) × (r < 30) ⌝ }
+    ensures { λ r. ⌜ (r ≡ Tally.slot op) × (r < 36) ⌝ }
 {
-    if op < 29 { op as usize } else { 29 }
+    if op < 35 { op as usize } else { 35 }
 }
 
 // Counts the case s.
-fn count(t: &mut [u64; 62], s: &[u8])
+fn count(t: &mut [u64; 74], s: &[u8])
     requires { ⌜ 41 ≤ length (now s) ⌝ }
     ensures { λ _. ⌜ now (t .exit) ≡ counted (now (t .entry)) (now (s .entry)) ⌝ }
 {
     let d = differs(s);
     tally(t, slot(s[0]), d);
-    tally(t, 30, d);
+    tally(t, 36, d);
 }
 
 // Counts the whole cases of a list.
-pub fn replay(list: &[u8], t: &mut [u64; 62])
+pub fn replay(list: &[u8], t: &mut [u64; 74])
     ensures { λ _. ⌜ now (t .exit) ≡ replayed (now (t .entry)) (now (list .entry)) (length (now (list .entry)) / 41) ⌝ }
 {
     let cases = list.len() / 41;

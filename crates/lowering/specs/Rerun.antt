@@ -20,7 +20,7 @@ use Rattle.lowering.specs.Complexifier.{State, Out, then, unlisted, byOn
 abbrev pub compareZero : BinOp → BinOp → ℕ → ℕ → State → Out
 compareZero op join d a s = then (c.bits BinOp.Xor Temp Temp Temp s) (c.compare op join d a Temp)
 
--- `rerun_uniop`; a sheet takes no Floor, Ceiling, Trunc and IsZero
+-- `rerun_uniop`
 unfoldable pub rerunUni : Mode → UniOp → ℕ → ℕ → State → Out
 rerunUni m UniOp.Neg d a s = byOne (eachLines UniOp.Neg) copied d a s
 rerunUni m UniOp.Not d a s = byOne notLines asReal d a s
@@ -29,31 +29,31 @@ rerunUni m UniOp.Root d a s = c.root (isStable m) d a s
 rerunUni m UniOp.RealRoot d a s = c.realRoot (isStable m) d a s
 rerunUni m UniOp.Recip d a s = c.recip (isStable m) d a s
 rerunUni m UniOp.Round d a s = byOne (eachLines UniOp.Round) copied d a s
-rerunUni m UniOp.Floor d a s = unlisted s
-rerunUni m UniOp.Ceiling d a s = unlisted s
-rerunUni m UniOp.Trunc d a s = unlisted s
+rerunUni m UniOp.Floor d a s = byOne (eachLines UniOp.Floor) copied d a s
+rerunUni m UniOp.Ceiling d a s = byOne (eachLines UniOp.Ceiling) copied d a s
+rerunUni m UniOp.Trunc d a s = byOne (eachLines UniOp.Trunc) copied d a s
 rerunUni m UniOp.Real d a s = byOne realLines asReal d a s
 rerunUni m UniOp.Imaginary d a s = byOne imaginaryLines asReal d a s
 rerunUni m UniOp.Conjugate d a s = byOne conjugateLines copied d a s
 rerunUni m UniOp.Half d a s = c.half m d a s
-rerunUni m UniOp.IsZero d a s = unlisted s
+rerunUni m UniOp.IsZero d a s = compareZero BinOp.Equal BinOp.And d a s
 rerunUni m UniOp.IsNotZero d a s = compareZero BinOp.NotEqual BinOp.Or d a s
 rerunUni m UniOp.Sign d a s = byOne (eachLines UniOp.Sign) copied d a s
 rerunUni m UniOp.Abs2 d a s = byOne abs2Lines copied d a s
 rerunUni m UniOp.TimesI d a s = byOne timesILines asComplex d a s
 rerunUni m UniOp.TimesNegI d a s = byOne timesNegILines asComplex d a s
 
--- `rerun_binop`; a sheet takes no GreaterThanEqual, LittleThanEqual, Equal and AndNot
+-- `rerun_binop`; a sheet takes no AndNot
 unfoldable pub rerunBin : Mode → BinOp → ℕ → ℕ → ℕ → State → Out
 rerunBin m BinOp.Plus d a b s = c.plus d a b s
 rerunBin m BinOp.Minus d a b s = c.minus d a b s
 rerunBin m BinOp.Times d a b s = c.times d a b s
 rerunBin m BinOp.Divide d a b s = c.divide m d a b s
 rerunBin m BinOp.GreaterThan d a b s = byTwo (orderLines BinOp.GreaterThan) bothAsReal d a b s
-rerunBin m BinOp.GreaterThanEqual d a b s = unlisted s
+rerunBin m BinOp.GreaterThanEqual d a b s = byTwo (orderLines BinOp.GreaterThanEqual) bothAsReal d a b s
 rerunBin m BinOp.LittleThan d a b s = byTwo (orderLines BinOp.LittleThan) bothAsReal d a b s
-rerunBin m BinOp.LittleThanEqual d a b s = unlisted s
-rerunBin m BinOp.Equal d a b s = unlisted s
+rerunBin m BinOp.LittleThanEqual d a b s = byTwo (orderLines BinOp.LittleThanEqual) bothAsReal d a b s
+rerunBin m BinOp.Equal d a b s = c.compare BinOp.Equal BinOp.And d a b s
 rerunBin m BinOp.NotEqual d a b s = c.compare BinOp.NotEqual BinOp.Or d a b s
 rerunBin m BinOp.And d a b s = c.bits BinOp.And d a b s
 rerunBin m BinOp.AndNot d a b s = unlisted s

@@ -1,4 +1,4 @@
--- Which operations a sheet takes, and which a listing (document 01, Sheet).
+-- Which operations a sheet takes, and which a listing (document 01, Sheet; document 02, a).
 use Prim.Native.Nat.{ℕ}
 use mathlib.Core.Bool.{Bool, true, false, not, _||_}
 use mathlib.Core.List.{List, [], _∷_}
@@ -15,21 +15,20 @@ oneOf number op [] = false
 oneOf number op (o ∷ os) = eqb (number op) (number o) || oneOf number op os
 
 -- whether a listing (true), or a sheet (false), takes an operation.
--- Sheets: "UniOp without Floor, Ceiling, Trunc, IsZero"; listings: "Uni Neg, Not, Abs, Root, Recip, Round, Half, Sign"
+-- Sheets: UniOp, with document 02, a) all of it; listings: "Uni Neg, Not, Abs, Root, Recip, Round, Half, Sign", and Floor, Ceiling, Trunc, IsZero
 abbrev pub takesUni : Bool → UniOp → Bool
-takesUni false op = not (oneOf uniNumber op (UniOp.Floor ∷ UniOp.Ceiling ∷ UniOp.Trunc ∷ UniOp.IsZero ∷ []))
+takesUni false op = true
 takesUni true op =
     oneOf uniNumber op
-    (UniOp.Neg ∷ UniOp.Not ∷ UniOp.Abs ∷ UniOp.Root ∷ UniOp.Recip ∷ UniOp.Round ∷ UniOp.Half ∷ UniOp.Sign ∷ [])
+    (UniOp.Neg ∷ UniOp.Not ∷ UniOp.Abs ∷ UniOp.Root ∷ UniOp.Recip ∷ UniOp.Round ∷ UniOp.Half ∷ UniOp.Sign ∷ UniOp.Floor ∷ UniOp.Ceiling ∷ UniOp.Trunc ∷ UniOp.IsZero ∷ [])
 
--- "BinOp without GreaterThanEqual, LittleThanEqual, Equal, AndNot"; "Bi Plus, Minus, Times, Divide, GreaterThan, LittleThan, Equal,
--- NotEqual, And, Or, Xor"
+-- Sheets: BinOp, with document 02, a) without AndNot alone; listings: "Bi Plus, Minus, Times, Divide, GreaterThan, LittleThan, Equal,
+-- NotEqual, And, Or, Xor", and GreaterThanEqual, LittleThanEqual
 abbrev pub takesBin : Bool → BinOp → Bool
-takesBin false op =
-    not (oneOf binNumber op (BinOp.GreaterThanEqual ∷ BinOp.LittleThanEqual ∷ BinOp.Equal ∷ BinOp.AndNot ∷ []))
+takesBin false op = not (oneOf binNumber op (BinOp.AndNot ∷ []))
 takesBin true op =
     oneOf binNumber op
-    (BinOp.Plus ∷ BinOp.Minus ∷ BinOp.Times ∷ BinOp.Divide ∷ BinOp.GreaterThan ∷ BinOp.LittleThan ∷ BinOp.Equal ∷ BinOp.NotEqual ∷ BinOp.And ∷ BinOp.Or ∷ BinOp.Xor ∷ [])
+    (BinOp.Plus ∷ BinOp.Minus ∷ BinOp.Times ∷ BinOp.Divide ∷ BinOp.GreaterThan ∷ BinOp.LittleThan ∷ BinOp.Equal ∷ BinOp.NotEqual ∷ BinOp.And ∷ BinOp.Or ∷ BinOp.Xor ∷ BinOp.GreaterThanEqual ∷ BinOp.LittleThanEqual ∷ [])
 
 -- "all of ArithOp"; "ArithOp Plus, Minus, Times, Divide"
 abbrev pub takesArith : ArithOp → Bool

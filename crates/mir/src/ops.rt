@@ -206,13 +206,13 @@ const FUSED: [FusedOp; 4] = [
 ];
 
 // Whether a sheet, and whether a listing, takes each of them (1) or not (0).
-const SHEET_UNI: [u8; 20] = [1, 1, 1, 1, 1, 1, 1, 0, 0, 0, 1, 1, 1, 1, 0, 1, 1, 1, 1, 1];
+const SHEET_UNI: [u8; 20] = [1, 1, 1, 1, 1, 1, 1, 1, 1, 1, 1, 1, 1, 1, 1, 1, 1, 1, 1, 1];
 
-const LISTING_UNI: [u8; 20] = [1, 1, 1, 1, 0, 1, 1, 0, 0, 0, 0, 0, 0, 1, 0, 0, 1, 0, 0, 0];
+const LISTING_UNI: [u8; 20] = [1, 1, 1, 1, 0, 1, 1, 1, 1, 1, 0, 0, 0, 1, 1, 0, 1, 0, 0, 0];
 
-const SHEET_BIN: [u8; 15] = [1, 1, 1, 1, 1, 0, 1, 0, 0, 1, 1, 0, 1, 1, 1];
+const SHEET_BIN: [u8; 15] = [1, 1, 1, 1, 1, 1, 1, 1, 1, 1, 1, 0, 1, 1, 1];
 
-const LISTING_BIN: [u8; 15] = [1, 1, 1, 1, 1, 0, 1, 0, 1, 1, 1, 0, 1, 1, 0];
+const LISTING_BIN: [u8; 15] = [1, 1, 1, 1, 1, 1, 1, 1, 1, 1, 1, 0, 1, 1, 0];
 
 const SHEET_FUSED: [u8; 4] = [1, 1, 1, 1];
 

@@ -67,7 +67,6 @@ fn rerun_uni(
     ensures { λ r. ⌜ Ends (buf (now (out .entry)) at) low (now (constants .entry)) (rerunUni mode op dst s1) (now (out .exit)) r ⌝ }
 {
     let stable = is_stable(mode);
-    let unlisted = Listed { low: low, at: at };
     match op {
         UniOp::Neg => no_constants(low.each(out, at, UniOp::Neg, dst, s1)),
         UniOp::Not => no_constants(low.not(out, at, dst, s1)),
@@ -76,14 +75,22 @@ fn rerun_uni(
         UniOp::RealRoot => real_root(low, constants, stable, out, at, dst, s1),
         UniOp::Recip => recip(low, constants, stable, out, at, dst, s1),
         UniOp::Round => no_constants(low.each(out, at, UniOp::Round, dst, s1)),
-        UniOp::Floor => no_constants(unlisted),
-        UniOp::Ceiling => no_constants(unlisted),
-        UniOp::Trunc => no_constants(unlisted),
+        UniOp::Floor => no_constants(low.each(out, at, UniOp::Floor, dst, s1)),
+        UniOp::Ceiling => no_constants(low.each(out, at, UniOp::Ceiling, dst, s1)),
+        UniOp::Trunc => no_constants(low.each(out, at, UniOp::Trunc, dst, s1)),
         UniOp::Real => no_constants(low.real(out, at, dst, s1)),
         UniOp::Imaginary => no_constants(low.imaginary(out, at, dst, s1)),
         UniOp::Conjugate => no_constants(low.conjugate(out, at, dst, s1)),
         UniOp::Half => no_constants(low.half(out, at, mode, dst, s1)),
-        UniOp::IsZero => no_constants(unlisted),
+        UniOp::IsZero => no_constants(compare_zero(
+            low,
+            out,
+            at,
+            BinOp::Equal,
+            BinOp::And,
+            dst,
+            s1,
+        )),
         UniOp::IsNotZero => no_constants(compare_zero(
             low,
             out,
@@ -121,10 +128,24 @@ fn rerun_bin(
         BinOp::Times => no_constants(low.times(out, at, dst, s1, s2)),
         BinOp::Divide => divide(low, constants, mode, out, at, dst, s1, s2),
         BinOp::GreaterThan => no_constants(low.order(out, at, BinOp::GreaterThan, dst, s1, s2)),
-        BinOp::GreaterThanEqual => no_constants(unlisted),
+        BinOp::GreaterThanEqual => no_constants(low.order(
+            out,
+            at,
+            BinOp::GreaterThanEqual,
+            dst,
+            s1,
+            s2,
+        )),
         BinOp::LittleThan => no_constants(low.order(out, at, BinOp::LittleThan, dst, s1, s2)),
-        BinOp::LittleThanEqual => no_constants(unlisted),
-        BinOp::Equal => no_constants(unlisted),
+        BinOp::LittleThanEqual => no_constants(low.order(
+            out,
+            at,
+            BinOp::LittleThanEqual,
+            dst,
+            s1,
+            s2,
+        )),
+        BinOp::Equal => no_constants(low.compare(out, at, BinOp::Equal, BinOp::And, dst, s1, s2)),
         BinOp::NotEqual => no_constants(low.compare(
             out,
             at,

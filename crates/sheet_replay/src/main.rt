@@ -1,6 +1,6 @@
 // Lowers a list of sheets, from standard input, through `complexify`. Writes how many cases were answered with each number, how many
 // cases the list holds, and how many of them differ from the answer, the listing or the constants that the list expects.
-// The list in `stdin` is `sheets` as oracle's `make-lists FOLDER 300 1` writes it (oracle/src/lists.rs has its form).
+// The list in `stdin` is `sheets` as oracle's `make-lists FOLDER 280 3` writes it (oracle/src/lists.rs has its form).
 mod case;
 mod compare;
 mod tally;

@@ -32,6 +32,12 @@ extern "C" {
     pub fn tulipcricket_complex_times_im(x1: u64, y1: u64, x2: u64, y2: u64) -> u64;
     pub fn tulipcricket_complex_divide_re(x1: u64, y1: u64, x2: u64, y2: u64) -> u64;
     pub fn tulipcricket_complex_divide_im(x1: u64, y1: u64, x2: u64, y2: u64) -> u64;
+    pub fn tulipcricket_floor(a: u64) -> u64;
+    pub fn tulipcricket_ceiling(a: u64) -> u64;
+    pub fn tulipcricket_trunc(a: u64) -> u64;
+    pub fn tulipcricket_is_zero(a: u64) -> u64;
+    pub fn tulipcricket_greater_than_equal(a: u64, b: u64) -> u64;
+    pub fn tulipcricket_little_than_equal(a: u64, b: u64) -> u64;
 }
 
 /// A function over a case's first operands.
@@ -42,7 +48,7 @@ macro_rules! call {
     };
 }
 
-pub const CALLS: [fn(&Operands) -> u64; 29] = [
+pub const CALLS: [fn(&Operands) -> u64; 35] = [
     call!(tulipcricket_plus, 0, 1),
     call!(tulipcricket_minus, 0, 1),
     call!(tulipcricket_times, 0, 1),
@@ -72,4 +78,10 @@ pub const CALLS: [fn(&Operands) -> u64; 29] = [
     call!(tulipcricket_complex_times_im, 0, 1, 2, 3),
     call!(tulipcricket_complex_divide_re, 0, 1, 2, 3),
     call!(tulipcricket_complex_divide_im, 0, 1, 2, 3),
+    call!(tulipcricket_floor, 0),
+    call!(tulipcricket_ceiling, 0),
+    call!(tulipcricket_trunc, 0),
+    call!(tulipcricket_is_zero, 0),
+    call!(tulipcricket_greater_than_equal, 0, 1),
+    call!(tulipcricket_little_than_equal, 0, 1),
 ];

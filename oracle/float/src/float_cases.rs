@@ -254,6 +254,26 @@ pub fn halves(rng: &mut Rng) -> Operands {
     [a, 0, 0, 0]
 }
 
+/// A word to round in a direction: a whole number of any count of digits or a unit or two beside it, in half of the cases; else as
+/// `halves`.
+pub fn wholes(rng: &mut Rng) -> Operands {
+    if rng.below(2) == 0 {
+        return halves(rng);
+    }
+    let whole = word(rng.below(2) == 0, rng.bits() >> rng.between(11, 63), 0);
+    [near(whole, rng), 0, 0, 0]
+}
+
+/// A word to compare with zero: a zero or next to one, subnormal, or any.
+pub fn zeros(rng: &mut Rng) -> Operands {
+    let a = match rng.below(3) {
+        0 => near(rng.bits() & SIGN, rng),
+        1 => subnormal(rng) | rng.bits() & SIGN,
+        _ => any_word(rng),
+    };
+    [a, 0, 0, 0]
+}
+
 /// An odd m of 54 digits with m * m = r modulo 2^55, for r = 1 modulo 8. Found digit by digit; of m and -m one has 54 digits.
 fn two_adic_root(r: u64) -> u64 {
     let mut m: u64 = 1;
@@ -500,6 +520,24 @@ mod tests {
         assert!(count(octave_end, |a| !a << 12 == 0 && a >> 52 & 1 == 1) > 100);
         assert_eq!(count(subnormal, |a| a < 1 << 52), 10_000);
         assert!(count(subnormal, |a| a.is_power_of_two()) > 100);
+    }
+
+    /// Whole numbers, values a unit beside one, values below 1 of either sign, and zeros are each met.
+    #[test]
+    fn edges_of_the_directions_are_met() {
+        let count = |draw: fn(&mut Rng) -> Operands, holds: fn(f64) -> bool| {
+            of(draw, 10_000).into_iter().filter(|row| holds(row[0])).count()
+        };
+        let beside =
+            |x: f64| x.abs() > 1.0 && x != x.trunc() && (x.next_up() == x.ceil() || x.next_down() == x.floor());
+        assert!(count(wholes, |x| x == x.trunc() && x.abs() < 2f64.powi(52)) > 500);
+        assert!(count(wholes, beside) > 500);
+        assert!(count(wholes, |x| x < 0.0 && x > -1.0) > 100);
+        assert!(count(wholes, |x| x > 0.0 && x < 1.0) > 100);
+        assert!(count(zeros, |x| x == 0.0 && x.is_sign_positive()) > 100);
+        assert!(count(zeros, |x| x == 0.0 && x.is_sign_negative()) > 100);
+        assert!(count(zeros, |x| x.is_subnormal()) > 1000);
+        assert!(count(zeros, |x| x.is_nan()) > 100);
     }
 
     #[test]

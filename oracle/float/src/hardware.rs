@@ -68,6 +68,16 @@ pub fn little_than(a: u64, b: u64) -> u64 {
 }
 
 #[inline(always)]
+pub fn greater_than_equal(a: u64, b: u64) -> u64 {
+    flag(value(a) >= value(b))
+}
+
+#[inline(always)]
+pub fn little_than_equal(a: u64, b: u64) -> u64 {
+    flag(value(a) <= value(b))
+}
+
+#[inline(always)]
 pub fn equal(a: u64, b: u64) -> u64 {
     flag(value(a) == value(b))
 }
@@ -75,6 +85,11 @@ pub fn equal(a: u64, b: u64) -> u64 {
 #[inline(always)]
 pub fn not_equal(a: u64, b: u64) -> u64 {
     flag(value(a) != value(b))
+}
+
+#[inline(always)]
+pub fn is_zero(a: u64) -> u64 {
+    flag(value(a) == 0.0)
 }
 
 #[inline(always)]
@@ -127,7 +142,7 @@ pub fn root(a: u64) -> u64 {
     folded(value(a).sqrt())
 }
 
-/// Whether `round` and `mul_add` are single instructions of this machine; else they are the C library's.
+/// Whether the roundings to a whole number and `mul_add` are single instructions of this machine; else they are the C library's.
 pub fn has_instructions() -> bool {
     #[cfg(target_arch = "x86_64")]
     return is_x86_feature_detected!("fma") && is_x86_feature_detected!("sse4.1");
@@ -135,42 +150,33 @@ pub fn has_instructions() -> bool {
     false
 }
 
-#[cfg(target_arch = "x86_64")]
-mod instructions {
-    use super::{folded, value};
-
-    #[inline]
-    #[target_feature(enable = "sse4.1")]
-    pub fn round(a: u64) -> u64 {
-        folded(value(a).round_ties_even())
-    }
-
-    #[inline]
-    #[target_feature(enable = "fma")]
-    pub fn mul_add(a: u64, b: u64, c: u64) -> u64 {
-        folded(value(a).mul_add(value(b), value(c)))
-    }
+/// An operation on values by the machine's instruction where it has one, else by the C library's function.
+macro_rules! by_instruction {
+    ($name:ident, $feature:literal, $f:ident, $a:ident $(, $b:ident)*) => {
+        #[inline(always)]
+        pub fn $name($a: u64, $($b: u64),*) -> u64 {
+            #[cfg(target_arch = "x86_64")]
+            {
+                #[inline]
+                #[target_feature(enable = $feature)]
+                fn instruction($a: u64, $($b: u64),*) -> u64 {
+                    folded(value($a).$f($(value($b)),*))
+                }
+                if has_instructions() {
+                    // SAFETY: the machine has the instruction.
+                    return unsafe { instruction($a, $($b),*) };
+                }
+            }
+            folded(value($a).$f($(value($b)),*))
+        }
+    };
 }
 
-#[inline(always)]
-pub fn round(a: u64) -> u64 {
-    #[cfg(target_arch = "x86_64")]
-    if has_instructions() {
-        // SAFETY: the machine has the instruction.
-        return unsafe { instructions::round(a) };
-    }
-    folded(value(a).round_ties_even())
-}
-
-#[inline(always)]
-pub fn mul_add(a: u64, b: u64, c: u64) -> u64 {
-    #[cfg(target_arch = "x86_64")]
-    if has_instructions() {
-        // SAFETY: the machine has the instruction.
-        return unsafe { instructions::mul_add(a, b, c) };
-    }
-    folded(value(a).mul_add(value(b), value(c)))
-}
+by_instruction!(round, "sse4.1", round_ties_even, a);
+by_instruction!(floor, "sse4.1", floor, a);
+by_instruction!(ceiling, "sse4.1", ceil, a);
+by_instruction!(trunc, "sse4.1", trunc, a);
+by_instruction!(mul_add, "fma", mul_add, a, b, c);
 
 /// A complex number: its real and its imaginary word.
 pub type Pair = [u64; 2];

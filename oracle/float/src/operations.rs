@@ -16,7 +16,7 @@ pub struct Operation {
     pub draw: fn(&mut Rng) -> Operands,
     /// How many cases of it the list holds.
     pub listed: usize,
-    /// A random case of a comparison: as in the list, of Root also at the edges of its steps.
+    /// A random case of a comparison: as in the list, of Round also at whole numbers, of Root also at the edges of its steps.
     pub compared: fn(&mut Rng) -> Operands,
 }
 
@@ -50,7 +50,7 @@ macro_rules! row {
 }
 
 /// An operation's number is its position.
-pub const OPERATIONS: [Operation; 29] = [
+pub const OPERATIONS: [Operation; 35] = [
     row!("Plus", plus(a, b), sum, 1300),
     row!("Minus", minus(a, b), sum, 1300),
     row!("Times", times(a, b), product, 1300),
@@ -69,7 +69,7 @@ pub const OPERATIONS: [Operation; 29] = [
     row!("Xor", xor(a, b), bits, 250),
     row!("Sign", sign(a), one, 250),
     row!("IfElse", if_else(a, b, c), bits, 250),
-    row!("Round", round(a), halves, 1200),
+    row!("Round", round(a), halves, 1200, wholes),
     row!("Root", root(a), radicand, 2500, radicand_or_edge),
     row!("MulAdd", mul_add(a, b, c), fused, 5000),
     row!("PlusComplex real", complex_plus[0], pairs, 450),
@@ -80,4 +80,10 @@ pub const OPERATIONS: [Operation; 29] = [
     row!("TimesComplex imaginary", complex_times[1], pairs, 450),
     row!("DivideComplex real", complex_divide[0], pairs, 450),
     row!("DivideComplex imaginary", complex_divide[1], pairs, 450),
+    row!("Floor", floor(a), wholes, 1200),
+    row!("Ceiling", ceiling(a), wholes, 1200),
+    row!("Trunc", trunc(a), wholes, 1200),
+    row!("IsZero", is_zero(a), zeros, 250),
+    row!("GreaterThanEqual", greater_than_equal(a, b), close, 700),
+    row!("LittleThanEqual", little_than_equal(a, b), close, 700),
 ];

@@ -171,8 +171,9 @@ fn show(case: &Case, rooted: bool) {
 }
 
 fn uni(op: u8, dst: u8, s1: u8) -> Case {
-    // IsNotZero compares with Temp, after a Xor that goes by the record of Temp.
-    let registers = if op == names::uni::IS_NOT_ZERO { vec![dst, s1, TEMP] } else { vec![dst, s1] };
+    // IsZero and IsNotZero compare with Temp, after a Xor that goes by the record of Temp.
+    let registers =
+        if matches!(op, names::uni::IS_ZERO | names::uni::IS_NOT_ZERO) { vec![dst, s1, TEMP] } else { vec![dst, s1] };
     Case {
         title: format!("{}{}", UNI[op as usize], row(&[dst, s1])),
         record: make::uni(op, dst, s1),

@@ -16,10 +16,14 @@ pub enum Uni {
     RealRoot = 4,
     Recip = 5,
     Round = 6,
+    Floor = 7,
+    Ceiling = 8,
+    Trunc = 9,
     Real = 10,
     Imaginary = 11,
     Conjugate = 12,
     Half = 13,
+    IsZero = 14,
     IsNotZero = 15,
     Sign = 16,
     Abs2 = 17,
@@ -27,7 +31,7 @@ pub enum Uni {
     TimesNegI = 19,
 }
 
-/// Operations on two registers, of those that sheets take.
+/// Operations on two registers, of those that sheets take: all of mir.rs but AndNot.
 #[derive(Clone, Copy, Debug)]
 pub enum Bi {
     Plus = 0,
@@ -35,7 +39,10 @@ pub enum Bi {
     Times = 2,
     Divide = 3,
     GreaterThan = 4,
+    GreaterThanEqual = 5,
     LittleThan = 6,
+    LittleThanEqual = 7,
+    Equal = 8,
     NotEqual = 9,
     And = 10,
     Or = 12,

@@ -8,7 +8,7 @@ abbrev Inv-loop : tie.InvT-loop
 Inv-loop t k₀ k = Unit {0}
 
 abbrev μ-loop : tie.MeasureT-loop
-μ-loop t k₀ k = 30 - k
+μ-loop t k₀ k = 36 - k
 
 pub print-lines-spec : {M : Type 1} → statement M
 print-lines-spec =

@@ -47,7 +47,9 @@ fn main() {
     let seed = number(args.next());
     let named: Vec<String> = args.collect();
     if !hardware::has_instructions() {
-        println!("this machine has no instruction for Round or MulAdd: theirs are the C library's");
+        println!(
+            "this machine has no instruction for the roundings to a whole number or MulAdd: theirs are the C library's"
+        );
     }
     let (mut cases, mut differ) = (0, 0);
     for (operation, call) in OPERATIONS.iter().zip(CALLS) {

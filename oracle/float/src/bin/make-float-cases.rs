@@ -50,6 +50,6 @@ fn main() {
         }
     }
     let by = if hardware::has_instructions() { "instructions" } else { "the C library" };
-    println!("{total} cases, {} bytes; Round and MulAdd by {by}", list.len());
+    println!("{total} cases, {} bytes; roundings and MulAdd by {by}", list.len());
     std::fs::write(&file, list).expect("the list is written");
 }

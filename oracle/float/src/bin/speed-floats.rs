@@ -98,8 +98,11 @@ fn main() {
     line!(rows, "Recip", tulipcricket_recip, hardware::recip, a 0);
     line!(rows, "GreaterThan", tulipcricket_greater_than, hardware::greater_than, a 0, b 1);
     line!(rows, "LittleThan", tulipcricket_little_than, hardware::little_than, a 0, b 1);
+    line!(rows, "GreaterThanEqual", tulipcricket_greater_than_equal, hardware::greater_than_equal, a 0, b 1);
+    line!(rows, "LittleThanEqual", tulipcricket_little_than_equal, hardware::little_than_equal, a 0, b 1);
     line!(rows, "Equal", tulipcricket_equal, hardware::equal, a 0, b 1);
     line!(rows, "NotEqual", tulipcricket_not_equal, hardware::not_equal, a 0, b 1);
+    line!(rows, "IsZero", tulipcricket_is_zero, hardware::is_zero, a 0);
     line!(rows, "Neg", tulipcricket_neg, hardware::neg, a 0);
     line!(rows, "Abs", tulipcricket_abs, hardware::abs, a 0);
     line!(rows, "Not", tulipcricket_not, hardware::not, a 0);
@@ -109,6 +112,9 @@ fn main() {
     line!(rows, "Sign", tulipcricket_sign, hardware::sign, a 0);
     line!(rows, "IfElse", tulipcricket_if_else, hardware::if_else, a 0, b 1, c 2);
     line!(rows, "Round", tulipcricket_round, hardware::round, a 0);
+    line!(rows, "Floor", tulipcricket_floor, hardware::floor, a 0);
+    line!(rows, "Ceiling", tulipcricket_ceiling, hardware::ceiling, a 0);
+    line!(rows, "Trunc", tulipcricket_trunc, hardware::trunc, a 0);
     line!(rows, "Root", tulipcricket_root, hardware::root, a 3);
     line!(rows, "MulAdd", tulipcricket_mul_add, hardware::mul_add, a 0, b 1, c 2);
     line!(rows, "PlusComplex, one half", tulipcricket_complex_plus_re, real!(complex_plus), a 0, b 1, c 2, d 3);

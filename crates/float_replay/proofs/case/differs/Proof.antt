@@ -1,4 +1,4 @@
--- `case::differs` meets its contract: an operation's number above 28 differs by definition; below, the words are the case's and the result is the answer.
+-- `case::differs` meets its contract: an operation's number above 34 differs by definition; below, the words are the case's and the result is the answer.
 -- Assumes nothing.
 use borrow.Author.Needs.{needs}
 use borrow.Author.Tests.{lt-ltb, le-ltb}
@@ -12,7 +12,7 @@ differs-spec =
     tie.close
     (tie.spec
     (λ c. search needs)
-    (λ c. simp (le-ltb _ 29 (c .if1 .taken)))
+    (λ c. simp (le-ltb _ 35 (c .if1 .taken)))
     (λ c κs. search needs) (λ c κs. search needs) (λ c κs. search needs) (λ c κs. search needs) (λ c κs. search needs)
     (λ c κs. search needs)
     (λ c.
@@ -21,7 +21,7 @@ differs-spec =
     let at-word2 = at-word3 .before in
     let at-word = at-word2 .before in
     simp (
-      lt-ltb _ 29 (at-word .before .if1 .left),
+      lt-ltb _ 35 (at-word .before .if1 .left),
       c .before .result .ensures,
       at-word .word .ensures,
       at-word2 .word2 .ensures,

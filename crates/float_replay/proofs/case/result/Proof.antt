@@ -18,7 +18,7 @@ module _ (s : tie.Start) where
   arm : {k r : ℕ} → s .args .op ≡ k → r ≡ at k → r ≡ at (s .args .op)
   arm e given = given ∙ ap at (sym e)
 
-  past : 29 ≤ s .args .op → 0 ≡ at (s .args .op)
+  past : 35 ≤ s .args .op → 0 ≡ at (s .args .op)
   unfolding answer
   past h = sym (List·getD-eq-default (answers (s .args .a) (s .args .b) (s .args .c) (s .args .d)) 0 h)
 
@@ -37,6 +37,12 @@ unfolding answer Others
 result-spec =
     tie.close
     (tie.spec
+    (λ c κs. tt)
+    (λ c κs. tt)
+    (λ c κs. tt)
+    (λ c κs. tt)
+    (λ c κs. tt)
+    (λ c κs. tt)
     (λ c κs. tt)
     (λ c κs. tt)
     (λ c κs. tt)
@@ -95,4 +101,10 @@ result-spec =
     (λ c. arm (c .before .before) (c .before .match .keys27) (c .complex-times2 .ensures .1))
     (λ c. arm (c .before .before) (c .before .match .keys28) (c .complex-divide .ensures .0))
     (λ c. arm (c .before .before) (c .before .match .keys29) (c .complex-divide2 .ensures .1))
-    (λ c. past (c .before) (others-le _ 29 (c .match .rest))))
+    (λ c. arm (c .before .before) (c .before .match .keys30) (c .floor .ensures))
+    (λ c. arm (c .before .before) (c .before .match .keys31) (c .ceiling .ensures))
+    (λ c. arm (c .before .before) (c .before .match .keys32) (c .trunc .ensures))
+    (λ c. arm (c .before .before) (c .before .match .keys33) (c .is-zero .ensures))
+    (λ c. arm (c .before .before) (c .before .match .keys34) (c .greater-than-equal .ensures))
+    (λ c. arm (c .before .before) (c .before .match .keys35) (c .little-than-equal .ensures))
+    (λ c. past (c .before) (others-le _ 35 (c .match .rest))))

@@ -1,4 +1,4 @@
--- `tally::slot` meets its contract, below 29 and above.
+-- `tally::slot` meets its contract, below 35 and above.
 -- Assumes nothing.
 use native.Mathlib.Omega.{arith}
 use borrow.Author.Tests.{lt-ltb, le-ltb}
@@ -9,5 +9,5 @@ pub slot-spec : {M : Type 1} → statement M
 slot-spec =
     tie.close
     (tie.spec
-    (λ c. (simp (lt-ltb _ 29 (c .if1 .taken)), omega arith))
-    (λ c. (simp (le-ltb _ 29 (c .if1 .left)), omega arith)))
+    (λ c. (simp (lt-ltb _ 35 (c .if1 .taken)), omega arith))
+    (λ c. (simp (le-ltb _ 35 (c .if1 .left)), omega arith)))
