@@ -20,6 +20,7 @@
 #define tulipcricket_play tulipcricket_play_unguarded
 #define tulipcricket_nearest tulipcricket_nearest_unguarded
 #define tulipcricket_peak tulipcricket_peak_unguarded
+#define tulipcricket_shelf tulipcricket_shelf_unguarded
 #endif
 
 enum { USUAL = 0x1f80, X87_USUAL = 0x037f, LENT = 0xa5 };
@@ -221,11 +222,23 @@ static void peak(const Environment *e) {
     words(e, "Peak", out, after, 6);
 }
 
+/* The shelf figures of document 01's sheet: 41 bytes, 1 constant, 5 records. */
+static void shelf(const Environment *e) {
+    static const uint64_t expected[] = {0, 4, 41, 1, 5};
+    uint64_t answer[5];
+    memset(answer, LENT, sizeof answer);
+    enter(e);
+    uint32_t number = tulipcricket_shelf(sheet, sizeof sheet, (uint8_t *)answer, sizeof answer);
+    kept(e, "tulipcricket_shelf", leave());
+    holds(e, "the sheet's figures", number == 0 && memcmp(answer, expected, sizeof answer) == 0);
+}
+
 static void in(const Environment *e) {
     for (size_t i = 0; i < sizeof rows / sizeof *rows; i++) nearest(e, rows + i);
     for (size_t i = 0; i < sizeof cases / sizeof *cases; i++) play(e, cases + i);
     lower(e);
     peak(e);
+    shelf(e);
 }
 
 static void every(void) {
@@ -268,6 +281,9 @@ static void empty(void) {
     holds(&e, "nearest of no points",
           tulipcricket_nearest(0, 0, none, 0, end, sizeof played) == 0 && memcmp(played, zeros, sizeof played) == 0);
     holds(&e, "peak of no run", tulipcricket_peak(none, 0, 1, none, 0) == 0 && tulipcricket_peak(none, 0, 0, none, 0) == 12);
+    holds(&e, "shelf of nothing at all", tulipcricket_shelf(none, 0, none, 0) == 8);
+    holds(&e, "shelf of no sheet",
+          tulipcricket_shelf(none, 0, answer, TULIPCRICKET_SHELF_ANSWER) == 8 && memcmp(lowered, wrong, TULIPCRICKET_SHELF_ANSWER) == 0);
     holds(&e, "nothing else is written",
           memcmp(store, zeros, sizeof store) == 0 && memcmp(constants, zeros, sizeof constants) == 0);
 }

@@ -73,3 +73,7 @@ uint32_t tulipcricket_nearest(uint64_t re, uint64_t im, const uint8_t *points, s
                               size_t answer_len) {
     GUARDED(tulipcricket_nearest_unguarded(re, im, SLICE(points), SLICE(answer)));
 }
+
+uint32_t tulipcricket_shelf(const uint8_t *sheet, size_t sheet_len, uint8_t *answer, size_t answer_len) {
+    GUARDED(tulipcricket_shelf_unguarded(SLICE(sheet), SLICE(answer)));
+}

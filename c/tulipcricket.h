@@ -11,7 +11,7 @@
  *   0 accepted          1 torn record     2 unknown work      3 bad register    4 bad place
  *   5 missing constant  6 barred operand  7 listing full      8 wrong setup     9 stray jump
  * Lowering never gives 9; playing never gives 6 or 7. Of document 02 the running peak returns 0, 8 or
- * 12, the nearest point 0, 8 or 13.
+ * 12, the nearest point 0, 8 or 13, the shelf figures what lowering returns.
  *
  * Lowering lists what the Rust lists, faults too. In plain mode a LoadMath Divide of a real register by a complex place gives a wrong
  * quotient: 6 / (1 + i) plays as 6 - 3i. Load the place into a general register and Divide by that. docs/DIFFERENCES.md has more.
@@ -34,7 +34,8 @@ enum {
     TULIPCRICKET_LOWER_ANSWER = 128,
     TULIPCRICKET_PLAY_ANSWER = 24,
     TULIPCRICKET_POINTS_LIMIT = 8192,    /* bytes of the reference points: 512 of two words */
-    TULIPCRICKET_NEAREST_ANSWER = 24
+    TULIPCRICKET_NEAREST_ANSWER = 24,
+    TULIPCRICKET_SHELF_ANSWER = 40
 };
 
 /* Lowers a sheet to a listing and its constants.
@@ -101,6 +102,20 @@ uint32_t tulipcricket_peak(const uint8_t *run, size_t run_len, uint64_t window, 
  * zeros. Where the answer is not 24 bytes it is as lent, and the number 8. */
 uint32_t tulipcricket_nearest(uint64_t re, uint64_t im, const uint8_t *points, size_t points_len, uint8_t *answer,
                               size_t answer_len);
+
+/* How much shelf a sheet will take: what lowering with 65,536 bytes and playing from record 0 report, with no listing written.
+ *
+ * sheet      as for lowering.
+ * answer     40 bytes:
+ *              0  number
+ *              8  index: of the refused instruction; accepted, the count of instructions
+ *             16  bytes of the listing
+ *             24  count of constants
+ *             32  records that a play from record 0 runs, on any store
+ *
+ * Refused: number and index are those of lowering with 65,536 bytes, and the figures 0. Where the answer is not 40 bytes it is as lent, and
+ * the number 8. */
+uint32_t tulipcricket_shelf(const uint8_t *sheet, size_t sheet_len, uint8_t *answer, size_t answer_len);
 
 #ifdef __cplusplus
 }

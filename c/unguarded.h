@@ -37,6 +37,9 @@ TULIPCRICKET_NONNULL
 uint32_t tulipcricket_nearest_unguarded(uint64_t re, uint64_t im, const uint8_t *points, size_t points_len,
                                         uint8_t *answer, size_t answer_len);
 
+TULIPCRICKET_NONNULL
+uint32_t tulipcricket_shelf_unguarded(const uint8_t *sheet, size_t sheet_len, uint8_t *answer, size_t answer_len);
+
 #ifdef __cplusplus
 }
 #endif

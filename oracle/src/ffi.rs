@@ -40,6 +40,8 @@ extern "C" {
         answer: *mut u8,
         answer_len: usize,
     ) -> u32;
+
+    fn tulipcricket_shelf(sheet: *const u8, sheet_len: usize, answer: *mut u8, answer_len: usize) -> u32;
 }
 
 const LOWER_ANSWER: usize = 128;
@@ -90,6 +92,12 @@ pub fn peak(run: &[u8], window: u64, out: &mut [u8]) -> u32 {
 pub fn nearest(re: u64, im: u64, points: &[u8], answer: &mut [u8]) -> u32 {
     // SAFETY: each pointer comes with the length of the slice it was taken from, and the function keeps none.
     unsafe { tulipcricket_nearest(re, im, points.as_ptr(), points.len(), answer.as_mut_ptr(), answer.len()) }
+}
+
+/// `tulipcricket_shelf` over slices; the number it returns.
+pub fn shelf(sheet: &[u8], answer: &mut [u8]) -> u32 {
+    // SAFETY: each pointer comes with the length of the slice it was taken from, and the function keeps none.
+    unsafe { tulipcricket_shelf(sheet.as_ptr(), sheet.len(), answer.as_mut_ptr(), answer.len()) }
 }
 
 pub fn to_bytes(words: &[u64]) -> Vec<u8> {

@@ -1,6 +1,6 @@
 pub mod Copies
-mod Grown
+pub mod Grown
 mod Bounds
-mod Turns
+pub mod Turns
 mod Answers
 pub mod Within

@@ -133,7 +133,7 @@ module _ (mode : Mode) (i : Instruction) {stage stage' listing constants : List 
   listed-at : t .at ≡ length bytes
   listed-at = let h : t .at ≡ 0 + length bytes = ap positionOf whole in omega (arith, h)
 
-  listed-bytes : take (t .at) stage' ≡ bytes
+  pub listed-bytes : take (t .at) stage' ≡ bytes
   listed-bytes =
       let h = staged mode i before in
       let z : 0 + length bytes ≡ t .at = omega (arith, listed-at) in
@@ -147,10 +147,10 @@ module _ (mode : Mode) (i : Instruction) {stage stage' listing constants : List 
   pub listed-length : length (take (t .at) stage') ≡ t .at
   listed-length = ap length listed-bytes ∙ sym listed-at
 
-  added-length : length words ≡ t .added .count
+  pub added-length : length words ≡ t .added .count
   added-length = let f = e .few in simp length-take (omega (arith, f, three))
 
-  listed-space : space (take (p .count) constants ++ words) ≤ 256
+  pub listed-space : space (take (p .count) constants ++ words) ≤ 256
   listed-space = subst (λ k. space k ≤ 256) (sym (ap (λ s. s .consts) (e .kept))) (let h = spaced mode i before in omega (arith, h, r .space))
 
   added-fits : p .count + t .added .count ≤ 256

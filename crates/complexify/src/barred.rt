@@ -105,7 +105,7 @@ fn barred_load(stable: bool, op: ArithOp, a: u8, real: bool) -> bool
     }
 }
 
-pub(crate) fn barred(stable: bool, instruction: Instruction, real: Realness) -> bool
+pub fn barred(stable: bool, instruction: Instruction, real: Realness) -> bool
     ensures { λ r. ⌜ r ≡ Spec.barred stable instruction real ⌝ }
 {
     match instruction {

@@ -3,6 +3,7 @@ ghost use mathlib.Core.Path.{_≡_};
 ghost use Prim.Native.Nat.{_+_, _≤_};
 ghost use lib.ListN.{length, take};
 ghost use lib.Seq.{sets};
+ghost use Rattle.words.specs.Bytes.{stored};
 ghost use Rattle.sheet.specs.Setup.{constantsOf};
 use sheet::setup::constant_at;
 use words::put_bytes;
@@ -33,5 +34,14 @@ pub(crate) fn copy_constants(sheet: &[u8], count: usize, constants: &mut [u64])
     while i < count {
         constants[i] = constant_at(sheet, i);
         i += 1;
+    }
+}
+
+// The sheet's first `count` constants, where all of them have room.
+pub fn put_constants(sheet: &[u8], count: usize, constants: &mut [u64])
+    ensures { λ r. ⌜ now (constants .exit) ≡ stored (now (constants .entry)) 0 (constantsOf (now (sheet .entry)) count) ⌝ }
+{
+    if count <= constants.len() {
+        copy_constants(sheet, count, constants);
     }
 }

@@ -59,7 +59,7 @@ pub record Quiet (s : State) (o : Out) : Type 0 where
   pub listed : o .records ≡ map Record.Work lines
   pub grown : Grown (s .consts) (o .after .consts)
 
-quiet-plain : {s : State} {o : Out} → Quiet s o → Plain (o .records)
+pub quiet-plain : {s : State} {o : Out} → Quiet s o → Plain (o .records)
 quiet-plain q = rw (q .listed) (plain-works (q .lines))
 
 quiet-then : (s : State) (o : Out) (f : State → Out) → Quiet s o → Quiet (o .after) (f (o .after)) → Quiet s (then o f)
@@ -268,7 +268,7 @@ uni-said m UniOp.Abs2 d a s = quiet (quiet-by₁ abs2Lines copied d a s)
 uni-said m UniOp.TimesI d a s = quiet (quiet-by₁ timesILines asComplex d a s)
 uni-said m UniOp.TimesNegI d a s = quiet (quiet-by₁ timesNegILines asComplex d a s)
 
-rerun-said : (m : Mode) (i : Instruction) (s : State) → Said s (rerun m i s)
+pub rerun-said : (m : Mode) (i : Instruction) (s : State) → Said s (rerun m i s)
 unfolding rerun
 rerun-said m Instruction.Nop s = quiet (quiet-none s)
 rerun-said m (Instruction.Uni op d a) s = uni-said m op d a s
@@ -353,7 +353,7 @@ shape m (i ∷ l) s e = go (rerun-said m i s) (shape m l (rerun m i s .after)) (
             rooted r (o .records ++ first) (plain-append (o .records) first (quiet-plain q) pl) t b last pl'
             (rw g (sym (append-assoc (o .records) first (aroundBlock t ++ last))))
 
-seek-plain : (rs rest : List Record) → Plain rs → seek 1 (rs ++ rest) ≡ seek 1 rest
+pub seek-plain : (rs rest : List Record) → Plain rs → seek 1 (rs ++ rest) ≡ seek 1 rest
 unfolding seek isLabel
 seek-plain [] rest p = refl
 seek-plain (Record.Work w ∷ rs) rest p = seek-plain rs rest (p .1)

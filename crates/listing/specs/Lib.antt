@@ -1,4 +1,3 @@
 pub mod Puts
 pub mod Printed
 pub mod Paper
-pub mod Input

@@ -5,7 +5,6 @@ ghost use lib.ListN.{length, take};
 ghost use Rattle.listing.specs.Puts.{Puts};
 ghost use Rattle.listing.specs.Printed.{textOf, printed};
 
-mod input;
 mod page;
 
 use complexify::entry::Answer;

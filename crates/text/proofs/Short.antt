@@ -35,11 +35,11 @@ decimalIn-short (suc d) n =
     either (ltb n 10) _ _ (suc (suc d)) (omega arith) (simp length-append (omega arith))
 
 -- ten to the k + 1
-abbrev ten : ℕ → ℕ
+abbrev pub ten : ℕ → ℕ
 ten zero = 10
 ten (suc k) = 10 * ten k
 
-digits : (k d n : ℕ) → n < ten k → length (decimalIn d n) ≤ suc k
+pub digits : (k d n : ℕ) → n < ten k → length (decimalIn d n) ≤ suc k
 unfolding decimalIn
 digits k zero n h = omega arith
 digits zero (suc d) n h = simp (lt-ltb n 10 h) (omega arith)
@@ -52,7 +52,7 @@ unfolding hexIn
 hexIn-length zero n = refl
 hexIn-length (suc d) n = let i = hexIn-length d (n / 16) in simp length-append (omega arith)
 
-number-short : (n : ℕ) → length (decimal n) ≤ 20
+pub number-short : (n : ℕ) → length (decimal n) ≤ 20
 number-short n = decimalIn-short 19 n
 
 byte-short : (n : ℕ) → n < 256 → length (decimal n) ≤ 3

@@ -14,6 +14,8 @@ use Rattle.leftovers.specs.Leftovers.{Leftover}
 use Rattle.leftovers.specs.Kept.{Kept, Parted}
 use Rattle.leftovers.specs.Examples.{mixing, clean, Needed, Met}
 use Rattle.entries.specs.Entries.{EntriesDemand3}
+use Rattle.figures.specs.Shelf.{shelf}
+use Rattle.figures.specs.Told.{FiguresReported}
 
 -- all of it, one theorem a field
 pub record Theorems : Type 0 where
@@ -28,6 +30,8 @@ pub record Theorems : Type 0 where
   pub bound : Bounds most
   -- the machine by steps plays as the machine does
   pub bySteps : PlaysBySteps most
+  -- "These equal what lowering and playing report."
+  pub figures : FiguresReported shelf
   -- a record depends on the words that it draws on alone, and writes those that it fills alone
   pub confined : Confined draws fills
   -- Root goes to the nearest value, and there is one

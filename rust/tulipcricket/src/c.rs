@@ -35,6 +35,8 @@ mod raw {
             answer: *mut u8,
             answer_len: usize,
         ) -> u32;
+
+        pub fn tulipcricket_shelf(sheet: *const u8, sheet_len: usize, answer: *mut u8, answer_len: usize) -> u32;
     }
 }
 
@@ -83,4 +85,10 @@ pub fn peak(run: &[u8], window: u64, out: &mut [u8]) -> u32 {
 pub fn nearest(re: u64, im: u64, points: &[u8], answer: &mut [u8; 24]) -> u32 {
     // SAFETY: each pointer comes with the length of the slice it was taken from, and the function keeps none.
     unsafe { raw::tulipcricket_nearest(re, im, points.as_ptr(), points.len(), answer.as_mut_ptr(), answer.len()) }
+}
+
+/// `tulipcricket_shelf`; the number it returns.
+pub fn shelf(sheet: &[u8], answer: &mut [u8; 40]) -> u32 {
+    // SAFETY: each pointer comes with the length of the slice it was taken from, and the function keeps none.
+    unsafe { raw::tulipcricket_shelf(sheet.as_ptr(), sheet.len(), answer.as_mut_ptr(), answer.len()) }
 }

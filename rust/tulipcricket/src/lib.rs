@@ -103,6 +103,28 @@ pub fn lower(sheet: &[u8], room: usize) -> Result<Lowered, Refused> {
     })
 }
 
+/// How much shelf an accepted sheet will take.
+#[derive(Clone, Copy, Debug, PartialEq, Eq)]
+pub struct Shelf {
+    /// Instructions of the sheet.
+    pub instructions: u64,
+    /// Bytes of the listing.
+    pub bytes: u64,
+    pub constants: u64,
+    /// Records that a play from record 0 runs, on any store.
+    pub records: u64,
+}
+
+/// The figures of a sheet, with no listing written: those that `lower` with `LISTING_LIMIT` bytes and `play` from record 0 report, and the
+/// refusals of that `lower`.
+pub fn shelf(sheet: &[u8]) -> Result<Shelf, Refused> {
+    let mut answer = [0; 40];
+    let refusal = c::shelf(sheet, &mut answer);
+    accepted(refusal, number(&answer, 8))?;
+    let [instructions, bytes, constants, records] = [8, 16, 24, 32].map(|at| number(&answer, at));
+    Ok(Shelf { instructions, bytes, constants, records })
+}
+
 /// What an accepted play gives back.
 #[derive(Clone, Copy, Debug, PartialEq, Eq)]
 pub struct Played {

@@ -1,7 +1,7 @@
 //! The wrapper on document 01's sheet on paper and on short runs: what it accepts, what it refuses, and what it leaves.
 
-use tulipcricket::sheet::{Bi, Sheet};
-use tulipcricket::{lower, nearest, peak, play, Class, Lowered, Refused, Store, Why, LISTING_LIMIT};
+use tulipcricket::sheet::{Bi, Sheet, Uni};
+use tulipcricket::{lower, nearest, peak, play, shelf, Class, Lowered, Refused, Shelf, Store, Why, LISTING_LIMIT};
 
 fn paper() -> Vec<u8> {
     let mut sheet = Sheet::new(false);
@@ -115,4 +115,22 @@ fn the_nearest_point_is_the_earliest_of_equal_ones() {
     assert_eq!(nearest((3.0, 1.0), &points), Ok(Some(1)));
     assert_eq!(nearest((3.0, 1.0), &points[..1]), Ok(None));
     assert_eq!(nearest((3.0, 1.0), &[(0.0, 0.0); 513]), Err(Refused { why: Why::WrongPoints, index: 0 }));
+}
+
+#[test]
+fn the_paper_takes_41_bytes_1_constant_and_5_records() {
+    assert_eq!(shelf(&paper()), Ok(Shelf { instructions: 4, bytes: 41, constants: 1, records: 5 }));
+    assert_eq!(shelf(&[]), Err(Refused { why: Why::WrongSetup, index: 0 }));
+}
+
+#[test]
+fn the_block_is_played_once_for_each_root() {
+    for stable in [false, true] {
+        let mut sheet = Sheet::new(stable);
+        sheet.load(0, Class::Mem, 3).uni(Uni::Root, 1, 0).uni(Uni::Root, 2, 1).save(2, Class::Mem, 4);
+        let found = lower(&sheet.bytes(), LISTING_LIMIT).unwrap();
+        let records = play(&found.listing, &found.constants, &mut Store::new(), 0).unwrap().played;
+        let (bytes, constants) = (found.listing.len() as u64, found.constants.len() as u64);
+        assert_eq!(shelf(&sheet.bytes()), Ok(Shelf { instructions: 4, bytes, constants, records }));
+    }
 }

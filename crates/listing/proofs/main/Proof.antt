@@ -1,6 +1,6 @@
 -- `main` is safe: as many bytes as were read lie within the sheet's array.
 use mathlib.Core.Path.{subst}
-use Rattle.listing.specs.Input.{Within}
+use Rattle.input.specs.Input.{Within}
 use borrow.Author.Needs.{needs}
 use Rattle.listing.proofs.main.Statement.{statement}
 use Rattle.listing.proofs.main.Tie as tie

@@ -9,6 +9,7 @@ use Rattle.player_machine.proofs.Drawing.{confined}
 use Rattle.leftovers.proofs.Words.{parted}
 use Rattle.leftovers.proofs.Examples.{needed, met}
 use Rattle.entries.proofs.Demand.{entries-demand-3}
+use Rattle.figures.proofs.Theorem.{figures}
 use Rattle.theorems.proofs.theorems.Statement.{statement}
 use Rattle.theorems.proofs.theorems.Tie as tie
 
@@ -21,6 +22,7 @@ returns c =
       parted = parted;
       bound = answer-bound;
       bySteps = by-steps;
+      figures = figures;
       confined = confined;
       nearestRoot = root-nearest;
       oneRoot = one-root;

@@ -1,6 +1,6 @@
 -- What reading standard input gives.
 use Prim.Native.Nat.{ℕ, _≤_}
-use Rattle.listing.specs.declared.input.Input.{Input}
+use Rattle.input.specs.declared.Input.{Input}
 
 -- as many bytes as were read lie within a slice of n
 abbrev pub Within : ℕ → Input → Type 0

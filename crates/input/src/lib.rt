@@ -1,7 +1,7 @@
 // Standard input, read to its end or to the end of a slice.
 ghost use Prim.Native.Nat.{_≤_};
 ghost use lib.ListN.{length};
-ghost use Rattle.listing.specs.Input.{Within};
+ghost use Rattle.input.specs.Input.{Within};
 use libc::STDIN_FILENO;
 
 // How many bytes were read, or that a read failed.
@@ -11,7 +11,7 @@ pub enum Input {
 }
 
 // Reads until the slice is full, the input ends or a read fails.
-pub(crate) fn read_input(buf: &mut [u8]) -> Input
+pub fn read_input(buf: &mut [u8]) -> Input
     ensures { λ r. ⌜ Within (length (now (buf .exit))) r ⌝ }
 {
     let mut done: usize = 0;

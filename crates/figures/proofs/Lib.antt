@@ -1,0 +1,9 @@
+pub mod Counts
+pub mod Totals
+pub mod Reports
+pub mod Theorem
+pub mod Walks
+pub mod Sizes
+pub mod Taking
+pub mod Fewness
+pub mod Starting

@@ -1,0 +1,4 @@
+pub mod Shelf
+pub mod Told
+pub mod Walk
+pub mod Taken

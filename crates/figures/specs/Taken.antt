@@ -1,0 +1,98 @@
+-- What the loop over a sheet's instructions keeps, and what one turn of it does.
+use Prim.Native.Nat.{ℕ, suc, _+_, _≤_, _<_}
+use mathlib.Core.Path.{_≡_}
+use mathlib.Core.Bool.{Bool, cond, true, false}
+use mathlib.Core.List.{List, _∷_}
+use lib.ListN.{length, take, drop}
+use lib.Seq.{sets}
+use lib.Dec.{ltb, eqb}
+use Rattle.mir.specs.declared.records.Instruction.{Instruction}
+use Rattle.mir.specs.declared.records.Record.{Record}
+use Rattle.mir.specs.Encode.{encodeAll}
+use Rattle.sheet.specs.Instruction.{instructions}
+use Rattle.complexifier.specs.Does.{state}
+use Rattle.rerun.specs.declared.output.Output.{Output}
+use Rattle.complexify.specs.Taken.{space}
+use Rattle.figures.specs.declared.counting.Count.{Count}
+use Rattle.figures.specs.declared.entry.Figures.{Figures}
+use Rattle.figures.specs.declared.turn.CountCursor.{CountCursor}
+use Rattle.figures.specs.declared.turn.Next.{Next}
+use Rattle.figures.specs.Shelf.{refusal, counted, run, shelfFrom}
+use Rattle.figures.specs.Walk.{Listed, Within}
+use Rattle.sheet.specs.declared.setup.Mode.{Mode}
+
+-- the stage and the constants, where the count stands
+pub record Ready (g k : List ℕ) (p : CountCursor) : Type 0 where
+  pub stage : length g ≡ 704
+  pub words : length k ≡ 256
+  pub count : p .constants ≤ 256
+  pub space : space (take (p .constants) k) ≤ 256
+  pub taken : Within (p .taken)
+
+-- the figures where the work ends here with a number, and those of the instructions from here on
+abbrev pub figuresAt : ℕ → CountCursor → Figures
+figuresAt number p =
+    cond (eqb number 0)
+    (record { number = 0; index = p .index; bytes = p .taken .bytes; constants = p .constants; records = run (p .taken) })
+    (refusal number (p .index))
+
+abbrev pub goesOn : Mode → List Instruction → ℕ → List ℕ → CountCursor → Figures
+goesOn mode is fault k p = shelfFrom mode is fault (p .index) (p .taken) (state (p .low) (take (p .constants) k))
+
+abbrev pub left : Mode → ℕ → List ℕ → List ℕ → CountCursor → Figures
+left mode own sheet k p = let d = instructions own (drop (p .at) sheet) in goesOn mode (d .items) (d .fault) k p
+
+-- where the count stands after a number refused the instruction, and after a finished one with these records
+abbrev pub refusing : ℕ → CountCursor → Next
+refusing number p = record { done = true; number = number; cursor = p }
+
+abbrev pub finished : Output → Count → ℕ → CountCursor → Next
+finished t c next p =
+    record {
+      done = false;
+      number = 0;
+      cursor = record { at = next; index = p .index + 1; constants = p .constants + t .added .count; low = t .low; taken = c };
+    }
+
+-- 7, more than 65,536 bytes; else the constants that the turn added stand behind the finished ones
+abbrev pub full : CountCursor → List Record → Bool
+full p rs = ltb 65536 (counted (p .taken) rs .bytes)
+
+pub record Ended (t : Output) (rs : List Record) (next : ℕ) (k : List ℕ) (p : CountCursor) (k' : List ℕ) (r : Next) : Type 0 where
+  pub stands : r ≡ cond (full p rs) (refusing 7 p) (finished t (counted (p .taken) rs) next p)
+  pub added : k' ≡ cond (full p rs) k (sets k (p .constants) (take (t .added .count) (t .added .words)))
+
+abbrev pub Finished : Output → List ℕ → ℕ → List ℕ → CountCursor → List ℕ → Next → Type 0
+Finished t bytes next k p k' r = (rs : List Record) → bytes ≡ encodeAll rs → Ended t rs next k p k' r
+
+-- what that asks of the turn and of the constants
+pub record Fits (t : Output) (bytes k : List ℕ) (p : CountCursor) : Type 0 where
+  pub listed : Listed bytes
+  pub taken : Within (p .taken)
+  pub words : length k ≡ 256
+  pub few : t .added .count ≤ length (t .added .words)
+  pub count : p .constants + t .added .count ≤ 256
+  pub index : p .index < 65536
+
+-- what the constants and the count keep in a turn
+pub record CountKept (k : List ℕ) (k' : List ℕ) (r : Next) : Type 0 where
+  pub words : length k' ≡ length k
+  pub count : r .cursor .constants ≤ 256
+  pub space : space (take (r .cursor .constants) k') ≤ 256
+  pub taken : Within (r .cursor .taken)
+
+-- the instruction i counted, whatever stands behind it
+pub record CountedOne (mode : Mode) (i : Instruction) (next : ℕ) (k : List ℕ) (p : CountCursor) (k' : List ℕ) (r : Next) : Type 0 where
+  pub same : (is : List Instruction) (fault : ℕ)
+      → goesOn mode (i ∷ is) fault k p ≡ cond (r .done) (figuresAt (r .number) (r .cursor)) (goesOn mode is fault k' (r .cursor))
+  pub at : r .done ≡ false → r .cursor .at ≡ next
+  pub index : r .done ≡ false → r .cursor .index ≡ suc (p .index)
+  pub turned : CountKept k k' r
+
+-- one turn
+pub record Taken (mode : Mode) (own : ℕ) (sheet k : List ℕ) (p : CountCursor) (k' : List ℕ) (r : Next) : Type 0 where
+  pub same : left mode own sheet k p
+      ≡ cond (r .done) (figuresAt (r .number) (r .cursor)) (left mode own sheet k' (r .cursor))
+  pub on : r .done ≡ false → p .at < r .cursor .at
+  pub index : r .done ≡ false → r .cursor .index ≡ suc (p .index)
+  pub turned : CountKept k k' r

@@ -1,0 +1,26 @@
+-- The figures equal what lowering and playing report (document 02, b).
+use Prim.Native.Nat.{ℕ}
+use mathlib.Core.Path.{_≡_}
+use mathlib.Core.List.{List}
+use lib.ListN.{length}
+use Rattle.player_machine.specs.Machine.{Store}
+use Rattle.player_machine.specs.Answer as Playing
+use Rattle.complexify.specs.Entry as Lowering
+use Rattle.entries.specs.Entries.{left}
+use Rattle.figures.specs.declared.entry.Figures.{Figures}
+use Rattle.figures.specs.Shelf.{refusal}
+
+-- lowering with 65,536 bytes, and playing what it left from record 0 on any store
+pub record Reported (f : Figures) (sheet listing constants : List ℕ) : Type 0 where
+  pub number : Lowering.answer sheet listing constants .number ≡ f .number
+  pub index : Lowering.answer sheet listing constants .index ≡ f .index
+  pub bytes : f .number ≡ 0 → Lowering.answer sheet listing constants .written ≡ f .bytes
+  pub count : f .number ≡ 0 → Lowering.answer sheet listing constants .count ≡ f .constants
+  pub played : f .number ≡ 0 → (σ : Store) → length σ ≡ 1602
+      → let l = left sheet listing constants in Playing.answer (l .listing) (l .constants) 0 σ .played ≡ f .records
+  pub none : (f .number ≡ 0 → ⊥) → f ≡ refusal (f .number) (f .index)
+
+-- for every sheet, and whatever the slices lent hold (theorem `figures`)
+abbrev pub FiguresReported : (List ℕ → Figures) → Type 0
+FiguresReported shelf =
+    (sheet listing constants : List ℕ) → length listing ≡ 65536 → length constants ≡ 256 → Reported (shelf sheet) sheet listing constants

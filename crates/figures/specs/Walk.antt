@@ -1,0 +1,42 @@
+-- What a walk over the bytes of some records sees of each, and what holds of a count so far.
+use Prim.Native.Nat.{ℕ, _≤_}
+use mathlib.Core.Path.{_≡_}
+use mathlib.Core.Bool.{cond}
+use mathlib.Core.List.{List}
+use lib.ListN.{length}
+use lib.Dec.{ltb, eqb}
+use Rattle.mir.specs.declared.records.Record.{Record}
+use Rattle.mir.specs.Encode.{encodeAll}
+use Rattle.figures.specs.declared.counting.Count.{Count}
+use Rattle.figures.specs.declared.counting.Part.{Part}
+use Rattle.figures.specs.declared.counting.BlockStep.{BlockStep}
+use Rattle.figures.specs.Shelf.{counted}
+
+-- by a record's kind: 1 for a Call
+abbrev pub callsOf : ℕ → ℕ
+callsOf kind = cond (eqb kind 16) 1 0
+
+-- by kind and label: Label 1 opens the block, and the working records directly behind it are the block's
+abbrev pub blockStep : Part → ℕ → ℕ → BlockStep
+blockStep Part.Before kind label =
+    cond (eqb kind 14) (cond (eqb label 1) (record { adds = 2; next = Part.Inside }) (record { adds = 0; next = Part.Before }))
+    (record { adds = 0; next = Part.Before })
+blockStep Part.Inside kind label = cond (ltb kind 14) (record { adds = 1; next = Part.Inside }) (record { adds = 0; next = Part.Behind })
+blockStep Part.Behind kind label = record { adds = 0; next = Part.Behind }
+
+-- bytes of records, no more than the stage has
+pub record Listed (bytes : List ℕ) : Type 0 where
+  pub records : List Record
+  pub same : bytes ≡ encodeAll records
+  pub short : length bytes ≤ 704
+
+-- these bytes counted behind c: whatever records they are of, those records are counted
+abbrev pub Counts : List ℕ → Count → Count → Type 0
+Counts bytes c r = (rs : List Record) → bytes ≡ encodeAll rs → r ≡ counted c rs
+
+-- a count of at most 65,536 bytes
+pub record Within (c : Count) : Type 0 where
+  pub bytes : c .bytes ≤ 65536
+  pub records : c .records ≤ c .bytes
+  pub calls : c .calls ≤ c .records
+  pub block : c .block ≤ c .records

@@ -1,0 +1,104 @@
+// What the records in the stage take, counted by a walk over their lengths and kinds.
+ghost use mathlib.Core.Path.{_≡_};
+ghost use Rattle.figures.specs.Walk.{callsOf, blockStep, Listed, Within, Counts};
+use mir::fields::byte;
+
+// The kinds that the walk tells apart.
+const LABEL: u8 = 14;
+
+const CALL: u8 = 16;
+
+// What the instructions so far take: bytes, records, Calls, and the records of the block (0: none stands yet).
+pub struct Count {
+    pub bytes: usize,
+    pub records: usize,
+    pub calls: usize,
+    pub block: usize,
+}
+
+// Where a record stands to the block: before its Label 1, directly behind the Label or its working records, or further on.
+pub enum Part {
+    Before,
+    Inside,
+    Behind,
+}
+
+// How many records of the block a record adds, and where the next one stands.
+pub struct BlockStep {
+    pub adds: usize,
+    pub next: Part,
+}
+
+fn calls_of(kind: u8) -> usize
+    ensures { λ r. ⌜ r ≡ callsOf kind ⌝ }
+{
+    if kind == CALL { 1 } else { 0 }
+}
+
+// What a record adds to the block's, and where the next one stands: Label 1 opens the block and stands for the Branch 0 that ends it, too.
+fn block_step(part: Part, kind: u8, label: u8) -> BlockStep
+    ensures { λ r. ⌜ r ≡ blockStep part kind label ⌝ }
+{
+    match part {
+        Part::Before => {
+            if kind == LABEL {
+                if label == 1 {
+                    return BlockStep {
+                        adds: 2,
+                        next: Part::Inside,
+                    };
+                }
+            }
+            BlockStep {
+                adds: 0,
+                next: Part::Before,
+            }
+        }
+        Part::Inside => {
+            if kind < LABEL {
+                return BlockStep {
+                    adds: 1,
+                    next: Part::Inside,
+                };
+            }
+            BlockStep {
+                adds: 0,
+                next: Part::Behind,
+            }
+        }
+        Part::Behind => BlockStep {
+            adds: 0,
+            next: Part::Behind,
+        },
+    }
+}
+
+// The records of one instruction more, from their bytes.
+pub(crate) fn count_records(bytes: &[u8], before: Count) -> Count
+    requires { ⌜ Listed (now bytes) ⌝ }
+    requires { ⌜ Within before ⌝ }
+    ensures { λ r. ⌜ Counts (now (bytes .entry)) before r ⌝ }
+{
+    let mut at: usize = 0;
+    let mut records = before.records;
+    let mut calls = before.calls;
+    let mut block = before.block;
+    let mut part = Part::Before;
+    while at < bytes.len() {
+        let n = byte(bytes, at);
+        let kind = byte(bytes, at + 2);
+        let label = byte(bytes, at + 4);
+        records += 1;
+        calls += calls_of(kind);
+        let step = block_step(part, kind, label);
+        block += step.adds;
+        part = step.next;
+        at += n as usize;
+    }
+    Count {
+        bytes: before.bytes + bytes.len(),
+        records: records,
+        calls: calls,
+        block: block,
+    }
+}

@@ -1,0 +1,114 @@
+// The figures of a sheet. No listing is made: the records of one instruction stand in the stage at a time.
+ghost use mathlib.Core.Path.{_≡_};
+ghost use Prim.Native.Nat.{_≤_};
+ghost use lib.ListN.{length};
+ghost use Rattle.figures.specs.Shelf as Spec;
+ghost use Rattle.figures.specs.Walk.{Within};
+ghost use Rattle.figures.specs.Taken.{Ready, left, figuresAt};
+use super::counting::Count;
+use super::turn::CountCursor;
+use super::turn::one;
+use complexifier::state::Complexifier;
+use complexify::copying::put_constants;
+use lowering::realness::Realness;
+use sheet::setup::Mode;
+use sheet::setup::read_setup;
+
+// The number (0: lowering would accept) and index of lowering with 65,536 bytes; the listing's bytes, the count of constants and the records
+// that a play from record 0 would run.
+pub struct Figures {
+    pub number: u8,
+    pub index: usize,
+    pub bytes: usize,
+    pub constants: usize,
+    pub records: usize,
+}
+
+fn refusal(number: u8, index: usize) -> Figures
+    ensures { λ r. ⌜ r ≡ Spec.refusal number index ⌝ }
+{
+    Figures {
+        number: number,
+        index: index,
+        bytes: 0,
+        constants: 0,
+        records: 0,
+    }
+}
+
+// The figures where the work ends with a number.
+fn figures_at(number: u8, p: CountCursor) -> Figures
+    requires { ⌜ Within (p .taken) ⌝ }
+    ensures { λ r. ⌜ r ≡ figuresAt number p ⌝ }
+{
+    if number != 0 {
+        return refusal(number, p.index);
+    }
+    let taken = p.taken;
+    let block = taken.block;
+    Figures {
+        number: 0,
+        index: p.index,
+        bytes: taken.bytes,
+        constants: p.constants,
+        records: taken.records - block + taken.calls * block,
+    }
+}
+
+// The instructions from where the count stands to the end of the sheet.
+fn run(
+    sheet: &[u8],
+    own: usize,
+    mode: Mode,
+    start: CountCursor,
+    stage: &mut [u8],
+    constants: &mut [u64],
+) -> Figures
+    requires { ⌜ Ready (now stage) (now constants) start ⌝ }
+    requires { ⌜ (start .index ≤ start .at) × (length (now sheet) ≤ 16384) ⌝ }
+    ensures { λ r. ⌜ r ≡ left mode own (now (sheet .entry)) (now (constants .entry)) start ⌝ }
+{
+    let mut p = start;
+    while p.at < sheet.len() {
+        let t = one(sheet, own, mode, p, stage, constants);
+        let next = t.cursor;
+        if t.done {
+            return figures_at(t.number, next);
+        }
+        p = next;
+    }
+    figures_at(0, p)
+}
+
+pub fn shelf(sheet: &[u8]) -> Figures
+    ensures { λ r. ⌜ r ≡ Spec.shelf (now (sheet .entry)) ⌝ }
+{
+    let setup = read_setup(sheet);
+    if setup.number != 0 {
+        return refusal(8, 0);
+    }
+    let own = setup.count;
+    let mut constants = [0u64; 256];
+    put_constants(sheet, own, &mut constants);
+    let places = setup.places;
+    let low = Complexifier {
+        real: Realness::fresh(places),
+        root_defined: false,
+    };
+    let taken = Count {
+        bytes: 0,
+        records: 0,
+        calls: 0,
+        block: 0,
+    };
+    let start = CountCursor {
+        at: setup.start,
+        index: 0,
+        constants: own,
+        low: low,
+        taken: taken,
+    };
+    let mut stage = [0u8; 704];
+    let mode = setup.mode;
+    run(sheet, own, mode, start, &mut stage, &mut constants)
+}

@@ -1,0 +1,120 @@
+// One instruction of a sheet: read, listed in the stage, and counted there.
+ghost use mathlib.Core.Path.{_≡_};
+ghost use Prim.Native.Nat.{_<_};
+ghost use lib.ListN.{length};
+ghost use Rattle.figures.specs.Taken.{Ready, Fits, Finished, CountedOne, Taken, refusing};
+use super::counting::Count;
+use super::counting::count_records;
+use complexifier::state::Complexifier;
+use complexify::barred::barred;
+use mir::records::Instruction;
+use rerun::instruction::rerun;
+use rerun::output::Output;
+use sheet::reader::NextInstruction;
+use sheet::reader::read_instruction;
+use sheet::setup::Mode;
+use sheet::setup::is_stable;
+use words::put_words;
+
+// Where the count stands: before the instruction at a position of the sheet, with this index, after so many constants, and what the
+// instructions before it take.
+pub struct CountCursor {
+    pub at: usize,
+    pub index: usize,
+    pub constants: usize,
+    pub low: Complexifier,
+    pub taken: Count,
+}
+
+// Where it stands next; done: the number refuses the instruction.
+pub struct Next {
+    pub done: bool,
+    pub number: u8,
+    pub cursor: CountCursor,
+}
+
+fn refused(number: u8, cursor: CountCursor) -> Next
+    ensures { λ r. ⌜ r ≡ refusing number cursor ⌝ }
+{
+    Next {
+        done: true,
+        number: number,
+        cursor: cursor,
+    }
+}
+
+// An instruction's records counted, and its constants put behind the finished ones; 7 where there are more than 65,536 bytes.
+fn finish(t: Output, bytes: &[u8], next: usize, p: CountCursor, constants: &mut [u64]) -> Next
+    requires { ⌜ Fits t (now bytes) (now constants) p ⌝ }
+    ensures { λ r. ⌜ Finished t (now (bytes .entry)) next (now (constants .entry)) p (now (constants .exit)) r ⌝ }
+{
+    let taken = count_records(bytes, p.taken);
+    if 65536 < taken.bytes {
+        return refused(7, p);
+    }
+    let before = p.constants;
+    let added = t.added;
+    let more = added.count;
+    let low = t.low;
+    let cursor = CountCursor {
+        at: next,
+        index: p.index + 1,
+        constants: before + more,
+        low: low,
+        taken: taken,
+    };
+    let words = added.words;
+    put_words(constants, before, &words[..more]);
+    Next {
+        done: false,
+        number: 0,
+        cursor: cursor,
+    }
+}
+
+// The instruction that ends at `next`.
+fn lower_one(
+    instruction: Instruction,
+    next: usize,
+    mode: Mode,
+    p: CountCursor,
+    stage: &mut [u8],
+    constants: &mut [u64],
+) -> Next
+    requires { ⌜ Ready (now stage) (now constants) p ⌝ }
+    requires { ⌜ p .index < 65536 ⌝ }
+    ensures { λ r. ⌜ CountedOne mode instruction next (now (constants .entry)) p (now (constants .exit)) r ⌝ }
+{
+    let low = p.low;
+    let real = low.real;
+    if barred(is_stable(mode), instruction, real) {
+        return refused(6, p);
+    }
+    let before = p.constants;
+    let t = rerun(low, &constants[..before], mode, stage, 0, instruction);
+    let n = t.at;
+    finish(t, &stage[..n], next, p, constants)
+}
+
+// One turn, of a sheet with `own` constants.
+pub(crate) fn one(
+    sheet: &[u8],
+    own: usize,
+    mode: Mode,
+    p: CountCursor,
+    stage: &mut [u8],
+    constants: &mut [u64],
+) -> Next
+    requires { ⌜ Ready (now stage) (now constants) p ⌝ }
+    requires { ⌜ p .index < 65536 ⌝ }
+    requires { ⌜ p .at < length (now sheet) ⌝ }
+    ensures { λ r. ⌜ Taken mode own (now (sheet .entry)) (now (constants .entry)) p (now (constants .exit)) r ⌝ }
+{
+    let at = p.at;
+    match read_instruction(sheet, at, own) {
+        NextInstruction::Got(instruction, next) => {
+            lower_one(instruction, next, mode, p, stage, constants)
+        }
+        NextInstruction::Refused(number) => refused(number, p),
+    }
+}
