@@ -12,6 +12,7 @@ from fractions import Fraction
 SIGN = 1 << 63
 INFINITY = 0x7FF << 52
 NAN = 0x7FF8 << 48
+QUIET = 1 << 51
 ONES = (1 << 64) - 1
 ONE = 0x3FF << 52
 ONE_HALF = 0x3FE << 52
@@ -63,8 +64,11 @@ def rounded(number, sign_of_zero):
 
 
 def with_nan(operation):
-    """The operation, a NaN operand giving NaN."""
-    return lambda *words: NAN if any(map(is_nan, words)) else operation(*words)
+    """The operation on numbers; of words with NaNs the first NaN, made a quiet one."""
+    def amended(*words):
+        lost = [w for w in words if is_nan(w)]
+        return lost[0] | QUIET if lost else operation(*words)
+    return amended
 
 
 def sum_of(a, b):
@@ -74,6 +78,10 @@ def sum_of(a, b):
             return NAN
         return a if is_infinite(a) else b
     return rounded(value(a) + value(b), a & b & SIGN)
+
+
+def difference(a, b):
+    return sum_of(a, b ^ SIGN)
 
 
 def product(a, b):
@@ -125,25 +133,22 @@ def comparison(holds, with_a_nan):
     return compared
 
 
-PLUS, TIMES, DIVIDE = with_nan(sum_of), with_nan(product), with_nan(quotient)
-
-
-def minus(a, b):
-    return PLUS(a, b ^ SIGN)
+PLUS, MINUS = with_nan(sum_of), with_nan(difference)
+TIMES, DIVIDE = with_nan(product), with_nan(quotient)
 
 
 def complex_times(x1, y1, x2, y2):
-    return minus(TIMES(x1, x2), TIMES(y1, y2)), PLUS(TIMES(y1, x2), TIMES(x1, y2))
+    return MINUS(TIMES(x1, x2), TIMES(y1, y2)), PLUS(TIMES(y1, x2), TIMES(x1, y2))
 
 
 def complex_divide(x1, y1, x2, y2):
     square = PLUS(TIMES(x2, x2), TIMES(y2, y2))
     return (DIVIDE(PLUS(TIMES(x1, x2), TIMES(y1, y2)), square),
-            DIVIDE(minus(TIMES(y1, x2), TIMES(x1, y2)), square))
+            DIVIDE(MINUS(TIMES(y1, x2), TIMES(x1, y2)), square))
 
 
 OPERATIONS = {
-    "Plus": PLUS, "Minus": minus, "Times": TIMES, "Divide": DIVIDE,
+    "Plus": PLUS, "Minus": MINUS, "Times": TIMES, "Divide": DIVIDE,
     "Half": lambda a: TIMES(a, ONE_HALF), "Recip": lambda a: DIVIDE(ONE, a),
     "MulAdd": with_nan(product_and_sum), "Root": with_nan(square_root),
     "Round": whole(round), "Floor": whole(math.floor),
@@ -160,6 +165,6 @@ OPERATIONS = {
     "And": lambda a, b: a & b, "Or": lambda a, b: a | b,
     "Xor": lambda a, b: a ^ b,
     "ComplexBi Plus": lambda x1, y1, x2, y2: (PLUS(x1, x2), PLUS(y1, y2)),
-    "ComplexBi Minus": lambda x1, y1, x2, y2: (minus(x1, x2), minus(y1, y2)),
+    "ComplexBi Minus": lambda x1, y1, x2, y2: (MINUS(x1, x2), MINUS(y1, y2)),
     "ComplexBi Times": complex_times, "ComplexBi Divide": complex_divide,
 }

@@ -83,7 +83,8 @@ class Section:
 
     def __init__(self):
         text = section_8()
-        self.vectors = vectors(between(text, "Operands = result:", "Then plays"))
+        self.vectors = (vectors(between(text, "Operands = result:", "With NaN operands:"))
+                        + vectors(between(text, "With NaN operands:", "Then plays")))
         self.constants = [word(between(text, "one constant,", ", and a store").strip())]
         before = words(between(text, "zeros but for words", "of the listing"))
         self.store = [before.get(index, 0) for index in range(1602)]

@@ -13,6 +13,7 @@ INFINITY = 0x7FF0000000000000
 Q = 0x7FF8000000000000
 ONE_HALF = 0x3FE0000000000000  # the word that Half multiplies by
 ONE = 0x3FF0000000000000       # the word that Recip divides
+NAN_BIT = 2**51                # set in a NaN that arithmetic hands on
 UNIT = 2**1074                 # a finite word's value is V / UNIT
 
 
@@ -85,9 +86,15 @@ def sign_of_product(a, b):
     return 0 if sign(a) == sign(b) else 1
 
 
+def handed_on(*operands):
+    """The first operand that is NaN, with the bit 2^51 set."""
+    first = next(filter(is_nan, operands))
+    return first | NAN_BIT
+
+
 def plus(a, b):
     if is_nan(a) or is_nan(b):
-        return Q
+        return handed_on(a, b)
     if is_infinite(a) and is_infinite(b):
         return Q if sign(a) != sign(b) else a
     if is_infinite(a):
@@ -99,12 +106,14 @@ def plus(a, b):
 
 
 def minus(a, b):
+    if is_nan(a) or is_nan(b):
+        return handed_on(a, b)
     return plus(a, neg(b))
 
 
 def times(a, b):
     if is_nan(a) or is_nan(b):
-        return Q
+        return handed_on(a, b)
     s = sign_of_product(a, b)
     if is_infinite(a) or is_infinite(b):
         if is_zero(a) or is_zero(b):
@@ -115,7 +124,7 @@ def times(a, b):
 
 def divide(a, b):
     if is_nan(a) or is_nan(b):
-        return Q
+        return handed_on(a, b)
     s = sign_of_product(a, b)
     if is_infinite(a) and is_infinite(b):
         return Q
@@ -138,7 +147,7 @@ def recip(a):
 
 def mul_add(a, b, c):
     if is_nan(a) or is_nan(b) or is_nan(c):
-        return Q
+        return handed_on(a, b, c)
     s = sign_of_product(a, b)
     if is_infinite(a) or is_infinite(b):
         if is_zero(a) or is_zero(b):
@@ -164,7 +173,7 @@ def largest_root(n):
 
 def root(a):
     if is_nan(a):
-        return Q
+        return handed_on(a)
     if is_zero(a):
         return a
     if sign(a) == 1:
@@ -183,7 +192,7 @@ def root(a):
 def to_whole(a, adds_one):
     """Round, Floor, Ceiling and Trunc; adds_one(s, i, r) says where 1 is added to i."""
     if is_nan(a):
-        return Q
+        return handed_on(a)
     if is_infinite(a):
         return a
     i, r = divmod(size(a), UNIT)

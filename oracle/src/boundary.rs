@@ -398,6 +398,43 @@ pub fn kept_plays() -> Vec<ToPlay> {
     found
 }
 
+/// A constant that goes through every record which moves words.
+fn moves(bits: u64) -> ToPlay {
+    let row = [
+        make::load_const(4, 0),
+        make::mov(5, 4),
+        make::save(5, MEM, 3),
+        make::load(6, MEM, 3),
+        make::save_complex(6, 5, STACK, 1),
+        make::load_complex(7, 8, STACK, 1),
+        make::if_else(9, 8, 10, STACK, 1),
+    ];
+    ToPlay { listing: row.concat(), constants: vec![bits], store: vec![0; STORE], start: 0 }
+}
+
+/// A lost reading that is moved about, and every operation on words of which one or two are lost readings. Every list of plays has these.
+pub fn lost_readings() -> Vec<ToPlay> {
+    let (infinity, zero, one) = (f64::INFINITY.to_bits(), 0, 1.0f64.to_bits());
+    let (lost, other) = (0xfff0_0000_0000_0002, 0x7ff4_0000_0000_0003);
+    let triples = [
+        (lost, one, one),
+        (one, lost, one),
+        (one, one, lost),
+        (lost, other, one),
+        (other, lost, one),
+        (lost, one, other),
+        (one, lost, other),
+        (one, other, lost),
+        (infinity, zero, lost),
+        (zero, SIGN | infinity, other),
+        (lost, zero, infinity),
+        (infinity, lost, zero),
+    ];
+    let mut found = vec![moves(lost)];
+    found.extend(triples.map(|(a, b, c)| all_operations(a, b, c)));
+    found
+}
+
 /// Every limit of a listing, start and store.
 pub fn plays() -> Vec<ToPlay> {
     let mut found = setups();

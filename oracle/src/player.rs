@@ -1,4 +1,4 @@
-//! Document 01's player with document 02's operations, over f64 arithmetic of this machine. Written from their rules alone.
+//! Document 01's player with document 02's operations and marks, over f64 arithmetic of this machine. Written from their rules alone.
 
 use crate::format::*;
 use crate::names::{bi, uni, LISTING_BI, LISTING_UNI};
@@ -11,9 +11,12 @@ pub struct Played {
     pub played: u64,
 }
 
-/// A NaN that arithmetic, Root, a rounding to a whole number or MulAdd gives.
+/// Document 02's "NaN made from operands that are none".
 const NAN: u64 = 0x7ff8_0000_0000_0000;
+const INFINITY: u64 = 0x7ff0_0000_0000_0000;
 const SIGN: u64 = 1 << 63;
+/// The bit that is set in a NaN which arithmetic hands on.
+const BIT_51: u64 = 1 << 51;
 
 #[derive(Clone, Copy, Debug)]
 struct Place {
@@ -185,33 +188,40 @@ fn strays(records: &[Record], index: usize) -> bool {
     }
 }
 
-/// A result of arithmetic.
-fn folded(value: f64) -> u64 {
-    if value.is_nan() {
-        NAN
-    } else {
-        value.to_bits()
+fn is_nan(a: u64) -> bool {
+    a & !SIGN > INFINITY
+}
+
+/// A result of arithmetic, Root, a rounding to a whole number or MulAdd. One that is a NaN has the bits of the first operand that is a
+/// NaN, with bit 51 set.
+fn result(value: f64, operands: &[u64]) -> u64 {
+    if !value.is_nan() {
+        return value.to_bits();
+    }
+    match operands.iter().find(|a| is_nan(**a)) {
+        Some(first) => first | BIT_51,
+        None => NAN,
     }
 }
 
 fn plus(a: u64, b: u64) -> u64 {
-    folded(f64::from_bits(a) + f64::from_bits(b))
+    result(f64::from_bits(a) + f64::from_bits(b), &[a, b])
 }
 
 fn minus(a: u64, b: u64) -> u64 {
-    folded(f64::from_bits(a) - f64::from_bits(b))
+    result(f64::from_bits(a) - f64::from_bits(b), &[a, b])
 }
 
 fn times(a: u64, b: u64) -> u64 {
-    folded(f64::from_bits(a) * f64::from_bits(b))
+    result(f64::from_bits(a) * f64::from_bits(b), &[a, b])
 }
 
 fn divide(a: u64, b: u64) -> u64 {
-    folded(f64::from_bits(a) / f64::from_bits(b))
+    result(f64::from_bits(a) / f64::from_bits(b), &[a, b])
 }
 
 fn mul_add(a: u64, b: u64, c: u64) -> u64 {
-    folded(f64::from_bits(a).mul_add(f64::from_bits(b), f64::from_bits(c)))
+    result(f64::from_bits(a).mul_add(f64::from_bits(b), f64::from_bits(c)), &[a, b, c])
 }
 
 fn mask(holds: bool) -> u64 {
@@ -227,12 +237,12 @@ fn unary(op: u8, a: u64) -> u64 {
         uni::NEG => a ^ SIGN,
         uni::NOT => !a,
         uni::ABS => a & !SIGN,
-        uni::ROOT => folded(f64::from_bits(a).sqrt()),
+        uni::ROOT => result(f64::from_bits(a).sqrt(), &[a]),
         uni::RECIP => divide(1.0f64.to_bits(), a),
-        uni::ROUND => folded(f64::from_bits(a).round_ties_even()),
-        uni::FLOOR => folded(f64::from_bits(a).floor()),
-        uni::CEILING => folded(f64::from_bits(a).ceil()),
-        uni::TRUNC => folded(f64::from_bits(a).trunc()),
+        uni::ROUND => result(f64::from_bits(a).round_ties_even(), &[a]),
+        uni::FLOOR => result(f64::from_bits(a).floor(), &[a]),
+        uni::CEILING => result(f64::from_bits(a).ceil(), &[a]),
+        uni::TRUNC => result(f64::from_bits(a).trunc(), &[a]),
         uni::HALF => times(a, 0.5f64.to_bits()),
         uni::IS_ZERO => mask(a & !SIGN == 0),
         uni::SIGN => a & SIGN,

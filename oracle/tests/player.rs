@@ -154,23 +154,76 @@ fn word(record: Vec<u8>, a: u64, b: u64) -> u64 {
 
 const NAN: u64 = 0x7ff8_0000_0000_0000;
 
+/// Two lost readings, and what arithmetic hands on of each.
+const LOST: [u64; 2] = [0xfff0_0000_0000_1234, 0x7ff4_0000_0000_0005];
+const KEPT: [u64; 2] = [0xfff8_0000_0000_1234, 0x7ffc_0000_0000_0005];
+
 #[test]
-fn nans_are_folded_by_arithmetic_alone() {
-    let odd = 0xfff4_0000_0000_1234;
+fn the_first_nan_is_handed_on_with_bit_51() {
+    let one = 1.0f64.to_bits();
     for op in [bi::PLUS, bi::MINUS, bi::TIMES, bi::DIVIDE] {
-        assert_eq!(word(make::bi(op, 5, 0, 1), odd, 0), NAN);
-        assert_eq!(word(make::bi(op, 5, 1, 0), odd, 0), NAN);
+        assert_eq!(word(make::bi(op, 5, 0, 1), LOST[0], LOST[1]), KEPT[0]);
+        assert_eq!(word(make::bi(op, 5, 1, 0), LOST[0], LOST[1]), KEPT[1]);
+        assert_eq!(word(make::bi(op, 5, 0, 1), LOST[0], one), KEPT[0]);
+        assert_eq!(word(make::bi(op, 5, 1, 0), LOST[0], one), KEPT[0]);
     }
     for op in [uni::ROOT, uni::ROUND, uni::FLOOR, uni::CEILING, uni::TRUNC, uni::HALF, uni::RECIP] {
-        assert_eq!(word(make::uni(op, 5, 0), odd, 0), NAN);
+        assert_eq!(word(make::uni(op, 5, 0), LOST[0], 0), KEPT[0]);
+        assert_eq!(word(make::uni(op, 5, 0), KEPT[1], 0), KEPT[1]);
     }
-    assert_eq!(word(make::fused(0, 5, 0, 1, 1), odd, 0), NAN);
-    assert_eq!(word(make::uni(uni::ROOT, 5, 0), (-1.0f64).to_bits(), 0), NAN);
-    assert_eq!(word(make::uni(uni::NEG, 5, 0), odd, 0), 0x7ff4_0000_0000_1234);
-    assert_eq!(word(make::uni(uni::ABS, 5, 0), odd, 0), 0x7ff4_0000_0000_1234);
-    assert_eq!(word(make::uni(uni::SIGN, 5, 0), odd, 0), 1 << 63);
-    assert_eq!(word(make::uni(uni::NOT, 5, 0), odd, 0), !odd);
-    assert_eq!(word(make::mov(5, 0), odd, 0), odd);
+}
+
+#[test]
+fn mul_add_hands_on_a_before_b_before_c() {
+    let (infinity, one) = (f64::INFINITY.to_bits(), 1.0f64.to_bits());
+    let fused = |a, b, c| run(&[make::fused(0, 5, 0, 1, 2)], 0, &[(0, a), (1, b), (2, c)]).1[5];
+    assert_eq!(fused(LOST[0], LOST[1], one), KEPT[0]);
+    assert_eq!(fused(one, LOST[1], LOST[0]), KEPT[1]);
+    assert_eq!(fused(one, one, LOST[0]), KEPT[0]);
+    assert_eq!(fused(infinity, 0, LOST[1]), KEPT[1]);
+    assert_eq!(fused(infinity, 0, one), NAN);
+}
+
+#[test]
+fn a_nan_of_operands_that_are_none() {
+    let (infinity, minus_one) = (f64::INFINITY.to_bits(), (-1.0f64).to_bits());
+    assert_eq!(word(make::uni(uni::ROOT, 5, 0), minus_one, 0), NAN);
+    assert_eq!(word(make::bi(bi::MINUS, 5, 0, 1), infinity, infinity), NAN);
+    assert_eq!(word(make::bi(bi::TIMES, 5, 0, 1), infinity, 1 << 63), NAN);
+    assert_eq!(word(make::bi(bi::DIVIDE, 5, 0, 1), 0, 1 << 63), NAN);
+}
+
+#[test]
+fn what_acts_on_bits_sets_none() {
+    let lost = LOST[0];
+    assert_eq!(word(make::uni(uni::NEG, 5, 0), lost, 0), 0x7ff0_0000_0000_1234);
+    assert_eq!(word(make::uni(uni::ABS, 5, 0), lost, 0), 0x7ff0_0000_0000_1234);
+    assert_eq!(word(make::uni(uni::SIGN, 5, 0), lost, 0), 1 << 63);
+    assert_eq!(word(make::uni(uni::NOT, 5, 0), lost, 0), !lost);
+    assert_eq!(word(make::bi(bi::AND, 5, 0, 1), lost, u64::MAX), lost);
+    assert_eq!(word(make::bi(bi::OR, 5, 0, 1), lost, 0), lost);
+    assert_eq!(word(make::bi(bi::XOR, 5, 0, 1), lost, 0), lost);
+    assert_eq!(word(make::mov(5, 0), lost, 0), lost);
+}
+
+/// Each single operation hands on its own first NaN: the product as written, then the sum, then the numerator before the denominator.
+#[test]
+fn complex_operations_hand_on_step_by_step() {
+    let (infinity, one) = (f64::INFINITY.to_bits(), 1.0f64.to_bits());
+    let complex = |op, row: [u64; 4]| {
+        let set: Vec<_> = row.into_iter().enumerate().collect();
+        let store = run(&[make::complex_bi(op, [5, 6, 0, 1, 2, 3])], 0, &set).1;
+        [store[5], store[6]]
+    };
+    let ([a, b], [x, y]) = (LOST, KEPT);
+    assert_eq!(complex(0, [a, b, b, a]), [x, y]);
+    assert_eq!(complex(1, [one, a, b, one]), [y, x]);
+    assert_eq!(complex(2, [a, b, one, one]), [x, y]); // y1 x2 stands before x1 y2
+    assert_eq!(complex(2, [one, one, a, b]), [x, x]);
+    assert_eq!(complex(2, [infinity, a, 0, one]), [NAN, x]); // infinity times zero is a NaN before y1 y2
+    assert_eq!(complex(3, [one, one, a, b]), [x, x]);
+    assert_eq!(complex(3, [one, a, one, b]), [x, x]); // the denominator has b alone
+    assert_eq!(complex(3, [a, b, one, one]), [x, y]);
 }
 
 #[test]

@@ -5,7 +5,7 @@ use mathlib.Core.Path.{_≡_, refl}
 use mathlib.Core.Bool.{true}
 use mathlib.Core.List.{List, [], _∷_, _++_, map}
 use lib.ListN.{replicate}
-use lib.Ieee.{ofBits, toBits, add, sub, mul, div, lt, le, eq, ne}
+use lib.Ieee.{ofBits, toBits, isNan, add, sub, mul, div, lt, le, eq, ne}
 use Rattle.mir.specs.declared.ops.UniOp.{UniOp}
 use Rattle.mir.specs.declared.ops.BinOp.{BinOp}
 use Rattle.mir.specs.declared.ops.ArithOp.{ArithOp}
@@ -68,6 +68,10 @@ ones = 0xffff_ffff_ffff_ffff
 -- 1, 2, 3 and 5
 abbrev pub oneTwoThreeFive : List ℕ
 oneTwoThreeFive = 0x3ff0_0000_0000_0000 ∷ 0x4000_0000_0000_0000 ∷ 0x4008_0000_0000_0000 ∷ 0x4014_0000_0000_0000 ∷ []
+
+-- four NaNs: 1 has the sign, and bit 51 is set in none
+abbrev pub nans : List ℕ
+nans = 0xfff0_0000_0000_0001 ∷ 0x7ff0_0000_0000_0002 ∷ 0x7ff0_0000_0000_0003 ∷ 0x7ff0_0000_0000_0004 ∷ []
 
 -- an operation on words, and the words that it gives
 abbrev pub gives : Operation → List ℕ → List ℕ → Fact
@@ -329,8 +333,8 @@ table =
     ∷ gives (bi BinOp.Plus) (0x7fef_ffff_ffff_ffff ∷ 0x7fef_ffff_ffff_ffff ∷ []) (0x7ff0_0000_0000_0000 ∷ [])
     -- 6.3: -0 and -0 sum to -0
     ∷ gives (bi BinOp.Plus) (0x8000_0000_0000_0000 ∷ 0x8000_0000_0000_0000 ∷ []) (0x8000_0000_0000_0000 ∷ [])
-    -- "a NaN from it [..] is 7ff8000000000000": a NaN's sign and mark are not kept
-    ∷ gives (bi BinOp.Plus) (0xfff0_0000_0000_0001 ∷ 0x3ff0_0000_0000_0000 ∷ []) (0x7ff8_0000_0000_0000 ∷ [])
+    -- 7.2: infinity and -infinity sum to a NaN
+    ∷ gives (bi BinOp.Plus) (0x7ff0_0000_0000_0000 ∷ 0xfff0_0000_0000_0000 ∷ []) (0x7ff8_0000_0000_0000 ∷ [])
     -- 5.4.1: 1 - 3 is -2
     ∷ gives (bi BinOp.Minus) (0x3ff0_0000_0000_0000 ∷ 0x4008_0000_0000_0000 ∷ []) (0xc000_0000_0000_0000 ∷ [])
     -- 6.3: a difference that is exactly zero is +0
@@ -365,7 +369,7 @@ table =
     ∷ gives (uni UniOp.Round) (0x4004_0000_0000_0000 ∷ []) (0x4000_0000_0000_0000 ∷ [])
     -- 6.3: -0.5 goes to a zero of its own sign
     ∷ gives (uni UniOp.Round) (0xbfe0_0000_0000_0000 ∷ []) (0x8000_0000_0000_0000 ∷ [])
-    -- ---- document 02, a: "toward minus infinity, plus infinity and zero, a NaN folded as for Round" (5.3.1)
+    -- ---- document 02, a: "toward minus infinity, plus infinity and zero" (5.3.1)
     -- -0.5 and 2.5 go down to -1 and 2
     ∷ gives (uni UniOp.Floor) (0xbfe0_0000_0000_0000 ∷ []) (0xbff0_0000_0000_0000 ∷ [])
     ∷ gives (uni UniOp.Floor) (0x4004_0000_0000_0000 ∷ []) (0x4000_0000_0000_0000 ∷ [])
@@ -375,7 +379,6 @@ table =
     -- -2.5 goes to -2, and -0.5 to -0
     ∷ gives (uni UniOp.Trunc) (0xc004_0000_0000_0000 ∷ []) (0xc000_0000_0000_0000 ∷ [])
     ∷ gives (uni UniOp.Trunc) (0xbfe0_0000_0000_0000 ∷ []) (0x8000_0000_0000_0000 ∷ [])
-    ∷ gives (uni UniOp.Trunc) (0xfff0_0000_0000_0001 ∷ []) (0x7ff8_0000_0000_0000 ∷ [])
     -- "IsZero, where a listing holds it, gives all ones for either zero, else zero": of 2 ^ -1074 and of a NaN zero
     ∷ gives (uni UniOp.IsZero) (0x0000_0000_0000_0000 ∷ []) (ones ∷ [])
     ∷ gives (uni UniOp.IsZero) (0x8000_0000_0000_0000 ∷ []) (ones ∷ [])
@@ -388,6 +391,43 @@ table =
     ∷ gives (bi BinOp.LittleThanEqual) (0xc000_0000_0000_0000 ∷ 0xbff0_0000_0000_0000 ∷ []) (ones ∷ [])
     ∷ gives (bi BinOp.LittleThanEqual) (0xbff0_0000_0000_0000 ∷ 0xc000_0000_0000_0000 ∷ []) (0 ∷ [])
     ∷ gives (bi BinOp.LittleThanEqual) (0x7ff0_0000_0000_0001 ∷ 0x7ff0_0000_0000_0001 ∷ []) (0 ∷ [])
+    -- ---- document 02, c: "the bits of the first NaN operand in listing order, with bit 51 set"
+    -- bit 51 is set, and the sign and the low bits stay
+    ∷ gives (bi BinOp.Plus) (0xfff0_0000_0000_0001 ∷ 0x3ff0_0000_0000_0000 ∷ []) (0xfff8_0000_0000_0001 ∷ [])
+    ∷ gives (bi BinOp.Plus) (0x3ff0_0000_0000_0000 ∷ 0x7ff0_0000_0000_0001 ∷ []) (0x7ff8_0000_0000_0001 ∷ [])
+    -- where bit 51 is set already, all bits stay
+    ∷ gives (bi BinOp.Minus) (0x3ff0_0000_0000_0000 ∷ 0x7ffc_0000_0000_0005 ∷ []) (0x7ffc_0000_0000_0005 ∷ [])
+    ∷ gives (bi BinOp.Minus) (0xffff_ffff_ffff_ffff ∷ 0x7ff0_0000_0000_0001 ∷ []) (0xffff_ffff_ffff_ffff ∷ [])
+    -- of two NaNs the first; in Divide that is the numerator, and of 0 by a NaN the NaN is the first
+    ∷ gives (bi BinOp.Plus) (0x7ff0_0000_0000_0002 ∷ 0xfff8_0000_0000_0003 ∷ []) (0x7ff8_0000_0000_0002 ∷ [])
+    ∷ gives (bi BinOp.Times) (0xfff8_0000_0000_0003 ∷ 0x7ff0_0000_0000_0002 ∷ []) (0xfff8_0000_0000_0003 ∷ [])
+    ∷ gives (bi BinOp.Divide) (0x7ff0_0000_0000_0004 ∷ 0x7ff0_0000_0000_0005 ∷ []) (0x7ff8_0000_0000_0004 ∷ [])
+    ∷ gives (bi BinOp.Divide) (0x0000_0000_0000_0000 ∷ 0x7ff0_0000_0000_0005 ∷ []) (0x7ff8_0000_0000_0005 ∷ [])
+    -- one operand: "or one of Root, Round, Floor, Ceiling, Trunc"; a NaN with a sign is no negative number
+    ∷ gives (uni UniOp.Half) (0xfff0_0000_0000_0006 ∷ []) (0xfff8_0000_0000_0006 ∷ [])
+    ∷ gives (uni UniOp.Recip) (0x7ff0_0000_0000_0006 ∷ []) (0x7ff8_0000_0000_0006 ∷ [])
+    ∷ gives (uni UniOp.Root) (0xfff0_0000_0000_0002 ∷ []) (0xfff8_0000_0000_0002 ∷ [])
+    ∷ gives (uni UniOp.Round) (0x7ff0_0000_0000_0007 ∷ []) (0x7ff8_0000_0000_0007 ∷ [])
+    ∷ gives (uni UniOp.Floor) (0xfff0_0000_0000_0007 ∷ []) (0xfff8_0000_0000_0007 ∷ [])
+    ∷ gives (uni UniOp.Ceiling) (0x7ff8_0000_0000_0007 ∷ []) (0x7ff8_0000_0000_0007 ∷ [])
+    ∷ gives (uni UniOp.Trunc) (0xfff0_0000_0000_0001 ∷ []) (0xfff8_0000_0000_0001 ∷ [])
+    -- MulAdd: a, b, then c
+    ∷ gives (fused FusedOp.MulAdd)
+    (0x7ff0_0000_0000_0001 ∷ 0x7ff0_0000_0000_0002 ∷ 0x7ff0_0000_0000_0003 ∷ [])
+    (0x7ff8_0000_0000_0001 ∷ [])
+    ∷ gives (fused FusedOp.MulAdd)
+    (0x3ff0_0000_0000_0000 ∷ 0xfff0_0000_0000_0002 ∷ 0x7ff0_0000_0000_0003 ∷ [])
+    (0xfff8_0000_0000_0002 ∷ [])
+    ∷ gives (fused FusedOp.MulAdd)
+    (0x3ff0_0000_0000_0000 ∷ 0x4000_0000_0000_0000 ∷ 0x7ff0_0000_0000_0003 ∷ [])
+    (0x7ff8_0000_0000_0003 ∷ [])
+    -- infinity times 0 plus a NaN: one operand is a NaN; plus 1 none is, "7ff8000000000000 as before"
+    ∷ gives (fused FusedOp.MulAdd)
+    (0x7ff0_0000_0000_0000 ∷ 0x0000_0000_0000_0000 ∷ 0xfff0_0000_0000_0004 ∷ [])
+    (0xfff8_0000_0000_0004 ∷ [])
+    ∷ gives (fused FusedOp.MulAdd)
+    (0x7ff0_0000_0000_0000 ∷ 0x0000_0000_0000_0000 ∷ 0x3ff0_0000_0000_0000 ∷ [])
+    (0x7ff8_0000_0000_0000 ∷ [])
     -- ---- "comparisons give all ones or zero, and with a NaN only NotEqual holds" (5.11)
     -- -1 is above -2, and infinity is not above a NaN
     ∷ gives (bi BinOp.GreaterThan) (0xbff0_0000_0000_0000 ∷ 0xc000_0000_0000_0000 ∷ []) (ones ∷ [])
@@ -400,7 +440,7 @@ table =
     ∷ gives (bi BinOp.Equal) (0x7ff0_0000_0000_0001 ∷ 0x7ff0_0000_0000_0001 ∷ []) (0 ∷ [])
     ∷ gives (bi BinOp.NotEqual) (0x8000_0000_0000_0000 ∷ 0x0000_0000_0000_0000 ∷ []) (0 ∷ [])
     ∷ gives (bi BinOp.NotEqual) (0x7ff0_0000_0000_0001 ∷ 0x7ff0_0000_0000_0001 ∷ []) (ones ∷ [])
-    -- ---- "Neg, Abs, Not, And, Or, Xor act on bits": a NaN's mark stays
+    -- ---- "Neg, Abs, Not, And, Or, Xor act on bits": a NaN's mark stays, and bit 51 is not set
     -- 5.5.1: the sign's bit is turned, or cleared
     ∷ gives (uni UniOp.Neg) (0x3ff0_0000_0000_0000 ∷ []) (0xbff0_0000_0000_0000 ∷ [])
     ∷ gives (uni UniOp.Neg) (0xfff0_0000_0000_0001 ∷ []) (0x7ff0_0000_0000_0001 ∷ [])
@@ -433,11 +473,28 @@ table =
     ∷ gives (complexBi ArithOp.Divide)
     (0x3ff0_0000_0000_0001 ∷ 0x3ff0_0000_0000_0000 ∷ 0x3ff0_0000_0000_0001 ∷ 0xbff0_0000_0000_0002 ∷ [])
     (0x0000_0000_0000_0000 ∷ 0x3fef_ffff_ffff_fffe ∷ [])
+    -- document 02, c: "For a ComplexBi this holds in each of its single operations, operands as document 01 writes them". Of NaNs 1, 2, 3 and 4
+    -- x1 times x2 leaves 1, y1 times y2 and y1 times x2 leave 2, x1 times y2 leaves 1, and the denominator 3
+    ∷ gives (complexBi ArithOp.Minus) nans (0xfff8_0000_0000_0001 ∷ 0x7ff8_0000_0000_0002 ∷ [])
+    ∷ gives (complexBi ArithOp.Times) nans (0xfff8_0000_0000_0001 ∷ 0x7ff8_0000_0000_0002 ∷ [])
+    ∷ gives (complexBi ArithOp.Divide) nans (0xfff8_0000_0000_0001 ∷ 0x7ff8_0000_0000_0002 ∷ [])
+    -- infinity + NaN 2 i times 0 + 1i: infinity times 0 is 7ff8000000000000, and the first operand of Minus; NaN 2 times 0 is that of Plus
+    ∷ gives (complexBi ArithOp.Times)
+    (0x7ff0_0000_0000_0000 ∷ 0x7ff0_0000_0000_0002 ∷ 0x0000_0000_0000_0000 ∷ 0x3ff0_0000_0000_0000 ∷ [])
+    (0x7ff8_0000_0000_0000 ∷ 0x7ff8_0000_0000_0002 ∷ [])
+    -- NaN 1 + 2i by 1 + NaN 4 i: NaN 1 in both numerators, NaN 4 in the denominator
+    ∷ gives (complexBi ArithOp.Divide)
+    (0xfff0_0000_0000_0001 ∷ 0x4000_0000_0000_0000 ∷ 0x3ff0_0000_0000_0000 ∷ 0x7ff0_0000_0000_0004 ∷ [])
+    (0xfff8_0000_0000_0001 ∷ 0xfff8_0000_0000_0001 ∷ [])
+    -- 1 + 2i by NaN 3 + NaN 4 i: 3 in y1 times x2 comes before 4 in x1 times y2
+    ∷ gives (complexBi ArithOp.Divide)
+    (0x3ff0_0000_0000_0000 ∷ 0x4000_0000_0000_0000 ∷ 0x7ff0_0000_0000_0003 ∷ 0x7ff0_0000_0000_0004 ∷ [])
+    (0x7ff8_0000_0000_0003 ∷ 0x7ff8_0000_0000_0003 ∷ [])
     ∷ []
 
 -- in each row what the definitions give is what the row says
 pub facts : map given table ≡ map stated table
-unfolding lowerSheet setup constantAt decoded instructionFrom takesKind placeAt savePlace uniOps binOps fusedOps rerun rerunUni rerunBin c.unlisted c.loadConst c.loadFrom c.saveTo c.times c.minus c.half c.abs c.byOne c.byTwo c.bits c.compare eachLines orderLines re im recordOf writes uniWord binWord fusedWord complexWords ofBits toBits add sub mul div lt le eq ne squareRoot fusedMultiplyAdd roundToIntegral
+unfolding lowerSheet setup constantAt decoded instructionFrom takesKind placeAt savePlace uniOps binOps fusedOps rerun rerunUni rerunBin c.unlisted c.loadConst c.loadFrom c.saveTo c.times c.minus c.half c.abs c.byOne c.byTwo c.bits c.compare eachLines orderLines re im recordOf writes uniWord binWord fusedWord complexWords ofBits toBits isNan add sub mul div lt le eq ne squareRoot fusedMultiplyAdd roundToIntegral
 facts = refl
 
 -- what a listing's records compute with (document 01, Sheet): "Uni Neg, Not, Abs, Root, Recip, Round, Half, Sign; Bi Plus, Minus, Times,

@@ -1,6 +1,7 @@
 -- The steps of specs/Mends.antt lead to Word's root: `RootByMends`. Assumes nothing.
 use mathlib.Core.Path.{_≡_, refl, sym, ap, _∙_}
 use mathlib.Core.Bool.{Bool, true, false, not, cond}
+use mathlib.Core.List.{[], _∷_}
 use Prim.Native.Nat.{ℕ, _+_, _-_, _*_, _/_, _%_, _^_, _≤_, _<_, Ordering, Ordering·lt, Ordering·gt}
 use native.Mathlib.Nat.{lt-of-lt-of-le, mul-le-mul-left}
 use native.Mathlib.Numerals.{add-one}
@@ -9,13 +10,15 @@ use borrow.Author.Tests.{le-leb, lt-leb}
 use lib.Dec.{T, leb, leb→le, nleb→lt}
 use lib.Pow.{shl-lt, pow-pos, pow-mono}
 use lib.IntN.{ℤ}
-use lib.Ieee.{nearest}
+use lib.Ieee.{binary64, nearest, isNan}
+use Rattle.float.specs.Root.{squareRoot}
 use Rattle.float.specs.Word.{value, root}
 use Rattle.float.specs.Unpacked.{Unpacked}
 use Rattle.float.specs.Biased.{biased}
 use Rattle.float.specs.Mends.{mended, rounded, RootByMends}
 use Rattle.float.proofs.Closest.{Cmp}
-use Rattle.float.proofs.SquareRoot.{root-word, q-lo, q-hi, k-hi}
+use Rattle.float.proofs.Marks.{number-word, units-number}
+use Rattle.float.proofs.SquareRoot.{root-units, root-word, q-lo, q-hi, k-hi}
 use Rattle.float.proofs.Heron.{eight-mends}
 
 -- the significand with the odd digit
@@ -57,7 +60,10 @@ module _ (a m : ℕ) (e : ℤ) (u : Unpacked a false m e) where
   field-hi = k-hi m e M q r (u .small) (u .lo) (u .hi) refl is rest
 
   by : (o : Ordering) → Cmp o (4 * (q * q + r)) ((2 * q + 1) * (2 * q + 1)) → nearest q o ≤ 2 ^ 53 → 2 ^ 52 ≤ nearest q o → root a ≡ field * 2 ^ 52 + nearest q o
-  by o h top bot = root-word m e M q r (u .small) (u .lo) (u .hi) refl is rest (value a) (u .value) o h top bot
+  by o h top bot =
+      sym (number-word (a ∷ []) (squareRoot binary64 (value a))
+      (ap isNan (root-units m e M q r (u .small) (u .lo) (u .hi) refl is rest (value a) (u .value) o h) ∙ units-number false (nearest q o) field))
+      ∙ root-word m e M q r (u .small) (u .lo) (u .hi) refl is rest (value a) (u .value) o h top bot
 
   pub by-mends : root a ≡ field * 2 ^ 52 + rounded M
   by-mends = go (leb r q) (leb→le r q) (nleb→lt r q) ∙ ap (λ (x : ℕ). field * 2 ^ 52 + x) (rounded-is M q r refl is)

@@ -10,15 +10,15 @@ use lib.IntN.{ℤ, pos}
 use lib.Pow.{pow-pos, pow-add}
 use lib.Bits.{bitXor, xor-self, xor-zero-l, xor-zero-r}
 use lib.Signed.{mag}
-use lib.Ieee.{Float, nan, inf, fin, binary64, up, down, unlike, add, mul, sum, round, ofBits, toBits}
-use lib.Ieee.Bits.{ofBits-toBits}
-use lib.Ieee.Fits.{down-pos, mul-fits}
+use lib.Ieee.{Float, nan, inf, fin, binary64, up, down, unlike, add, mul, sum, round, isNan, ofBits}
+use lib.Ieee.Fits.{down-pos}
 use lib.Ieee.Exact.{HasValue}
 use lib.Ieee.Scale.{round-same}
 use Rattle.float.specs.Unpacked.{Unpacked}
 use Rattle.float.specs.Biased.{biased}
 use Rattle.float.specs.Fused.{none, infinite, product, plusProduct, fusedMultiplyAdd}
 use Rattle.float.proofs.Nan.{above-nan}
+use Rattle.float.proofs.Marks.{sum-number}
 use Rattle.float.proofs.Fields.{word-zero, word-infinite, word-finite, rescale}
 use Rattle.float.proofs.Signed.{is-biased, is-pow}
 use Rattle.float.proofs.RoundWord.{round-pow, shifts}
@@ -58,14 +58,6 @@ exact-product (fin s m e) (inf t) z h = infinite-or-nan (eqb m 0) (unlike s t) z
 exact-product (fin s m e) (fin t n d) z (inl h) = absurd h
 exact-product (fin s m e) (fin t n d) z (inr h) = absurd h
 
-pub huge-product : (a b c : ℕ) → Huge (ofBits binary64 a) ⊎ Huge (ofBits binary64 b)
-    → toBits binary64 (add binary64 (ofBits binary64 (toBits binary64 (mul binary64 (ofBits binary64 a) (ofBits binary64 b)))) (ofBits binary64 c)) ≡ toBits binary64 (fusedMultiplyAdd binary64 (ofBits binary64 a) (ofBits binary64 b) (ofBits binary64 c))
-huge-product a b c h =
-    let x = ofBits binary64 a in
-    let y = ofBits binary64 b in
-    ap (λ (v : Float). toBits binary64 (add binary64 v (ofBits binary64 c))) (ofBits-toBits binary64 (mul binary64 x y) (mul-fits binary64 x y))
-    ∙ ap (toBits binary64) (sym (exact-product x y (ofBits binary64 c) h))
-
 -- ---- a finite word has a value
 pub finite-word : (a : ℕ) → a % 2 ^ 63 < 2047 * 2 ^ 52 → (n : ℕ) × HasValue (ofBits binary64 a) (leb (2 ^ 63) a) n (2 ^ 1074)
 finite-word a h = elim (eq-zero-or-pos (a % 2 ^ 63)) [
@@ -73,9 +65,19 @@ finite-word a h = elim (eq-zero-or-pos (a % 2 ^ 63)) [
   | inr p ↦ let v = word-finite a p h in (v .0, v .2)
 ]
 
+-- of finite words the sum is a number
+pub fused-number : (a b c : ℕ) → a % 2 ^ 63 < 2047 * 2 ^ 52 → b % 2 ^ 63 < 2047 * 2 ^ 52 → c % 2 ^ 63 < 2047 * 2 ^ 52 → isNan (fusedMultiplyAdd binary64 (ofBits binary64 a) (ofBits binary64 b) (ofBits binary64 c)) ≡ false
+fused-number a b c fa fb fc =
+    let u = finite-word a fa in
+    let v = finite-word b fb in
+    let w = finite-word c fc in
+    let L = 2 ^ 1074 in
+    ap isNan (fused-at (ofBits binary64 a) (ofBits binary64 b) (ofBits binary64 c) (leb (2 ^ 63) a) (leb (2 ^ 63) b) (leb (2 ^ 63) c) (u .0) (v .0) (w .0) L L L (pow-pos 1074) (pow-pos 1074) (pow-pos 1074) (u .1) (v .1) (w .1))
+    ∙ sum-number (unlike (leb (2 ^ 63) a) (leb (2 ^ 63) b)) (u .0 * v .0 * L) (leb (2 ^ 63) c) (w .0 * (L * L)) (L * L * L)
+
 -- a huge addend
-pub huge-addend : (x y z : Float) (r s : Bool) (p q c d : ℕ) → HasValue x r p c → HasValue y s q d → Huge z → fusedMultiplyAdd binary64 x y z ≡ add binary64 z (ofBits binary64 0)
-unfolding fusedMultiplyAdd product plusProduct add ofBits
+pub huge-addend : (x y z : Float) (r s : Bool) (p q c d : ℕ) → HasValue x r p c → HasValue y s q d → Huge z → z ≡ fusedMultiplyAdd binary64 x y z
+unfolding fusedMultiplyAdd product plusProduct
 huge-addend nan y z r s p q c d X Y Z = absurd X
 huge-addend (inf u) y z r s p q c d X Y Z = absurd X
 huge-addend (fin u m e) nan z r s p q c d X Y Z = absurd Y
@@ -135,11 +137,11 @@ signed-zero false = refl
 -- ±0 and c added, where the product of a and b is zero
 pub zero-words : (a b c r : ℕ) → a < 2 ^ 64 → b < 2 ^ 64 → a % 2 ^ 63 < 2047 * 2 ^ 52 → b % 2 ^ 63 < 2047 * 2 ^ 52 → c % 2 ^ 63 < 2047 * 2 ^ 52 → (a % 2 ^ 63 ≡ 0) ⊎ (b % 2 ^ 63 ≡ 0)
     → r ≡ bitXor (a / 2 ^ 63 * 2 ^ 63) (b / 2 ^ 63 * 2 ^ 63)
-    → toBits binary64 (add binary64 (ofBits binary64 r) (ofBits binary64 c)) ≡ toBits binary64 (fusedMultiplyAdd binary64 (ofBits binary64 a) (ofBits binary64 b) (ofBits binary64 c))
+    → add binary64 (ofBits binary64 r) (ofBits binary64 c) ≡ fusedMultiplyAdd binary64 (ofBits binary64 a) (ofBits binary64 b) (ofBits binary64 c)
 zero-words a b c r A B fa fb fc z e =
-    ap (λ (v : Float). toBits binary64 (add binary64 v (ofBits binary64 c)))
+    ap (λ (v : Float). add binary64 v (ofBits binary64 c))
     (ap (ofBits binary64) (e ∙ ap₂ bitXor (sign-word a A) (sign-word b B) ∙ sign-xor (leb (2 ^ 63) a) (leb (2 ^ 63) b)) ∙ signed-zero (unlike (leb (2 ^ 63) a) (leb (2 ^ 63) b)))
-    ∙ ap (toBits binary64) (sym (go z))
+    ∙ sym (go z)
   where
     at : (w : ℕ) → w % 2 ^ 63 ≡ 0 → HasValue (ofBits binary64 w) (leb (2 ^ 63) w) 0 (2 ^ 1074)
     at w h = subst (λ (x : Float). HasValue x (leb (2 ^ 63) w) 0 (2 ^ 1074)) (sym (word-zero w h)) (refl, refl)

@@ -33,10 +33,6 @@ not-nan a h = subst (λ (b : Bool). T (not b)) (nanBits-is binary64 a) (of-false
 pub kept-word : (a : ℕ) → a < 2 ^ 64 → a % 2 ^ 63 ≤ 2047 * 2 ^ 52 → toBits binary64 (ofBits binary64 a) ≡ a
 kept-word a h g = toBits-ofBits binary64 a h (not-nan a g)
 
-pub quiet : toBits binary64 nan ≡ 0x7ff8_0000_0000_0000
-unfolding toBits
-quiet = refl
-
 pub unequal : (x : Float) → ne x x ≡ true → x ≡ nan
 unequal x e = differs-from-itself x (of-true (ne x x) e)
 

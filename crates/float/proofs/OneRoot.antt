@@ -8,7 +8,6 @@ use lib.Ieee.{Float, nan, inf, fin, binary64, down, size, toBits}
 use lib.Ieee.Exact.{HasValue}
 use lib.Ieee.Fits.{down-pos}
 use Rattle.float.specs.Laws.{NearestRoot, OneRoot}
-use Rattle.float.specs.Word.{word}
 use Rattle.float.proofs.Closest.{Cmp, cmp}
 
 -- a value has one size
@@ -21,7 +20,7 @@ one-size (fin s m e) p q c v w = eq-of-mul-eq-mul-right (down e) (down-pos e) p 
 abbrev wordOf : ℕ → ℕ
 wordOf w = let k = size w - 53 in 0 + k * 2 ^ 52 + w / 2 ^ k
 
-one-word : (y : Float) (w : ℕ) → HasValue y false w (2 ^ 1074) → word y ≡ wordOf w
+one-word : (y : Float) (w : ℕ) → HasValue y false w (2 ^ 1074) → toBits binary64 y ≡ wordOf w
 unfolding toBits
 one-word nan w v = absurd v
 one-word (inf s) w v = absurd v

@@ -3,13 +3,15 @@
 use mathlib.Core.Path.{_≡_, refl, sym, ap, ap₂, _∙_, subst}
 use mathlib.Core.Logic.{inl, inr}
 use mathlib.Core.Bool.{Bool, true, false, cond}
+use mathlib.Core.List.{[], _∷_}
 use Prim.Native.Nat.{ℕ, zero, suc, _+_, _-_, _*_, _/_, _%_, _^_, _≤_, _<_, compare}
 use native.Mathlib.Nat.{add-zero, eq-zero-or-pos, lt-of-le-of-lt, lt-of-lt-of-le, le-of-eq, mul-pos, lt-of-mul-lt-mul-right, eq-of-mul-eq-mul-right, div-add-mod', zero-mul, mul-div-cancel, mul-mod-left, mul-one, mod-lt, mod-self, mod-eq-of-lt, div-self, div-eq-of-lt, mul-add-div-right, mul-add-mod-self-right, eq-or-lt-of-le}
 use native.Mathlib.Omega.{arith}
 use lib.Dec.{leb, eqb, lit<}
 use lib.IntN.{ℤ, pos}
 use lib.Pow.{pow-mono, pow-pos, shl-lt}
-use lib.Ieee.{Float, nan, inf, fin, binary64, up, down, round, ofBits, toBits}
+use lib.Bits.{bitOr}
+use lib.Ieee.{Float, nan, inf, fin, binary64, up, down, round, isNan, ofBits, toBits}
 use lib.Ieee.Fits.{down-pos, nearest-le}
 use lib.Ieee.Exact.{HasValue, odd-sign, round-exact}
 use lib.Ieee.Nearest.{div-same, closest-same}
@@ -18,7 +20,9 @@ use Rattle.float.specs.Integral.{ceiling, whole, roundToIntegral}
 use Rattle.float.specs.declared.integral.Direction.{Direction}
 use Rattle.float.specs.declared.integral.Direction.the-variants.{TiesToEven, TowardNegative, TowardPositive, TowardZero}
 use Rattle.float.proofs.Closest.{closest-exact}
-use Rattle.float.proofs.Nan.{kept-word, quiet}
+use Rattle.float.specs.Word.{value, integral}
+use Rattle.float.proofs.Nan.{kept-word}
+use Rattle.float.proofs.Marks.{number-word, number, round-number, nan-word, marked}
 use Rattle.float.proofs.RoundBits.{value-bits}
 use Rattle.float.proofs.RoundWord.{shifts}
 use Rattle.float.proofs.Signed.{Is, is-pow}
@@ -152,9 +156,17 @@ large-word t a fits lo hi = go (a / 2 ^ 52 % 2 ^ 11) refl
         ∙ kept-word a fits (omega (arith, hi))
 
 -- ---- NaNs, infinities and zeros, in every direction
-pub nan-word : (t : Direction) (a : ℕ) → ofBits binary64 a ≡ nan → toBits binary64 (roundToIntegral t binary64 (ofBits binary64 a)) ≡ 0x7ff8_0000_0000_0000
-unfolding roundToIntegral
-nan-word t a e = ap (λ (x : Float). toBits binary64 (roundToIntegral t binary64 x)) e ∙ quiet
+same-kind : (t : Direction) (x : Float) → isNan (roundToIntegral t binary64 x) ≡ isNan x
+unfolding roundToIntegral isNan
+same-kind t nan = refl
+same-kind t (inf s) = refl
+same-kind t (fin s m e) = round-number s (whole t s (m * up e) (down e)) 1
+
+pub nan-marked : (t : Direction) (a : ℕ) → isNan (value a) ≡ true → bitOr a (2 ^ 51) ≡ integral t a
+nan-marked t a e = marked a [] e ∙ nan-word (a ∷ []) (roundToIntegral t binary64 (value a)) (same-kind t (value a) ∙ e)
+
+pub number-rounded : (t : Direction) (a : ℕ) → a % 2 ^ 63 ≤ 2047 * 2 ^ 52 → toBits binary64 (roundToIntegral t binary64 (value a)) ≡ integral t a
+number-rounded t a h = number-word (a ∷ []) (roundToIntegral t binary64 (value a)) (same-kind t (value a) ∙ number a h)
 
 pub infinite-word : (t : Direction) (a : ℕ) → a < 2 ^ 64 → a % 2 ^ 63 ≡ 2047 * 2 ^ 52 → toBits binary64 (roundToIntegral t binary64 (ofBits binary64 a)) ≡ a
 unfolding roundToIntegral

@@ -5,9 +5,9 @@ use mathlib.Core.Bool.{Bool, true, false, cond, _&&_}
 use Prim.Native.Nat.{ℕ, zero, suc, _+_, _-_, _*_, _/_, _%_, _^_, _≤_, _<_}
 use lib.Dec.{eqb}
 use lib.IntN.{ℤ, pos, negsuc, negℤ, _+ℤ_, _*ℤ_}
-use lib.Ieee.{Float, binary64, unlike, round}
+use lib.Ieee.{Float, binary64, toBits, unlike, round}
 use lib.Ieee.Exact.{HasValue}
-use Rattle.float.specs.Word.{value, word}
+use Rattle.float.specs.Word.{value}
 
 -- ---- Root
 -- the whole root of n is the largest whole number whose square is not above n
@@ -32,7 +32,7 @@ RootLaw root = (a : ℕ) → 0 < a → a < 2047 * 2 ^ 52 → NearestRoot (value 
 
 -- and no value has two nearest roots: the law leaves one word
 abbrev pub OneRoot : Type 0
-OneRoot = (x y z : Float) → NearestRoot x y → NearestRoot x z → word y ≡ word z
+OneRoot = (x y z : Float) → NearestRoot x y → NearestRoot x z → toBits binary64 y ≡ toBits binary64 z
 
 -- ---- MulAdd
 -- a magnitude with its sign, as a whole number

@@ -2,8 +2,9 @@
 -- IEEE 754 binary64 (`lib.Ieee`; Root.antt, Fused.antt and Integral.antt beside this file). Assumes nothing.
 use Prim.Native.Nat.{ℕ, _-_, _*_, _/_, _%_, _^_}
 use mathlib.Core.Bool.{Bool, cond}
+use mathlib.Core.List.{List, [], _∷_}
 use lib.Bits.{bitAnd, bitOr, bitXor}
-use lib.Ieee.{Float, Format, binary64, ofBits, toBits, add, sub, mul, div, lt, le, eq, ne}
+use lib.Ieee.{Float, nan, inf, fin, Format, binary64, ofBits, toBits, isNan, add, sub, mul, div, lt, le, eq, ne}
 use Rattle.float.specs.Root.{squareRoot}
 use Rattle.float.specs.Fused.{fusedMultiplyAdd}
 use Rattle.float.specs.Integral.{roundToIntegral}
@@ -15,19 +16,27 @@ use Rattle.float.specs.declared.integral.Direction.the-variants.{TiesToE
 abbrev pub value : ℕ → Float
 value a = ofBits binary64 a
 
--- The word of a result. Every computed result becomes a word here and nowhere else; a NaN (6.2) is written as 7ff8000000000000.
-abbrev pub word : Float → ℕ
-word x = toBits binary64 x
+-- The word of a NaN that is computed from operands (document 02, c): "the bits of the first NaN operand in listing order, with bit 51 set";
+-- "A NaN made from operands that are none is 7ff8000000000000"
+abbrev pub mark : List ℕ → ℕ
+mark [] = 0x7ff8_0000_0000_0000
+mark (a ∷ operands) = cond (isNan (value a)) (bitOr a (2 ^ 51)) (mark operands)
+
+-- The word of a result, by its operands in listing order. Every computed result becomes a word here and nowhere else.
+abbrev pub word : List ℕ → Float → ℕ
+word operands nan = mark operands
+word operands (inf s) = toBits binary64 (inf s)
+word operands (fin s m e) = toBits binary64 (fin s m e)
 
 -- an operation on one, two or three words: it is computed on their values, and rounded once
 abbrev pub unary : (Format → Float → Float) → ℕ → ℕ
-unary op a = word (op binary64 (value a))
+unary op a = word (a ∷ []) (op binary64 (value a))
 
 abbrev pub binary : (Format → Float → Float → Float) → ℕ → ℕ → ℕ
-binary op a b = word (op binary64 (value a) (value b))
+binary op a b = word (a ∷ b ∷ []) (op binary64 (value a) (value b))
 
 abbrev pub ternary : (Format → Float → Float → Float → Float) → ℕ → ℕ → ℕ → ℕ
-ternary op a b c = word (op binary64 (value a) (value b) (value c))
+ternary op a b c = word (a ∷ b ∷ c ∷ []) (op binary64 (value a) (value b) (value c))
 
 -- ---- arithmetic (5.4.1): "rounds once, ties to even" (4.3.1)
 -- addition
@@ -70,7 +79,7 @@ integral d a = unary (roundToIntegral d) a
 abbrev pub round : ℕ → ℕ
 round a = integral TiesToEven a
 
--- document 02, a): Floor, Ceiling and Trunc have "the IEEE 754 meanings toward minus infinity, plus infinity and zero, a NaN folded as for Round"
+-- document 02, a): Floor, Ceiling and Trunc have "the IEEE 754 meanings toward minus infinity, plus infinity and zero"; a NaN is marked as for Round
 abbrev pub floor : ℕ → ℕ
 floor a = integral TowardNegative a
 

@@ -9,7 +9,7 @@ ghost use lib.Ieee.Nearest.{closest};
 ghost use Rattle.float.specs.Integral as Integral;
 ghost use Rattle.float.specs.Word as Word;
 use super::INFINITY;
-use super::NAN;
+use super::QUIET;
 use super::abs;
 use super::exponent::below_point;
 use super::pack::nearest;
@@ -92,13 +92,13 @@ pub(crate) fn round_small(d: Direction, a: u64) -> u64
     whole_word(p.neg, whole(d, p.neg, p.m, below_point(p.e)))
 }
 
-// The whole number that a goes to. From 2^52 up every value is a whole number.
+// The whole number that a goes to; a NaN keeps its mark. From 2^52 up every value is a whole number.
 pub(crate) fn round_to_integral(d: Direction, a: u64) -> u64
     ensures { λ r. ⌜ r ≡ Word.integral d a ⌝ }
 {
     let size = abs(a);
     if size > INFINITY {
-        return NAN;
+        return a | QUIET;
     }
     if size >= 0x4330_0000_0000_0000 {
         return a;

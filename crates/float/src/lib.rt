@@ -1,7 +1,8 @@
 // The player's arithmetic: IEEE 754 binary64 on 64-bit words, each function from bit patterns to a bit pattern.
-// A NaN that is computed is always 7ff8000000000000.
+// A NaN that is computed keeps the mark of the first NaN among its operands.
 ghost use Prim.Native.Nat.{_+_, _-_, _*_, _/_, _^_, _<_};
 ghost use mathlib.Core.Path.{_≡_};
+ghost use mathlib.Core.List.{[], _∷_};
 ghost use lib.Ieee.{binary64, nanBits};
 ghost use Rattle.float.specs.Word as Word;
 
@@ -16,7 +17,11 @@ mod wide;
 use integral::Direction;
 use integral::round_to_integral;
 
+// A NaN from operands that are none.
 const NAN: u64 = 0x7ff8_0000_0000_0000;
+
+// Bit 51, which is set in every NaN that is computed.
+const QUIET: u64 = 0x0008_0000_0000_0000;
 
 const INFINITY: u64 = 0x7ff0_0000_0000_0000;
 
@@ -48,47 +53,67 @@ pub fn read(a: u64) -> f64
     }
 }
 
-// The word of x.
-fn write(x: f64) -> u64
-    ensures { λ r. ⌜ r ≡ Word.word x ⌝ }
+// The word of a NaN that is computed from a, b and c. Of two operands the third is 0, which is no NaN.
+fn mark(a: u64, b: u64, c: u64) -> u64
+    ensures { λ r. ⌜ r ≡ Word.mark (a ∷ b ∷ c ∷ []) ⌝ }
 {
-    if x != x { NAN } else { f64::to_bits(x) }
+    if is_nan(a) {
+        return a | QUIET;
+    }
+    if is_nan(b) {
+        return b | QUIET;
+    }
+    if is_nan(c) {
+        return c | QUIET;
+    }
+    NAN
+}
+
+// The word of x, which is computed from a, b and c.
+fn write(x: f64, a: u64, b: u64, c: u64) -> u64
+    ensures { λ r. ⌜ r ≡ Word.word (a ∷ b ∷ c ∷ []) x ⌝ }
+{
+    if x != x {
+        mark(a, b, c)
+    } else {
+        f64::to_bits(x)
+    }
 }
 
 pub fn plus(a: u64, b: u64) -> u64
     ensures { λ r. ⌜ r ≡ Word.plus a b ⌝ }
 {
-    write(read(a) + read(b))
+    write(read(a) + read(b), a, b, 0)
 }
 
 pub fn minus(a: u64, b: u64) -> u64
     ensures { λ r. ⌜ r ≡ Word.minus a b ⌝ }
 {
-    write(read(a) - read(b))
+    write(read(a) - read(b), a, b, 0)
 }
 
 pub fn times(a: u64, b: u64) -> u64
     ensures { λ r. ⌜ r ≡ Word.times a b ⌝ }
 {
-    write(read(a) * read(b))
+    write(read(a) * read(b), a, b, 0)
 }
 
 pub fn divide(a: u64, b: u64) -> u64
     ensures { λ r. ⌜ r ≡ Word.divide a b ⌝ }
 {
-    write(read(a) / read(b))
+    write(read(a) / read(b), a, b, 0)
 }
 
 pub fn half(a: u64) -> u64
     ensures { λ r. ⌜ r ≡ Word.half a ⌝ }
 {
-    write(read(a) * 0.5)
+    write(read(a) * 0.5, a, 0x3fe0_0000_0000_0000, 0)
 }
 
 pub fn recip(a: u64) -> u64
     ensures { λ r. ⌜ r ≡ Word.recip a ⌝ }
 {
-    write(1.0 / read(a))
+    write(1.0 / read(a), 0x3ff0_0000_0000_0000, a, 0)
 }
 
 // All ones where b holds, else zero.
@@ -224,7 +249,7 @@ pub fn root(a: u64) -> u64
 {
     let size = abs(a);
     if size > INFINITY {
-        return NAN;
+        return a | QUIET;
     }
     if size == 0 {
         return a;
@@ -238,15 +263,15 @@ pub fn root(a: u64) -> u64
     sqrt::root_finite(a)
 }
 
-// a * b + c, rounded once. Where a or b is infinite or a NaN the product is exact, and where c is, it alone decides.
+// a * b + c, rounded once. Where a or b is infinite or a NaN the product is exact, and where c alone is, the sum is c.
 pub fn mul_add(a: u64, b: u64, c: u64) -> u64
     ensures { λ r. ⌜ r ≡ Word.mulAdd a b c ⌝ }
 {
     if abs(a) >= INFINITY || abs(b) >= INFINITY {
-        return plus(times(a, b), c);
+        return write(read(a) * read(b) + read(c), a, b, c);
     }
     if abs(c) >= INFINITY {
-        return plus(c, 0);
+        return write(read(c), a, b, c);
     }
     fused::fused_finite(a, b, c)
 }

@@ -2,22 +2,25 @@
 use mathlib.Core.Path.{_≡_, refl, sym, ap, ap₂, _∙_, subst}
 use mathlib.Core.Logic.{_⊎_, inl, inr}
 use Prim.Native.Nat.{ℕ}
+use mathlib.Core.List.{List, [], _∷_}
 use mathlib.Core.Bool.{Bool, true, false, true≢false, _||_, cond}
 use mathlib.Core.Option.{Option, none, some}
 use lib.Dec.{T}
-use lib.Ieee.{Float, nan, inf, fin, binary64, neg, add, sub, mul, fits, isNan, lt, ne}
+use lib.Ieee.{Float, nan, inf, fin, binary64, neg, add, sub, mul, fits, isNan, toBits, lt, ne}
 use lib.Ieee.Bits.{ofBits-toBits, is-false}
-use lib.Ieee.Fits.{sub-fits, mul-fits}
-use Rattle.float.specs.Word.{value, word, times}
+use lib.Ieee.Fits.{add-fits, sub-fits, mul-fits}
+use Rattle.float.specs.Word.{value, word, minus, times}
 use Rattle.float.proofs.Nan.{only-nan, unequal, equal}
+use Rattle.float.proofs.Marks.{number-word, value-word}
 use Rattle.nearest.specs.Nearest.{distance, Candidate, closer, chosen, better}
 use Rattle.nearest.specs.Apart.{apart}
 
 -- the square of a result, as a word and as a value
-square : (s : Float) → T (fits binary64 s) → value (times (word s) (word s)) ≡ mul binary64 s s
-square s h =
-    ofBits-toBits binary64 (mul binary64 (value (word s)) (value (word s))) (mul-fits binary64 (value (word s)) (value (word s)))
-    ∙ ap (λ t. mul binary64 t t) (ofBits-toBits binary64 s h)
+square : (ws : List ℕ) (s : Float) → T (fits binary64 s) → value (times (word ws s) (word ws s)) ≡ mul binary64 s s
+square ws s h =
+    let w = word ws s in
+    value-word (w ∷ w ∷ []) (mul binary64 (value w) (value w)) (mul-fits binary64 (value w) (value w))
+    ∙ ap (λ t. mul binary64 t t) (value-word ws s h)
 
 -- a NaN is not lost
 sub-nan : (x : Float) → sub binary64 x nan ≡ nan
@@ -42,19 +45,46 @@ up-nan re im x =
     sym (add-nan (mul binary64 (sub binary64 re x) (sub binary64 re x)))
     ∙ ap (λ d. add binary64 (mul binary64 (sub binary64 re x) (sub binary64 re x)) (mul binary64 d d)) (sym (sub-nan im))
 
-pub in-words : (re im x y : ℕ) → word (apart (value re) (value im) (value x) (value y)) ≡ distance re im x y
-in-words re im x y =
-    let a = sub binary64 (value re) (value x) in
-    let b = sub binary64 (value im) (value y) in
-    sym
-    (ap₂ (λ p q. word (add binary64 p q)) (square a (sub-fits binary64 (value re) (value x)))
-    (square b (sub-fits binary64 (value im) (value y))))
+-- the sum of the squares is the distance in f64
+module _ (re im x y : ℕ) where
+  abbrev a : ℕ
+  a = minus re x
+
+  abbrev b : ℕ
+  b = minus im y
+
+  abbrev squares : List ℕ
+  squares = times a a ∷ times b b ∷ []
+
+  abbrev d : Float
+  d = apart (value re) (value im) (value x) (value y)
+
+  in-words : add binary64 (value (times a a)) (value (times b b)) ≡ d
+  in-words =
+      ap₂ (add binary64)
+      (square (re ∷ x ∷ []) (sub binary64 (value re) (value x)) (sub-fits binary64 (value re) (value x)))
+      (square (im ∷ y ∷ []) (sub binary64 (value im) (value y)) (sub-fits binary64 (value im) (value y)))
+
+  -- one that is a NaN is passed over, and of a number the word goes by its value
+  pub looked-at : (best : Option Candidate) (i : ℕ)
+      → better closer best (record { index = i; far = toBits binary64 d }) ≡ better closer best (record { index = i; far = distance re im x y })
+  looked-at best i = go (isNan d) refl ∙ ap (λ (v : Float). better closer best (record { index = i; far = word squares v })) (sym in-words)
+    where
+      held-by : T (fits binary64 d)
+      held-by = add-fits binary64 _ _
+
+      nothing : (w : ℕ) → value w ≡ d → isNan d ≡ true → better closer best (record { index = i; far = w }) ≡ best
+      nothing w v e = ap (λ n. cond n best (chosen closer best (record { index = i; far = w }))) (ap isNan v ∙ e)
+
+      go : (n : Bool) → isNan d ≡ n → better closer best (record { index = i; far = toBits binary64 d }) ≡ better closer best (record { index = i; far = word squares d })
+      go true e = nothing (toBits binary64 d) (ofBits-toBits binary64 d held-by) e ∙ sym (nothing (word squares d) (value-word squares d held-by) e)
+      go false e = ap (λ w. better closer best (record { index = i; far = w })) (number-word squares d e)
 
 -- ---- one point further
 
 -- the best so far: none where the least distance is a NaN
 abbrev pub held : ℕ → Float → Option Candidate
-held index least = cond (isNan least) none (some (record { index = index; far = word least }))
+held index least = cond (isNan least) none (some (record { index = index; far = toBits binary64 least }))
 
 -- what is below something is a number, and nothing is below a NaN
 below-number : (x y : Float) → lt x y ≡ true → isNan x ≡ false
@@ -91,16 +121,16 @@ or-false false = refl
 
 module _ (index i : ℕ) (least x : Float) (k : T (fits binary64 least)) (h : T (fits binary64 x)) where
   abbrev new : Candidate
-  new = record { index = i; far = word x }
+  new = record { index = i; far = toBits binary64 x }
 
   abbrev old : Candidate
-  old = record { index = index; far = word least }
+  old = record { index = index; far = toBits binary64 least }
 
   -- the definition's tests are those of the values
   tests : (best : Option Candidate) → cond (isNan x) best (chosen closer best new) ≡ better closer best new
   tests best = ap (λ n. cond n best (chosen closer best new)) (sym (ap isNan (ofBits-toBits binary64 x h)))
 
-  less : lt x least ≡ closer (word x) (word least)
+  less : lt x least ≡ closer (toBits binary64 x) (toBits binary64 least)
   less = sym (ap₂ lt (ofBits-toBits binary64 x h) (ofBits-toBits binary64 least k))
 
   -- none before

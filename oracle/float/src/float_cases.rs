@@ -75,9 +75,26 @@ pub const SPECIAL: [u64; 46] = [
     u64::MAX,
 ];
 
-/// Every tuple of as many special words as the operation has operands; of four words only those of `CORE`.
+/// NaNs that tell which operand a result is from: signalling and quiet, of both signs, each with another mark.
+pub const MARKS: [u64; 8] = [
+    0x7ff0_0000_0000_0002,
+    0xfff0_0000_0000_0003,
+    0x7ff8_0000_0000_0004,
+    0xfff8_0000_0000_0005,
+    0x7ff4_0000_0000_0abc,
+    0xfff7_ffff_ffff_ffff,
+    0x7fff_ffff_ffff_fffe,
+    0xfffc_0000_0000_0def,
+];
+
+/// The special words that an operation is compared on in every combination; of four operands those of `CORE` and the marks.
+pub fn special(operation: &Operation) -> Vec<u64> {
+    let words: &[u64] = if operation.operands == 4 { &CORE } else { &SPECIAL };
+    [words, &MARKS].concat()
+}
+
+/// Every tuple of as many of these words as the operation has operands.
 pub fn grid(operation: &Operation, words: &[u64]) -> Vec<Operands> {
-    let words = if operation.operands == 4 { &CORE } else { words };
     let mut rows = vec![[0; 4]];
     for at in 0..operation.operands {
         let with = |row: &Operands, word: &u64| {
@@ -349,6 +366,42 @@ pub fn radicand_or_edge(rng: &mut Rng) -> Operands {
     [a, 0, 0, 0]
 }
 
+/// A NaN of either sign, quiet or signalling, with a mark of 1 to 52 digits.
+fn any_nan(rng: &mut Rng) -> u64 {
+    let nan = 0x7ff0_0000_0000_0000 | rng.bits() & (SIGN | 1 << 51) | rng.bits() >> rng.between(12, 63);
+    nan | u64::from(nan << 12 == 0)
+}
+
+/// A random case of a comparison: in a quarter of the cases an operand is a NaN with a mark (half of them), a special word, or as drawn.
+pub fn with_marks(operation: &Operation, rng: &mut Rng) -> Operands {
+    let mut row = (operation.compared)(rng);
+    if rng.below(4) == 0 {
+        for operand in &mut row[..operation.operands] {
+            match rng.below(4) {
+                0 | 1 => *operand = any_nan(rng),
+                2 => *operand = rng.pick(&SPECIAL),
+                _ => {}
+            }
+        }
+    }
+    row
+}
+
+/// The cases with a NaN that close the list: every tuple of two marks, infinity, zero and one that has a NaN; of one operand every mark, of
+/// four operands a hundred.
+pub fn listed_marks(operation: &Operation, rng: &mut Rng) -> Vec<Operands> {
+    let words = [MARKS[0], MARKS[3], f64::INFINITY.to_bits(), 0, 1.0f64.to_bits()];
+    let has_nan = |row: &Operands| row.iter().any(|word| f64::from_bits(*word).is_nan());
+    match operation.operands {
+        1 => grid(operation, &MARKS),
+        4 => {
+            let drawn = std::iter::repeat_with(|| std::array::from_fn(|_| rng.pick(&words)));
+            drawn.filter(has_nan).take(100).collect()
+        }
+        _ => grid(operation, &words).into_iter().filter(has_nan).collect(),
+    }
+}
+
 /// Four words of two complex numbers.
 pub fn pairs(rng: &mut Rng) -> Operands {
     let x1 = any_word(rng);
@@ -475,6 +528,7 @@ pub fn fused(rng: &mut Rng) -> Operands {
 #[cfg(test)]
 mod tests {
     use super::*;
+    use crate::operations::OPERATIONS;
 
     fn of(draw: fn(&mut Rng) -> Operands, count: usize) -> Vec<[f64; 4]> {
         let mut rng = Rng(1);
@@ -538,6 +592,26 @@ mod tests {
         assert!(count(zeros, |x| x == 0.0 && x.is_sign_negative()) > 100);
         assert!(count(zeros, |x| x.is_subnormal()) > 1000);
         assert!(count(zeros, |x| x.is_nan()) > 100);
+    }
+
+    /// NaNs of both signs, quiet and signalling, are met alone, together with each other operand and without one.
+    #[test]
+    fn marks_are_met() {
+        for operation in &OPERATIONS {
+            let mut rng = Rng(1);
+            let mut met = [0; 16];
+            let mut kinds = [0; 4];
+            for _ in 0..20_000 {
+                let row = with_marks(operation, &mut rng);
+                let nans: Vec<usize> = (0..operation.operands).filter(|at| f64::from_bits(row[*at]).is_nan()).collect();
+                met[nans.iter().map(|at| 1 << at).sum::<usize>()] += 1;
+                for at in nans {
+                    kinds[(row[at] >> 63 << 1 | row[at] >> 51 & 1) as usize] += 1;
+                }
+            }
+            assert!(met[..1 << operation.operands].iter().all(|count| *count > 100), "{} {met:?}", operation.name);
+            assert!(kinds.iter().all(|count| *count > 100), "{} {kinds:?}", operation.name);
+        }
     }
 
     #[test]

@@ -1,16 +1,16 @@
-//! Each operation of document 01's player as this machine's hardware gives it, from words to a word.
+//! Each operation of document 01's player as this machine's hardware gives it, from words to a word; the bits of a NaN that is computed
+//! are document 02's, request c.
 
-/// A NaN that is computed.
+/// "A NaN made from operands that are none".
 pub const NAN: u64 = 0x7ff8_0000_0000_0000;
 
-/// A result of arithmetic as a word.
+/// A result of arithmetic as a word: one that is a NaN "has the bits of the first NaN operand in listing order, with bit 51 set".
 #[inline(always)]
-pub fn folded(value: f64) -> u64 {
-    if value.is_nan() {
-        NAN
-    } else {
-        value.to_bits()
+pub fn marked<const N: usize>(value: f64, operands: [u64; N]) -> u64 {
+    if !value.is_nan() {
+        return value.to_bits();
     }
+    operands.into_iter().find(|a| f64::from_bits(*a).is_nan()).map_or(NAN, |a| a | 1 << 51)
 }
 
 #[inline(always)]
@@ -29,32 +29,32 @@ fn value(a: u64) -> f64 {
 
 #[inline(always)]
 pub fn plus(a: u64, b: u64) -> u64 {
-    folded(value(a) + value(b))
+    marked(value(a) + value(b), [a, b])
 }
 
 #[inline(always)]
 pub fn minus(a: u64, b: u64) -> u64 {
-    folded(value(a) - value(b))
+    marked(value(a) - value(b), [a, b])
 }
 
 #[inline(always)]
 pub fn times(a: u64, b: u64) -> u64 {
-    folded(value(a) * value(b))
+    marked(value(a) * value(b), [a, b])
 }
 
 #[inline(always)]
 pub fn divide(a: u64, b: u64) -> u64 {
-    folded(value(a) / value(b))
+    marked(value(a) / value(b), [a, b])
 }
 
 #[inline(always)]
 pub fn half(a: u64) -> u64 {
-    folded(value(a) * 0.5)
+    marked(value(a) * 0.5, [a])
 }
 
 #[inline(always)]
 pub fn recip(a: u64) -> u64 {
-    folded(1.0 / value(a))
+    marked(1.0 / value(a), [a])
 }
 
 #[inline(always)]
@@ -139,7 +139,7 @@ pub fn if_else(cond: u64, true_val: u64, false_val: u64) -> u64 {
 
 #[inline(always)]
 pub fn root(a: u64) -> u64 {
-    folded(value(a).sqrt())
+    marked(value(a).sqrt(), [a])
 }
 
 /// Whether the roundings to a whole number and `mul_add` are single instructions of this machine; else they are the C library's.
@@ -160,14 +160,14 @@ macro_rules! by_instruction {
                 #[inline]
                 #[target_feature(enable = $feature)]
                 fn instruction($a: u64, $($b: u64),*) -> u64 {
-                    folded(value($a).$f($(value($b)),*))
+                    marked(value($a).$f($(value($b)),*), [$a $(, $b)*])
                 }
                 if has_instructions() {
                     // SAFETY: the machine has the instruction.
                     return unsafe { instruction($a, $($b),*) };
                 }
             }
-            folded(value($a).$f($(value($b)),*))
+            marked(value($a).$f($(value($b)),*), [$a $(, $b)*])
         }
     };
 }
@@ -204,4 +204,27 @@ pub fn complex_divide([x1, y1]: Pair, [x2, y2]: Pair) -> Pair {
     let re = plus(times(x1, x2), times(y1, y2));
     let im = minus(times(y1, x2), times(x1, y2));
     [divide(re, square), divide(im, square)]
+}
+
+#[cfg(test)]
+mod tests {
+    use super::*;
+
+    /// A result that is a NaN is the first one of the operands with bit 51 set, else the one of operands that are none.
+    #[test]
+    fn results_have_the_first_mark() {
+        let (infinity, one) = (0x7ff0_0000_0000_0000, 0x3ff0_0000_0000_0000);
+        assert_eq!(plus(0xfff0_0000_0000_0002, 0x7ff8_0000_0000_0001), 0xfff8_0000_0000_0002);
+        assert_eq!(minus(one, 0x7ff0_0000_0000_0001), 0x7ff8_0000_0000_0001);
+        assert_eq!(divide(one, 0xffff_ffff_ffff_ffff), 0xffff_ffff_ffff_ffff);
+        assert_eq!(mul_add(infinity, 0, 0x7ff0_0000_0000_0003), 0x7ff8_0000_0000_0003);
+        assert_eq!(mul_add(one, 0x7ff0_0000_0000_0002, 0x7ff0_0000_0000_0003), 0x7ff8_0000_0000_0002);
+        assert_eq!(mul_add(infinity, 0, one), NAN);
+        assert_eq!(floor(0xfff4_0000_0000_0000), 0xfffc_0000_0000_0000);
+        let (x, y) = (0x7ff0_0000_0000_0001, 0xfff0_0000_0000_0002);
+        assert_eq!(complex_times([x, y], [one, one]), [0x7ff8_0000_0000_0001, 0xfff8_0000_0000_0002]);
+        assert_eq!(complex_times([infinity, x], [0, one])[0], NAN);
+        assert_eq!(complex_divide([one, one], [x, y]), [0x7ff8_0000_0000_0001; 2]);
+        assert_eq!(complex_divide([one, y], [one, x]), [0xfff8_0000_0000_0002; 2]);
+    }
 }

@@ -33,5 +33,6 @@ fn main() {
     plays.extend(spread(&boundary::plays(), count / 2));
     plays.extend(spread(&boundary::jump_rows(4), count / 2));
     plays.extend((0..count).map(|_| random::to_play(&mut rng)));
+    plays.extend(boundary::lost_readings());
     write(Path::new(&folder), "plays", &lists::plays(&plays));
 }

@@ -1,11 +1,13 @@
 -- `float::mul_add` meets its contract (`FusedWords.antt`). Assumes nothing.
 use mathlib.Core.Path.{sym, ap, _∙_}
+use mathlib.Core.List.{[], _∷_}
 use mathlib.Core.Logic.{_⊎_, inl, inr}
-use Prim.Native.Nat.{ℕ, _*_, _%_, _^_, _≤_, _<_}
+use Prim.Native.Nat.{_*_, _%_, _^_, _≤_, _<_}
 use native.Mathlib.Omega.{arith}
 use lib.Dec.{leb}
-use lib.Ieee.{binary64, toBits, ofBits, add}
-use Rattle.float.proofs.FusedWords.{Huge, huge-word, huge-product, huge-addend, finite-word}
+use lib.Ieee.{binary64, ofBits, add, mul}
+use Rattle.float.proofs.FusedWords.{Huge, huge-word, exact-product, huge-addend, finite-word}
+use Rattle.float.specs.Word.{value, word}
 use borrow.Author.Needs.{needs}
 use borrow.Author.Tests.{leb-true, leb-false}
 use Rattle.float.proofs.mul_add.Statement.{statement}
@@ -16,12 +18,6 @@ abs-requires c κs = search needs
 
 abs-requires-2 : tie.Need-abs-requires-2
 abs-requires-2 c κs = search needs
-
-times-requires : tie.Need-times-requires
-times-requires c κs = search needs
-
-plus-requires : tie.Need-plus-requires
-plus-requires c κs = search needs
 
 -- a or b is infinite or a NaN
 either : (j : tie.Joined1) → Huge (ofBits binary64 (j .before .before .args .a)) ⊎ Huge (ofBits binary64 (j .before .before .args .b))
@@ -34,17 +30,17 @@ either j =
 
 returns : tie.Need-returns
 returns c =
-    let j = c .before .before in
+    let j = c .before .before .before .before in
     let a = j .before .before .args in
-    c .plus .ensures
-    ∙ ap (λ (x : ℕ). toBits binary64 (add binary64 (ofBits binary64 x) (ofBits binary64 (a .c)))) (c .before .times .ensures)
-    ∙ huge-product (a .a) (a .b) (a .c) (either j)
+    let x = c .before .before .before .read .ensures in
+    let y = c .before .before .read2 .ensures in
+    let z = c .before .read3 .ensures in
+    c .write .ensures
+    ∙ (λ i. word (a .a ∷ a .b ∷ a .c ∷ []) (add binary64 (mul binary64 (x i) (y i)) (z i)))
+    ∙ ap (word (a .a ∷ a .b ∷ a .c ∷ [])) (sym (exact-product (value (a .a)) (value (a .b)) (value (a .c)) (either j)))
 
 abs-requires-3 : tie.Need-abs-requires-3
 abs-requires-3 c κs = search needs
-
-plus-requires-2 : tie.Need-plus-requires-2
-plus-requires-2 c κs = search needs
 
 -- a and b are finite
 finite : (c : tie.Else2) → (c .before .before .before .before .args .a % 2 ^ 63 < 2047 * 2 ^ 52) × (c .before .before .before .before .args .b % 2 ^ 63 < 2047 * 2 ^ 52)
@@ -54,13 +50,15 @@ finite c =
 
 returns-2 : tie.Need-returns-2
 returns-2 c =
-    let d = c .before .before .before in
+    let d = c .before .before .before .before in
     let a = d .before .before .before .before .args in
     let u = finite-word (a .a) (finite d .0) in
     let v = finite-word (a .b) (finite d .1) in
-    let h : 2047 * 2 ^ 52 ≤ a .c % 2 ^ 63 = omega (arith, c .before .before .abs3 .ensures, c .before .if3 .taken) in
-    c .plus2 .ensures
-    ∙ sym (ap (toBits binary64) (huge-addend (ofBits binary64 (a .a)) (ofBits binary64 (a .b)) (ofBits binary64 (a .c)) (leb (2 ^ 63) (a .a)) (leb (2 ^ 63) (a .b)) (u .0) (v .0) (2 ^ 1074) (2 ^ 1074) (u .1) (v .1) (huge-word (a .c) h)))
+    let h : 2047 * 2 ^ 52 ≤ a .c % 2 ^ 63 = omega (arith, c .before .before .before .abs3 .ensures, c .before .before .if3 .taken) in
+    c .write2 .ensures
+    ∙ ap (word (a .a ∷ a .b ∷ a .c ∷ []))
+    (c .before .read4 .ensures
+    ∙ huge-addend (value (a .a)) (value (a .b)) (value (a .c)) (leb (2 ^ 63) (a .a)) (leb (2 ^ 63) (a .b)) (u .0) (v .0) (2 ^ 1074) (2 ^ 1074) (u .1) (v .1) (huge-word (a .c) h))
 
 fused-finite-requires : tie.Need-fused-finite-requires
 fused-finite-requires c κs =
@@ -76,11 +74,10 @@ mul-add-spec =
     (tie.spec
     abs-requires
     abs-requires-2
-    times-requires
-    plus-requires
+    (λ c κs. search needs) (λ c κs. search needs) (λ c κs. search needs) (λ c κs. search needs)
     returns
     abs-requires-3
-    plus-requires-2
+    (λ c κs. search needs) (λ c κs. search needs)
     returns-2
     fused-finite-requires
     returns-3)

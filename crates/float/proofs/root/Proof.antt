@@ -1,29 +1,33 @@
 -- `float::root` meets its contract, word by kind of word. Assumes nothing.
 use mathlib.Core.Path.{_≡_, refl, sym, ap, _∙_, subst}
 use mathlib.Core.Bool.{Bool, true, false}
+use mathlib.Core.List.{[], _∷_}
 use mathlib.Core.Logic.{inl, inr}
 use Prim.Native.Nat.{ℕ, _*_, _%_, _^_, _≤_, _<_}
 use native.Mathlib.Nat.{eq-or-lt-of-le}
 use native.Mathlib.Omega.{arith}
 use lib.Dec.{leb, le→leb}
 use lib.Pow.{pow-pos}
-use lib.Ieee.{nan, inf, binary64, ofBits, toBits}
+use lib.Ieee.{nan, inf, binary64, isNan, ofBits, toBits}
 use lib.Ieee.Bits.{is-true}
 use lib.Ieee.Exact.{HasValue}
 use borrow.Author.Needs.{needs}
 use Rattle.float.specs.Root.{squareRoot}
-use Rattle.float.proofs.Nan.{above-nan, kept-word, quiet}
+use Rattle.float.specs.Word as Word
+use Rattle.float.proofs.Nan.{above-nan, kept-word}
+use Rattle.float.proofs.Marks.{number-word, number, nan-word, marked, passed}
 use Rattle.float.proofs.Fields.{word-zero, word-infinite, word-finite}
 use Rattle.float.proofs.SquareRoot.{root-negative}
 use Rattle.float.proofs.root.Statement.{statement}
 use Rattle.float.proofs.root.Tie as tie
 
 -- where the root is the word itself, or a NaN
-same-word : (a : ℕ) → a < 2 ^ 64 → a % 2 ^ 63 ≤ 2047 * 2 ^ 52 → squareRoot binary64 (ofBits binary64 a) ≡ ofBits binary64 a → a ≡ toBits binary64 (squareRoot binary64 (ofBits binary64 a))
-same-word a h g e = sym (ap (toBits binary64) e ∙ kept-word a h g)
+same-word : (a : ℕ) → a < 2 ^ 64 → a % 2 ^ 63 ≤ 2047 * 2 ^ 52 → squareRoot binary64 (ofBits binary64 a) ≡ ofBits binary64 a → a ≡ Word.root a
+same-word a h g e = sym (ap (toBits binary64) e ∙ kept-word a h g) ∙ number-word (a ∷ []) (squareRoot binary64 (ofBits binary64 a)) (ap isNan e ∙ number a g)
 
-nan-word : (a : ℕ) → squareRoot binary64 (ofBits binary64 a) ≡ nan → 0x7ff8_0000_0000_0000 ≡ toBits binary64 (squareRoot binary64 (ofBits binary64 a))
-nan-word a e = sym (ap (toBits binary64) e ∙ quiet)
+mark-word : (a : ℕ) → squareRoot binary64 (ofBits binary64 a) ≡ nan → Word.mark (a ∷ []) ≡ Word.root a
+unfolding isNan
+mark-word a e = nan-word (a ∷ []) (squareRoot binary64 (ofBits binary64 a)) (ap isNan e)
 
 of-nan : squareRoot binary64 nan ≡ nan
 unfolding squareRoot
@@ -56,9 +60,11 @@ abs-requires : tie.Need-abs-requires
 abs-requires c κs = search needs
 
 returns : tie.Need-returns
+unfolding isNan
 returns c =
     let a = c .before .before .args .a in
-    nan-word a (ap (squareRoot binary64) (above-nan a (omega (arith, c .before .abs .ensures, c .if1 .taken))) ∙ of-nan)
+    let n = above-nan a (omega (arith, c .before .abs .ensures, c .if1 .taken)) in
+    marked a [] (ap isNan n) ∙ mark-word a (ap (squareRoot binary64) n ∙ of-nan)
 
 returns-2 : tie.Need-returns-2
 returns-2 c =
@@ -70,7 +76,8 @@ returns-3 : tie.Need-returns-3
 returns-3 c =
     let s = c .before .before .before .before in
     let e = c .before .before .before .abs .ensures in
-    nan-word (s .args .a) (of-negative (s .args .a) (c .if3 .taken) (omega (arith, e, c .before .if2 .left)) (omega (arith, e, c .before .before .if1 .left)))
+    let h : s .args .a % 2 ^ 63 ≤ 2047 * 2 ^ 52 = omega (arith, e, c .before .before .if1 .left) in
+    passed (s .args .a) [] (number (s .args .a) h) ∙ mark-word (s .args .a) (of-negative (s .args .a) (c .if3 .taken) (omega (arith, e, c .before .if2 .left)) h)
 
 returns-4 : tie.Need-returns-4
 returns-4 c =

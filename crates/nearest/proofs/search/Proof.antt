@@ -7,13 +7,13 @@ use mathlib.Core.Logic.{inl, inr, ⊎-elim}
 use native.Mathlib.Omega.{arith}
 use lib.ListN.{length, getD, drop}
 use lib.Dec.{T}
-use lib.Ieee.{Float, binary64, fits, ofBits, div, isNan}
+use lib.Ieee.{Float, binary64, fits, ofBits, toBits, div, isNan}
 use lib.Ieee.Fits.{add-fits}
 use borrow.Author.Needs.{needs}
-use Rattle.float.specs.Word.{value, word}
-use Rattle.nearest.specs.Nearest.{distance, candidates, closer, better, fold, bestOf, told}
+use Rattle.float.specs.Word.{value}
+use Rattle.nearest.specs.Nearest.{candidates, closer, better, fold, bestOf, told}
 use Rattle.nearest.specs.Apart.{apart}
-use Rattle.nearest.proofs.Distances.{in-words, held, joined, nan-differs, number-same}
+use Rattle.nearest.proofs.Distances.{looked-at, held, joined, nan-differs, number-same}
 use Rattle.nearest.proofs.Points.{next, ended}
 use Rattle.nearest.proofs.search.Statement.{statement}
 use Rattle.nearest.proofs.search.Tie as tie
@@ -82,8 +82,8 @@ loop-again c =
       j .0,
       ap (λ b. fold closer b rest)
           (j .1
-          ∙ ap (λ d. better closer (held (l .index) (l .least)) (record { index = l .i; far = d }))
-          (ap word same ∙ in-words (a .re) (a .im) (getD (a .points .now) (2 * l .i) 0) (getD (a .points .now) (2 * l .i + 1) 0)))
+          ∙ ap (λ (d : Float). better closer (held (l .index) (l .least)) (record { index = l .i; far = toBits binary64 d })) same
+          ∙ looked-at (a .re) (a .im) (getD (a .points .now) (2 * l .i) 0) (getD (a .points .now) (2 * l .i + 1) 0) (held (l .index) (l .least)) (l .i))
           ∙ sym (ap (fold closer (held (l .index) (l .least))) (next (a .re) (a .im) (l .i) (a .points .now) (omega arith)))
           ∙ l .inv .2,
     )
@@ -93,7 +93,7 @@ unfolding fold
 returns c =
     let a = c .before .before .before .before .before .before .args in
     let l = c .before .before .loop in
-    ap (λ n. told (cond n none (some (record { index = l .index; far = word (l .least) })))) (sym (nan-differs (l .least) (c .if2 .taken)))
+    ap (λ n. told (cond n none (some (record { index = l .index; far = toBits binary64 (l .least) })))) (sym (nan-differs (l .least) (c .if2 .taken)))
     ∙ ap told
     (sym (ap (fold closer (held (l .index) (l .least))) (ended (a .re) (a .im) (l .i) (a .points .now) (omega arith))) ∙ l .inv .2)
 
@@ -102,7 +102,7 @@ unfolding fold
 returns-2 c =
     let a = c .before .before .before .before .before .before .args in
     let l = c .before .before .loop in
-    ap (λ n. told (cond n none (some (record { index = l .index; far = word (l .least) })))) (sym (number-same (l .least) (c .if2 .left)))
+    ap (λ n. told (cond n none (some (record { index = l .index; far = toBits binary64 (l .least) })))) (sym (number-same (l .least) (c .if2 .left)))
     ∙ ap told
     (sym (ap (fold closer (held (l .index) (l .least))) (ended (a .re) (a .im) (l .i) (a .points .now) (omega arith))) ∙ l .inv .2)
 

@@ -7,9 +7,11 @@
 //! |---|---|
 //! | 0 | the operation's number, its position in `OPERATIONS` |
 //! | 1 to 32 | four operands, 8 bytes each; those the operation does not have are 0 |
-//! | 33 to 40 | the answer; a computed NaN is 7ff8000000000000 |
+//! | 33 to 40 | the answer |
+//!
+//! Behind the cases of the last operation stand those with NaNs for each operation once more.
 
-use oracle_float::float_cases::{grid, CORE, SPECIAL};
+use oracle_float::float_cases::{grid, listed_marks, CORE, SPECIAL};
 use oracle_float::hardware;
 use oracle_float::operations::{Operands, Operation, OPERATIONS};
 use oracle_float::random::Rng;
@@ -34,21 +36,27 @@ fn cases(operation: &Operation, rng: &mut Rng) -> Vec<Operands> {
     rows
 }
 
+fn write(list: &mut Vec<u8>, number: u8, operation: &Operation, row: &Operands) {
+    list.push(number);
+    list.extend(row.iter().flat_map(|word| word.to_le_bytes()));
+    list.extend((operation.hardware)(row).to_le_bytes());
+}
+
 fn main() {
     let file = std::env::args().nth(1).expect("make-float-cases FILE");
     let mut rng = Rng(SEED);
-    let mut list = Vec::new();
-    let mut total = 0;
-    for (number, operation) in OPERATIONS.iter().enumerate() {
-        let rows = cases(operation, &mut rng);
-        println!("{} {}", operation.name, rows.len());
-        total += rows.len();
-        for row in rows {
-            list.push(number as u8);
-            list.extend(row.iter().flat_map(|word| word.to_le_bytes()));
-            list.extend((operation.hardware)(&row).to_le_bytes());
+    let (mut list, mut counts) = (Vec::new(), [0; OPERATIONS.len()]);
+    for part in [cases, listed_marks] {
+        for (number, operation) in OPERATIONS.iter().enumerate() {
+            let rows = part(operation, &mut rng);
+            counts[number] += rows.len();
+            rows.iter().for_each(|row| write(&mut list, number as u8, operation, row));
         }
     }
+    for (operation, count) in OPERATIONS.iter().zip(counts) {
+        println!("{} {count}", operation.name);
+    }
+    let total: usize = counts.iter().sum();
     let by = if hardware::has_instructions() { "instructions" } else { "the C library" };
     println!("{total} cases, {} bytes; roundings and MulAdd by {by}", list.len());
     std::fs::write(&file, list).expect("the list is written");

@@ -75,7 +75,7 @@ macro_rules! line {
         let called = turns!($rows, r => unsafe { theirs($(r[$at]),*) });
         let inline = turns!($rows, r => $hardware($(r[$at]),*));
         let (to_called, to_inline) = (float / called, float / inline);
-        println!("| {} | {float:.1} | {called:.1} | {inline:.1} | {to_called:.1} | {to_inline:.1} |", $name);
+        println!("| {} | {float:.2} | {called:.2} | {inline:.2} | {to_called:.1} | {to_inline:.1} |", $name);
     }};
 }
 

@@ -1,5 +1,6 @@
 -- `float::fused::fused_finite` meets its contract (`FusedWords.antt`). Assumes nothing.
 use mathlib.Core.Path.{_≡_, sym, ap, ap₂, _∙_, subst}
+use mathlib.Core.List.{[], _∷_}
 use mathlib.Core.Logic.{_⊎_, inl, inr}
 use Prim.Native.Nat.{ℕ, _+_, _*_, _%_, _^_, _≤_, _<_}
 use native.Mathlib.Nat.{mul-pos}
@@ -7,15 +8,24 @@ use native.Mathlib.Omega.{arith}
 use lib.IntN.{ℤ}
 use lib.Signed.{mag}
 use lib.Bits.{bitXor}
-use lib.Ieee.{binary64, toBits, round, unlike, up, down}
+use lib.Ieee.{binary64, add, isNan, ofBits, toBits, round, unlike, up, down}
 use Rattle.float.specs.Near.{both}
 use Rattle.float.specs.Biased.{biased}
 use Rattle.float.proofs.Signed.{read-same}
-use Rattle.float.proofs.FusedWords.{zero-words, unpacked-product, unpacked-sum}
+use Rattle.float.proofs.FusedWords.{zero-words, fused-number, unpacked-product, unpacked-sum}
+use Rattle.float.proofs.Marks.{number-word}
+use Rattle.float.specs.Word as Word
+use Rattle.float.specs.Fused.{fusedMultiplyAdd}
 use borrow.Author.Needs.{needs}
 use borrow.Author.Tests.{eqb-true, eqb-false}
 use Rattle.float.proofs.fused.fused_finite.Statement.{statement}
 use Rattle.float.proofs.fused.fused_finite.Tie as tie
+
+-- the result is a number
+by-value : (s : tie.Start) → let a = s .args in toBits binary64 (fusedMultiplyAdd binary64 (ofBits binary64 (a .a)) (ofBits binary64 (a .b)) (ofBits binary64 (a .c))) ≡ Word.mulAdd (a .a) (a .b) (a .c)
+by-value s =
+    let a = s .args in
+    number-word (a .a ∷ a .b ∷ a .c ∷ []) (fusedMultiplyAdd binary64 (ofBits binary64 (a .a)) (ofBits binary64 (a .b)) (ofBits binary64 (a .c))) (fused-number (a .a) (a .b) (a .c) (s .pre .0) (s .pre .1) (s .pre .2))
 
 abs-requires : tie.Need-abs-requires
 abs-requires c κs = search needs
@@ -47,9 +57,13 @@ returns c =
     let j = c .before .before .before .before in
     let s = j .before .before in
     let a = s .args in
+    let x = c .before .xor .result in
+    let same = zero-words (a .a) (a .b) (a .c) x (s .fits .a .fits) (s .fits .b .fits) (s .pre .0) (s .pre .1) (s .pre .2) (either j)
+    (c .before .xor .ensures ∙ ap₂ bitXor (c .before .before .before .sign .ensures) (c .before .before .sign2 .ensures)) in
     c .plus .ensures
-    ∙ zero-words (a .a) (a .b) (a .c) (c .before .xor .result) (s .fits .a .fits) (s .fits .b .fits) (s .pre .0) (s .pre .1) (s .pre .2) (either j)
-    (c .before .xor .ensures ∙ ap₂ bitXor (c .before .before .before .sign .ensures) (c .before .before .sign2 .ensures))
+    ∙ sym (number-word (x ∷ a .c ∷ []) (add binary64 (ofBits binary64 x) (ofBits binary64 (a .c))) (ap isNan same ∙ fused-number (a .a) (a .b) (a .c) (s .pre .0) (s .pre .1) (s .pre .2)))
+    ∙ ap (toBits binary64) same
+    ∙ by-value s
 
 unpack-requires : tie.Need-unpack-requires
 unpack-requires c κs = search needs
@@ -104,6 +118,7 @@ returns-2 c =
     ∙ ap (λ (y : ℤ). toBits binary64 (round binary64 (unlike (u .result .neg) (v .result .neg)) (both (q .result .hi) (q .result .lo) * up y) (down y))) (read-same g (omega (arith, m)))
     ∙ ap (λ (x : ℕ). toBits binary64 (round binary64 (unlike (u .result .neg) (v .result .neg)) (x * up g) (down g))) (q .ensures)
     ∙ ap (toBits binary64) (unpacked-product (s .args .a) (s .args .b) (s .args .c) (u .result .neg) (v .result .neg) (u .result .m) (v .result .m) (u .result .e) (v .result .e) g (u .ensures) (v .ensures) z (omega (arith, m)) is)
+    ∙ by-value s
 
 unpack-requires-3 : tie.Need-unpack-requires-3
 unpack-requires-3 c κs = search needs
@@ -119,6 +134,7 @@ returns-3 c =
     let u = c .before .before .before .before .before .unpack in
     c .fused-parts .ensures
     ∙ sym (ap (toBits binary64) (unpacked-sum (s .args .a) (s .args .b) (s .args .c) (u .result .neg) (v .result .neg) (w .result .neg) (u .result .m) (v .result .m) (w .result .m) (u .result .e) (v .result .e) (w .result .e) (u .ensures) (v .ensures) (w .ensures)))
+    ∙ by-value s
 
 pub fused-finite-spec : {M : Type 1} → statement M
 fused-finite-spec =

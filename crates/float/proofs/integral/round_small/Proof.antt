@@ -12,7 +12,7 @@ use Rattle.float.specs.Integral.{whole}
 use Rattle.float.specs.declared.integral.Direction.{Direction}
 use Rattle.float.specs.Unpacked.{Unpacked}
 use Rattle.float.specs.Biased.{biased}
-use Rattle.float.proofs.ToIntegral.{small-word, whole-most}
+use Rattle.float.proofs.ToIntegral.{small-word, whole-most, number-rounded}
 use Rattle.float.proofs.Signed.{Is, is-biased, is-shift, read, read-same}
 use Rattle.float.proofs.integral.round_small.Statement.{statement}
 use Rattle.float.proofs.integral.round_small.Tie as tie
@@ -64,6 +64,7 @@ returns c =
     ∙ ap (λ (n : ℕ). toBits binary64 (round binary64 (p .neg) n 1)) (c .before .whole .ensures)
     ∙ sym (ap (toBits binary64) (small-word (s .args .d) (s .args .a) (p .neg) (p .m) (p .e) (k .result) (u .ensures .value)
     (point (s .args .a) (p .neg) (p .m) (p .e) (u .ensures) (s .pre .1) (k .result) (k .ensures))))
+    ∙ number-rounded (s .args .d) (s .args .a) (let h = s .pre .1 in omega (arith, h))
 
 pub round-small-spec : {M : Type 1} → statement M
 round-small-spec =
