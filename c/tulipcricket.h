@@ -7,10 +7,11 @@
  * Every answer has the same bits in whatever floating-point environment its caller runs (rounding, flushing to zero, traps, flags), and the
  * environment is afterwards as it was. guard.c sees to that and to NULL; what the proved functions below it ask, unguarded.h says.
  *
- * Lowering and playing return document 01's number, which is also the first number of the answer:
+ * Lowering and playing return the number of documents 01 and 02, which is also the first number of the answer:
  *   0 accepted          1 torn record     2 unknown work      3 bad register    4 bad place
  *   5 missing constant  6 barred operand  7 listing full      8 wrong setup     9 stray jump
- * Lowering never gives 9; playing never gives 6 or 7. Of document 02 the running peak returns 0, 8 or
+ *  10 misplaced label or branch          11 unequal records at a label
+ * Lowering never gives 9; playing never gives 6, 7, 10 or 11. Of document 02 the running peak returns 0, 8 or
  * 12, the nearest point 0, 8 or 13, the shelf figures what lowering returns.
  *
  * Lowering lists what the Rust lists, faults too. In plain mode a LoadMath Divide of a real register by a complex place gives a wrong
@@ -51,7 +52,8 @@ enum {
  *             32  32 bytes, 1 where the sheet's register of that number (30 Ret, 31 Temp) is recorded as real, else 0
  *             64  64 bytes of the places recorded as real, as in a header: bit i mod 8 of byte i div 8 for Stack i, then Param
  *
- * Refused by 1 to 7: the listing and the constants of the instructions before the refused one are written, and the answer is theirs.
+ * Refused by 1 to 7, 10 or 11: the listing and the constants of the instructions before the refused one are written, and the answer is
+ * theirs. Such a listing is played only if it has the label of each of its branches.
  * Bytes of the listing past those written, and constants past those counted, are always as lent.
  * Refused by 8: listing and constants are as lent, and the answer is 8 and zeros; but where the answer is not 128 bytes, it is as lent
  * too. */
@@ -103,7 +105,8 @@ uint32_t tulipcricket_peak(const uint8_t *run, size_t run_len, uint64_t window, 
 uint32_t tulipcricket_nearest(uint64_t re, uint64_t im, const uint8_t *points, size_t points_len, uint8_t *answer,
                               size_t answer_len);
 
-/* How much shelf a sheet will take: what lowering with 65,536 bytes and playing from record 0 report, with no listing written.
+/* How much shelf a sheet will take: what lowering with 65,536 bytes and playing from record 0 report, with no listing written. For a sheet
+ * with a Branch or a BranchIf the records are the most that a play can run.
  *
  * sheet      as for lowering.
  * answer     40 bytes:
@@ -111,7 +114,8 @@ uint32_t tulipcricket_nearest(uint64_t re, uint64_t im, const uint8_t *points, s
  *              8  index: of the refused instruction; accepted, the count of instructions
  *             16  bytes of the listing
  *             24  count of constants
- *             32  records that a play from record 0 runs, on any store
+ *             32  records that a play from record 0 runs, on any store; with a Branch or a BranchIf all records plus calls times the
+ *                 block's, which no play exceeds
  *
  * Refused: number and index are those of lowering with 65,536 bytes, and the figures 0. Where the answer is not 40 bytes it is as lent, and
  * the number 8. */

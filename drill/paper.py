@@ -78,13 +78,10 @@ def plays(text):
     return found
 
 
-class Section:
-    """All that section 8 has to try."""
+class Listing:
+    """A listing of section 8 with its plays, from the text behind "Then plays"."""
 
-    def __init__(self):
-        text = section_8()
-        self.vectors = (vectors(between(text, "Operands = result:", "With NaN operands:"))
-                        + vectors(between(text, "With NaN operands:", "Then plays")))
+    def __init__(self, text):
         self.constants = [word(between(text, "one constant,", ", and a store").strip())]
         before = words(between(text, "zeros but for words", "of the listing"))
         self.store = [before.get(index, 0) for index in range(1602)]
@@ -94,6 +91,19 @@ class Section:
         after = words(between(text, "and leaves words", "all others"))
         self.after = [after.get(at, old) for at, old in enumerate(self.store)]
         self.plays = plays(between(text, "it gives number, index, played:", None))
+
+
+class Section:
+    """All that section 8 has to try."""
+
+    def __init__(self):
+        text = section_8()
+        self.vectors = (vectors(between(text, "Operands = result:", "With NaN operands:"))
+                        + vectors(between(text, "With NaN operands:", "Then plays")))
+        self.listings = [Listing(one) for one in text.split("Then plays")[1:]]
+
+    def count_of_plays(self):
+        return sum(1 + len(listing.plays) for listing in self.listings)
 
 
 def check_vectors(section, player):
@@ -108,34 +118,36 @@ def check_vectors(section, player):
     return lines
 
 
-def check_whole_play(section, player):
-    store = list(section.store)
-    answer = player.play(section.listing, section.constants, store, 0)
+def check_whole_play(listing, player):
+    store = list(listing.store)
+    answer = player.play(listing.listing, listing.constants, store, 0)
     lines = []
-    if answer != section.answer:
+    if answer != listing.answer:
         lines.append("start 0 gives %s" % (answer,))
-    for at, (given, listed) in enumerate(zip(store, section.after)):
+    for at, (given, listed) in enumerate(zip(store, listing.after)):
         if given != listed:
             lines.append("word %d is %016x" % (at, given))
     return lines
 
 
-def check_plays(section, player):
+def check_plays(listing, player):
     lines = []
-    for start, changed, listed in section.plays:
-        listing = bytearray(section.listing)
+    for start, changed, listed in listing.plays:
+        bytes_of_it = bytearray(listing.listing)
         for at, byte in changed.items():
-            listing[at] = byte
-        store = list(section.store)
-        answer = player.play(bytes(listing), section.constants, store, start)
+            bytes_of_it[at] = byte
+        store = list(listing.store)
+        answer = player.play(bytes(bytes_of_it), listing.constants, store, start)
         if answer != listed:
             lines.append("start %d, %s gives %s" % (start, changed, answer))
-        if listed[0] != 0 and store != section.store:
+        if listed[0] != 0 and store != listing.store:
             lines.append("start %d, %s changes the store" % (start, changed))
     return lines
 
 
 def check(player):
     section = Section()
-    return (check_vectors(section, player) + check_whole_play(section, player)
-            + check_plays(section, player))
+    lines = check_vectors(section, player)
+    for listing in section.listings:
+        lines += check_whole_play(listing, player) + check_plays(listing, player)
+    return lines

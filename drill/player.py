@@ -341,7 +341,7 @@ def imaginary_index(place):
 
 MOST_BYTES = 65536
 MOST_CONSTANTS = 256
-HIGHEST_LABEL = 2
+OWN_LABEL = 3  # the lowest label of a sheet's own
 
 # kind: name, fields in order, length
 KINDS = {
@@ -359,6 +359,7 @@ KINDS = {
     14: ("Label", "label", 5),
     15: ("Branch", "label", 5),
     16: ("Call", "label", 5),
+    17: ("BranchIf", "a label else", 7),
 }
 
 OPERATIONS = {
@@ -380,7 +381,7 @@ def number_at(listing, at, count):
 
 
 def read_record(name, fields, listing, at):
-    """The record's fields by name; all but the three below are registers."""
+    """The record's fields by name; all but those named below are registers."""
     record = {"kind": name, "registers": []}
     at += 4
     for one in fields.split():
@@ -392,7 +393,7 @@ def read_record(name, fields, listing, at):
             at += 2
         else:
             record[one] = listing[at]
-            if one not in ("operation", "label"):
+            if one not in ("operation", "label", "else"):
                 record["registers"].append(listing[at])
             at += 1
     return record
@@ -443,7 +444,7 @@ def examine_record(listing, at, index, count_of_constants):
     record = read_record(name, fields, listing, at)
     if "operation" in record and record["operation"] not in OPERATIONS[name]:
         raise Refused(2, index)
-    if "label" in record and record["label"] > HIGHEST_LABEL:
+    if "else" in record and record["else"] > 1:
         raise Refused(2, index)
     if any(register > HIGHEST_REGISTER for register in record["registers"]):
         raise Refused(3, index)
@@ -496,7 +497,7 @@ def examine_ways(records):
 
     def breaks_a_rule(index, record):
         kind = record["kind"]
-        if kind not in ("Label", "Branch", "Call"):
+        if kind not in ("Label", "Branch", "Call", "BranchIf"):
             return False
         label = record["label"]
         if in_block(index):
@@ -505,11 +506,15 @@ def examine_ways(records):
             if label == 0 or index != first(records, "Label", label):
                 return True
             return label == 1 and block_end is None
-        if kind == "Branch":
+        if kind == "Branch" and label < OWN_LABEL:
             if label == 0:
                 return False
             return label != 2 or first(records, "Label", 2, index) is None
-        return label != 1 or label_1 is None
+        if kind == "Call":
+            return label != 1 or label_1 is None
+        if label < OWN_LABEL or first(records, "Label", label, index) is None:
+            return True
+        return first(records, "Label", label) < index
 
     for index, record in enumerate(records):
         if breaks_a_rule(index, record):
@@ -575,6 +580,12 @@ def work(record, constants, store):
 # 5. THE PLAY
 
 
+def goes_to_its_label(record, store):
+    if record["kind"] == "BranchIf":
+        return (store[record["a"]] == 0) == (record["else"] == 1)
+    return record["kind"] == "Branch" and record["label"] != 0
+
+
 def play_records(records, constants, store, start):
     """Gives how many records were played."""
     played = 0
@@ -585,8 +596,10 @@ def play_records(records, constants, store, start):
         played += 1
         if record["kind"] == "Label":
             at += 1
-        elif is_a(record, "Branch", 2):
-            at = first(records, "Label", 2)
+        elif goes_to_its_label(record, store):
+            at = first(records, "Label", record["label"])
+        elif record["kind"] == "BranchIf":
+            at += 1
         elif record["kind"] == "Call":
             remembered = at
             at = first(records, "Label", 1)

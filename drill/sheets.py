@@ -1,7 +1,7 @@
 """python3 drill/sheets.py LIST: reads every sheet of a list by docs/SHEET.md.
 
-A reader written from that paper: setup, refusals 1 to 6 and what is
-recorded as real. It makes no listing, so 7 is taken from the list: up to
+A reader written from that paper: setup, refusals 1 to 6, 10 and 11 and
+what is recorded as real. It makes no listing, so 7 is taken from the list: up to
 that instruction nothing else may refuse. Compares number, index and the
 record of realness; prints a line for each difference (at most 20), then
 how many sheets there were and how many differ. Exit status 1 if any does.
@@ -33,7 +33,12 @@ KINDS = {
     8: ("IfElse", "d a b place", 10),
     9: ("LoadMath", "op d a place", 10),
     10: ("LoadConstMath", "op d a constant", 9),
+    14: ("Label", "label", 5),
+    15: ("Branch", "label", 5),
+    17: ("BranchIf", "a label else", 7),
 }
+LABEL = 14
+BRANCHES = ("Branch", "BranchIf")
 ARITHMETIC = {0: "Plus", 1: "Minus", 2: "Times", 3: "Divide"}
 OPERATIONS = {
     "Uni": {0: "Neg", 1: "Not", 2: "Abs", 3: "Root", 4: "RealRoot", 5: "Recip",
@@ -120,8 +125,12 @@ class Record:
             self.do(name, d, a, TEMP)
         elif name in ("IsZero", "IsNotZero"):
             self.do("Equal" if name == "IsZero" else "NotEqual", d, a, TEMP)
-        elif kind != "Nop":
+        elif kind not in ("Nop", "Label") + BRANCHES:
             self.do(name, d, a, b)
+
+    def copy(self):
+        """All that it holds now."""
+        return list(self.registers), bytes(self.places)
 
 
 def setup(sheet, room, table):
@@ -138,16 +147,44 @@ def setup(sheet, room, table):
     return sheet[4], sheet[5:69], (at - 69) // 12, at
 
 
-def read(sheet, at):
-    """The kind, the fields by name and the length, or the number 1 or 2."""
+def frame(sheet, at):
+    """The first tests of an instruction: 1 or 2, or 0."""
     left = len(sheet) - at
     if left < 4 or two(sheet, at) < 4 or two(sheet, at) > left:
         return 1
     if two(sheet, at + 2) not in KINDS:
         return 2
+    return 0 if two(sheet, at) == KINDS[two(sheet, at + 2)][2] else 1
+
+
+def labels(sheet, at):
+    """Where labels stand: pairs of a byte and a label, as far as a record that earns 1."""
+    found = []
+    while frame(sheet, at) != 1:
+        if two(sheet, at + 2) == LABEL:
+            found.append((at, sheet[at + 4]))
+        at += two(sheet, at)
+    return found
+
+
+def is_misplaced(kind, one, at, standing):
+    """Whether 10 refuses the instruction that begins at that byte."""
+    if "label" not in one:
+        return False
+    if one["label"] < 3 or one.get("else", 0) > 1:
+        return True
+    places = [place for place, label in standing if label == one["label"]]
+    if kind == "Label":
+        return any(place < at for place in places)
+    return not any(place > at for place in places) or any(place < at for place in places)
+
+
+def read(sheet, at):
+    """The kind, the fields by name and the length, or the number 1 or 2."""
+    number = frame(sheet, at)
+    if number != 0:
+        return number
     kind, fields, length = KINDS[two(sheet, at + 2)]
-    if two(sheet, at) != length:
-        return 1
     one, at = {}, at + 4
     for field in fields.split():
         if field == "place":
@@ -166,8 +203,8 @@ def read(sheet, at):
     return kind, one, length
 
 
-def refusal(kind, one, constants, stable, record):
-    """3 to 6, or 0."""
+def refusal(kind, one, constants, stable, record, misplaced):
+    """3 to 6 and 10, or 0."""
     if any(one.get(field, 0) > 31 for field in "dabc"):
         return 3
     if "place" in one:
@@ -176,6 +213,8 @@ def refusal(kind, one, constants, stable, record):
             return 4
         if (kind == "Save" and place_class == PARAM) or (kind == "IfElse" and place_class != STACK):
             return 4
+    if misplaced:
+        return 10
     if one.get("constant", -1) >= constants:
         return 5
     return 6 if is_barred(kind, one, stable, record) else 0
@@ -200,16 +239,21 @@ def lower(sheet, room, table, full_at):
         return 8, 0, Record(bytes(64))
     mode, places, constants, at = found
     record, index = Record(places), 0
+    standing, at_branches = labels(sheet, at), []
     while at < len(sheet):
         got = read(sheet, at)
         if isinstance(got, int):
             return got, index, record
         kind, one, length = got
-        number = refusal(kind, one, constants, mode == 1, record)
+        number = refusal(kind, one, constants, mode == 1, record, is_misplaced(kind, one, at, standing))
         if number != 0:
             return number, index, record
+        if kind == "Label" and any(label == one["label"] and held != record.copy() for label, held in at_branches):
+            return 11, index, record
         if index == full_at:
             return LISTING_FULL, index, record
+        if kind in BRANCHES:
+            at_branches.append((one["label"], record.copy()))
         record.take(kind, one)
         at, index = at + length, index + 1
     return 0, index, record

@@ -80,7 +80,7 @@ static void lower(Lowering *l, const uint8_t *sheet, const size_t lengths[4], ui
     take_back(&l->listing, fill);
     take_back(&l->constants, fill);
     take_back(&l->answer, fill);
-    HOLDS(l->number <= 8);
+    HOLDS(l->number <= 11 && l->number != 9);
     HOLDS(same(&l->sheet, sheet));
 }
 
@@ -246,13 +246,27 @@ static uint32_t check_play(const uint8_t *slices[3], const size_t lengths[4], ui
     return first.number;
 }
 
-/* What was listed is played from record 0. */
+/* Whether a lowered listing has a branch to a label from 3 on that does not stand in it. */
+static int awaits(const uint8_t *listing, size_t length) {
+    uint8_t awaited[256] = {0};
+    for (size_t at = 0, next; (next = readable(listing + at, length - at)) > 0; at += next) {
+        size_t kind = two(listing + at + 2);
+        if (kind == 14) awaited[listing[at + 4]] = 0;
+        if (kind == 15 && listing[at + 4] > 2) awaited[listing[at + 4]] = 1;
+        if (kind == 17) awaited[listing[at + 5]] = 1;
+    }
+    return !filled(awaited, sizeof awaited, 0);
+}
+
+/* What was listed is played from record 0; after a refusal, unless it has a branch whose label was still to come. */
 static void is_played(const Lowering *l) {
     static uint8_t store[TULIPCRICKET_STORE];
     const uint8_t *slices[3] = {l->listing.at, l->constants.at, store};
     size_t lengths[4] = {word_at(l->answer.at + 16), 8 * word_at(l->answer.at + 24), sizeof store, TULIPCRICKET_PLAY_ANSWER};
     for (size_t i = 0; i < sizeof store; i++) store[i] = (uint8_t)(i % 8 == 7 ? 0x3f : i * 37);
-    HOLDS(check_play(slices, lengths, 0) == 0);
+    int open = awaits(slices[0], lengths[0]);
+    HOLDS(l->number != 0 || !open);
+    HOLDS(check_play(slices, lengths, 0) == (open ? 9 : 0));
 }
 
 /* Cutting an input */

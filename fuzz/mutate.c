@@ -7,11 +7,15 @@ size_t LLVMFuzzerMutate(uint8_t *data, size_t size, size_t max_size);
 
 enum { MOST = 4096 };
 
-/* Lengths of records by kind, as document 01 has them. */
-static const uint8_t LENGTHS[17] = {4, 7, 8, 6, 8, 8, 7, 9, 10, 10, 9, 9, 9, 11, 5, 5, 5};
+/* Lengths of records by kind, as documents 01 and 02 have them. */
+static const uint8_t LENGTHS[18] = {4, 7, 8, 6, 8, 8, 7, 9, 10, 10, 9, 9, 9, 11, 5, 5, 5, 7};
+
+/* The kinds of a sheet behind 10. */
+static const uint8_t BEHIND[] = {14, 15, 17};
 
 /* Bytes at which a field's meaning changes. */
-static const uint8_t TELLING[] = {0, 1, 2, 3, 4, 5, 6, 7, 8, 9, 10, 11, 12, 13, 14, 15, 16, 17, 19, 20, 29, 30, 31, 32, 33, 63, 64, 65, 66, 255};
+static const uint8_t TELLING[] = {0,  1,  2,  3,  4,  5,  6,  7,  8,  9,  10, 11, 12, 13, 14,
+                                  15, 16, 17, 19, 20, 29, 30, 31, 32, 33, 63, 64, 65, 66, 255};
 
 /* SplitMix64. */
 static uint64_t state;
@@ -80,12 +84,14 @@ static uint8_t any_byte(void) {
 
 /* A record of a kind that the function takes, with any fields. */
 static void insert_fresh(Input *in) {
-    size_t kind = in->play ? 1 + below(16) : below(11);
+    size_t kind = in->play ? 1 + below(17) : below(11 + sizeof BEHIND);
+    if (!in->play && kind > 10) kind = BEHIND[kind - 11];
     uint8_t record[16] = {LENGTHS[kind], 0, (uint8_t)kind, 0};
     for (size_t i = 4; i < LENGTHS[kind]; i++) record[i] = any_byte();
     if (below(2) && (kind == 4 || kind == 5)) record[7] = 0;
     if (below(2) && (kind == 8 || kind == 9)) record[9] = 0;
     if (below(2) && (kind == 11 || kind == 12)) record[8] = 0;
+    if (below(2) && kind == 17) record[6] = (uint8_t)below(2);
     splice(in, in->at[below(in->count + 1)], 0, record, LENGTHS[kind]);
 }
 

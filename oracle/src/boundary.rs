@@ -60,7 +60,7 @@ fn listing_records() -> Vec<Vec<u8>> {
 }
 
 /// Each record with each byte of its fields at each of `BYTES`.
-fn each_field(records: &[Vec<u8>]) -> Vec<Vec<u8>> {
+pub fn each_field(records: &[Vec<u8>]) -> Vec<Vec<u8>> {
     let mut found = Vec::new();
     for record in records {
         for at in 4..record.len() {
@@ -75,7 +75,7 @@ fn each_field(records: &[Vec<u8>]) -> Vec<Vec<u8>> {
 }
 
 /// Each record with two bytes of its fields at fault, so that the order of refusals shows.
-fn two_faults(records: &[Vec<u8>]) -> Vec<Vec<u8>> {
+pub fn two_faults(records: &[Vec<u8>]) -> Vec<Vec<u8>> {
     let mut found = Vec::new();
     for record in records {
         for one in 4..record.len() {
@@ -269,22 +269,18 @@ fn jumps() -> Vec<Vec<u8>> {
     found
 }
 
+/// Every row of `count` records of an alphabet.
+pub fn rows(alphabet: &[Vec<u8>], count: usize) -> Vec<Vec<Vec<u8>>> {
+    let size = alphabet.len();
+    let row = |number: usize| (0..count).map(|at| alphabet[number / size.pow(at as u32) % size].clone()).collect();
+    (0..size.pow(count as u32)).map(row).collect()
+}
+
 /// Every row of up to `length` jumps, from every start.
 pub fn jump_rows(length: usize) -> Vec<ToPlay> {
-    let alphabet = jumps();
     let mut found = Vec::new();
-    for count in 0..=length {
-        for number in 0..alphabet.len().pow(count as u32) {
-            let mut rest = number;
-            let mut listing = Vec::new();
-            for _ in 0..count {
-                listing.extend(&alphabet[rest % alphabet.len()]);
-                rest /= alphabet.len();
-            }
-            for start in 0..=count as u64 + 1 {
-                found.push(on_zeros(listing.clone(), 0, start));
-            }
-        }
+    for row in (0..=length).flat_map(|count| rows(&jumps(), count)) {
+        found.extend((0..=row.len() as u64 + 1).map(|start| on_zeros(row.concat(), 0, start)));
     }
     found
 }

@@ -115,12 +115,22 @@ fn listing_place(place: Loc) -> [u8; 3] {
     [class, low, high]
 }
 
+/// The string by which the Rust knows a label of a sheet's own.
+pub fn label(number: u8) -> String {
+    format!("{OWN_LABELS}{number}")
+}
+
+const OWN_LABELS: &str = "own ";
+
 fn label_number(label: &str) -> u8 {
     match label {
         ".ret" => 0,
         "@complex_root" => 1,
         "@jump_over_complex_root" => 2,
-        other => panic!("listed label {other}"),
+        own => match own.strip_prefix(OWN_LABELS).map(str::parse) {
+            Some(Ok(number)) => number,
+            _ => panic!("listed label {own}"),
+        },
     }
 }
 
@@ -165,6 +175,7 @@ pub fn listed(instruction: &Instruction) -> Vec<u8> {
         Label { label } => record(14, &[&[label_number(label)]]),
         Branch { label } => record(15, &[&[label_number(label)]]),
         Call { label, num_args: 0 } => record(16, &[&[label_number(label)]]),
+        BranchIf { cond, label, is_else } => record(17, &[&registers([*cond]), &[label_number(label), *is_else as u8]]),
         other => panic!("listed instruction {other:?}"),
     }
 }

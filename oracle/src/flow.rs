@@ -39,7 +39,7 @@ pub fn writes(record: &[u8]) -> Vec<Write> {
     }
 }
 
-/// The records a play from `start` reaches, in order; a lowered listing always plays the same ones.
+/// The records a play from `start` reaches, in order; a lowered listing without a BranchIf always plays the same ones.
 pub fn played<'a>(listing: &[&'a [u8]], start: usize) -> Vec<&'a [u8]> {
     let label = |number: u8| listing.iter().position(|r| two(r, 2) == 14 && r[4] == number).unwrap();
     let (mut at, mut back, mut found) = (start, None, Vec::new());

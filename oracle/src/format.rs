@@ -1,7 +1,14 @@
-//! Numbers of document 01 that sheets and listings share.
+//! Numbers of documents 01 and 02 that sheets and listings share.
 
-/// Lengths of records by kind, 0 Nop to 16 Call.
-pub const LENGTHS: [usize; 17] = [4, 7, 8, 6, 8, 8, 7, 9, 10, 10, 9, 9, 9, 11, 5, 5, 5];
+/// Lengths of records by kind, 0 Nop to 17 BranchIf.
+pub const LENGTHS: [usize; 18] = [4, 7, 8, 6, 8, 8, 7, 9, 10, 10, 9, 9, 9, 11, 5, 5, 5, 7];
+
+pub const LABEL: u16 = 14;
+pub const BRANCH: u16 = 15;
+pub const CALL: u16 = 16;
+pub const BRANCH_IF: u16 = 17;
+/// The lowest label of a sheet's own; those below are the listing's.
+pub const OWN_LABEL: u8 = 3;
 
 pub const HEADER: u16 = 32;
 pub const CONSTANT: u16 = 33;
@@ -24,7 +31,7 @@ pub const STACK: u8 = 0;
 pub const MEM: u8 = 1;
 pub const PARAM: u8 = 2;
 
-/// Refusals by document 01's numbers.
+/// Refusals by the numbers of documents 01 and 02.
 pub const TORN: u32 = 1;
 pub const UNKNOWN: u32 = 2;
 pub const REGISTER: u32 = 3;
@@ -34,6 +41,8 @@ pub const BARRED: u32 = 6;
 pub const FULL: u32 = 7;
 pub const SETUP: u32 = 8;
 pub const STRAY: u32 = 9;
+pub const MISPLACED: u32 = 10;
+pub const UNEQUAL: u32 = 11;
 
 /// The two bytes at `at`, as a number.
 pub fn two(bytes: &[u8], at: usize) -> u16 {

@@ -3,6 +3,7 @@
 #![allow(uncommon_codepoints)] // a name in complexify.rs
 
 pub mod boundary;
+pub mod branches;
 pub mod claim;
 pub mod encode;
 #[cfg(feature = "linked")]

@@ -106,6 +106,10 @@ pub fn call(number: u8) -> Vec<u8> {
     raw(16, &[number])
 }
 
+pub fn branch_if(cond: u8, label: u8, is_else: u8) -> Vec<u8> {
+    raw(17, &[cond, label, is_else])
+}
+
 /// A sheet of these constants and instruction records.
 pub fn sheet(stable: bool, places: &[u8; 64], constants: &[u64], instructions: &[Vec<u8>]) -> Vec<u8> {
     let mut bytes = header(stable, places);

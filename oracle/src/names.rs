@@ -42,7 +42,7 @@ pub const BI: [&str; 15] = [
 pub const ARITH: [&str; 4] = ["Plus", "Minus", "Times", "Divide"];
 pub const FUSED: [&str; 4] = ["MulAdd", "MulSub", "NegMulAdd", "NegMulSub"];
 pub const CLASSES: [&str; 3] = ["Stack", "Mem", "Param"];
-pub const KINDS: [&str; 17] = [
+pub const KINDS: [&str; 18] = [
     "Nop",
     "Uni",
     "Bi",
@@ -60,6 +60,7 @@ pub const KINDS: [&str; 17] = [
     "Label",
     "Branch",
     "Call",
+    "BranchIf",
 ];
 
 pub mod uni {

@@ -1,4 +1,5 @@
-//! Document 01's player with document 02's operations and marks, over f64 arithmetic of this machine. Written from their rules alone.
+//! Document 01's player with document 02's operations, marks and branches, over f64 arithmetic of this machine. Written from their rules
+//! alone.
 
 use crate::format::*;
 use crate::names::{bi, uni, LISTING_BI, LISTING_UNI};
@@ -40,20 +41,21 @@ enum Record {
     Label(u8),
     Branch(u8),
     Call(u8),
+    BranchIf { cond: u8, label: u8, is_else: bool },
 }
 
 /// One record, or its refusal 1 to 5.
 fn examine(record: Option<&[u8]>, constants: usize) -> Result<Record, u32> {
     let record = record.ok_or(TORN)?;
     let kind = two(record, 2);
-    if !matches!(kind, 1..=8 | 11..=16) {
+    if !matches!(kind, 1..=8 | 11..=17) {
         return Err(UNKNOWN);
     }
     if record.len() != LENGTHS[kind as usize] {
         return Err(TORN);
     }
     let fields = &record[4..];
-    check_operation(kind, fields[0])?;
+    check_operation(kind, fields)?;
     check_registers(registers(kind, fields))?;
     check_place(kind, fields)?;
     if kind == 6 && two(fields, 1) as usize >= constants {
@@ -62,14 +64,14 @@ fn examine(record: Option<&[u8]>, constants: usize) -> Result<Record, u32> {
     Ok(read(kind, fields))
 }
 
-/// The operation, or the label.
-fn check_operation(kind: u16, first: u8) -> Result<(), u32> {
+/// The operation, or a BranchIf's third byte.
+fn check_operation(kind: u16, fields: &[u8]) -> Result<(), u32> {
     let known = match kind {
-        1 => LISTING_UNI.contains(&first),
-        2 => LISTING_BI.contains(&first),
-        7 => first == 0,
-        13 => first <= 3,
-        14..=16 => first <= 2,
+        1 => LISTING_UNI.contains(&fields[0]),
+        2 => LISTING_BI.contains(&fields[0]),
+        7 => fields[0] == 0,
+        13 => fields[0] <= 3,
+        17 => fields[2] <= 1,
         _ => true,
     };
     if known {
@@ -84,7 +86,7 @@ fn registers(kind: u16, fields: &[u8]) -> &[u8] {
     match kind {
         1 | 2 | 7 | 13 => &fields[1..],
         3 => fields,
-        4..=6 => &fields[..1],
+        4..=6 | 17 => &fields[..1],
         8 => &fields[..3],
         11 | 12 => &fields[..2],
         _ => &[],
@@ -142,7 +144,8 @@ fn read(kind: u16, f: &[u8]) -> Record {
         13 => Record::ComplexBi { op: f[0], xd: f[1], yd: f[2], x1: f[3], y1: f[4], x2: f[5], y2: f[6] },
         14 => Record::Label(f[0]),
         15 => Record::Branch(f[0]),
-        _ => Record::Call(f[0]),
+        16 => Record::Call(f[0]),
+        _ => Record::BranchIf { cond: f[0], label: f[1], is_else: f[2] == 1 },
     }
 }
 
@@ -174,6 +177,12 @@ fn block(records: &[Record]) -> Option<(usize, usize)> {
 /// Whether the record at `index` breaks a jump rule.
 fn strays(records: &[Record], index: usize) -> bool {
     let inside = || block(records).is_some_and(|(from, to)| from < index && index < to);
+    // of labels 3 to 255: "a branch with no such label later or one before it"
+    let astray = |label: u8| {
+        label < OWN_LABEL
+            || find_label(&records[index..], label).is_none()
+            || find_label(&records[..index], label).is_some()
+    };
     match records[index] {
         Record::Label(label) => {
             let again = find_label(records, label) != Some(index);
@@ -182,7 +191,7 @@ fn strays(records: &[Record], index: usize) -> bool {
         }
         Record::Branch(0) => false,
         Record::Branch(2) => inside() || find_label(&records[index..], 2).is_none(),
-        Record::Branch(_) => true,
+        Record::Branch(label) | Record::BranchIf { label, .. } => astray(label) || inside(),
         Record::Call(label) => label != 1 || inside() || find_label(records, 1).is_none(),
         _ => false,
     }
@@ -323,7 +332,7 @@ fn work(record: Record, constants: &[u64], store: &mut [u64]) {
             store[xd as usize] = x;
             store[yd as usize] = y;
         }
-        Record::Label(_) | Record::Branch(_) | Record::Call(_) => {}
+        Record::Label(_) | Record::Branch(_) | Record::Call(_) | Record::BranchIf { .. } => {}
     }
 }
 
@@ -341,6 +350,9 @@ fn run(records: &[Record], constants: &[u64], store: &mut [u64], start: usize) -
                 None => break,
             },
             Record::Branch(label) => find_label(records, label).unwrap(),
+            Record::BranchIf { cond, label, is_else } if (store[cond as usize] == 0) == is_else => {
+                find_label(records, label).unwrap()
+            }
             Record::Call(label) => {
                 back = Some(at + 1);
                 find_label(records, label).unwrap()

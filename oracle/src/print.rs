@@ -37,6 +37,7 @@ pub fn record(record: &[u8]) -> String {
         14 => format!("Label {}", f[0]),
         15 => format!("Branch {}", f[0]),
         16 => format!("Call {}", f[0]),
+        17 => format!("BranchIf{} {} {}", registers(&f[..1]), f[1], f[2]),
         kind => panic!("kind {kind} in a listing"),
     }
 }

@@ -4,6 +4,7 @@ use crate::format::*;
 use crate::machine::{Machine, Reference};
 use crate::make;
 use crate::names::{bi, uni, LISTING_BI, LISTING_UNI, SHEET_BI, SHEET_UNI};
+use crate::reference::{lower_with_points, Point};
 
 /// SplitMix64.
 pub struct Rng(pub u64);
@@ -193,6 +194,13 @@ impl Parts {
     pub fn sheet(&self) -> Vec<u8> {
         self.prefix(self.instructions.len())
     }
+
+    /// The first `count` instructions, a record that lowering refuses by 2, and the labels behind them: the first ones are lowered as in
+    /// the whole sheet, whatever they branch to.
+    pub fn cut(&self, count: usize) -> Vec<u8> {
+        let labels = self.instructions[count..].iter().filter(|r| two(r, 2) == LABEL);
+        [self.prefix(count), make::raw(CALL, &[0]), labels.flatten().copied().collect()].concat()
+    }
 }
 
 /// A sheet of `length` well-formed instructions, as far as the limit allows.
@@ -219,6 +227,111 @@ pub fn parts(rng: &mut Rng, length: usize) -> Parts {
         instructions.push(record);
     }
     Parts { head, instructions }
+}
+
+/// A record put before the instruction at an index; of those at one index the lower rank stands first.
+struct Woven {
+    index: usize,
+    rank: usize,
+    record: Vec<u8>,
+}
+
+fn any_label(rng: &mut Rng) -> u8 {
+    if rng.once_in(2) {
+        rng.pick(&[3, 4, 5, 254, 255])
+    } else {
+        OWN_LABEL + rng.below(253) as u8
+    }
+}
+
+fn any_branch(rng: &mut Rng, label: u8, registers: &[u8]) -> Vec<u8> {
+    if rng.once_in(4) {
+        make::branch(label)
+    } else {
+        make::branch_if(rng.pick(registers), label, rng.below(2) as u8)
+    }
+}
+
+/// A label and branches to it from before: mostly from where the same is recorded.
+fn with_branches(rng: &mut Rng, label: u8, points: &[Point], registers: &[u8]) -> Vec<Woven> {
+    let (to, rank) = (rng.below(points.len()), rng.below(100));
+    let equal: Vec<usize> = (0..=to).filter(|from| points[*from].realness == points[to].realness).collect();
+    let mut found = Vec::new();
+    for _ in 0..rng.pick(&[0, 1, 1, 1, 1, 2, 2, 3]) {
+        let index = if rng.once_in(16) { rng.below(to + 1) } else { rng.pick(&equal) };
+        let before = if index == to { rng.below(rank + 1) } else { rng.below(100) };
+        found.push(Woven { index, rank: before, record: any_branch(rng, label, registers) });
+    }
+    found.push(Woven { index: to, rank, record: make::label(label) });
+    found
+}
+
+/// The registers that a sheet's instructions name, or general 0.
+fn named(parts: &Parts) -> Vec<u8> {
+    let mut found: Vec<u8> = Vec::new();
+    for record in &parts.instructions {
+        let (destination, operands) = crate::claim::destination_and_operands(record);
+        found.extend(operands.iter().copied().chain(destination));
+    }
+    if found.is_empty() {
+        found.push(0);
+    }
+    found
+}
+
+/// The sheet with labels and branches put between its instructions; they list themselves and change no record.
+pub fn woven(rng: &mut Rng, parts: &Parts) -> Parts {
+    let (_, points) = lower_with_points(&parts.sheet(), &mut vec![0; LISTING_LIMIT], &mut [0; TABLE]);
+    let registers = named(parts);
+    let mut labels: Vec<u8> = (0..1 + rng.below(4)).map(|_| any_label(rng)).collect();
+    if rng.once_in(100) {
+        labels = (OWN_LABEL..255).collect();
+    }
+    labels.sort();
+    labels.dedup();
+    let mut more: Vec<Woven> = Vec::new();
+    for label in labels {
+        more.extend(with_branches(rng, label, &points, &registers));
+    }
+    more.sort_by_key(|one| (one.index, one.rank));
+    let mut rest = more.into_iter().peekable();
+    let mut instructions = Vec::new();
+    for index in 0..=parts.instructions.len() {
+        while let Some(one) = rest.next_if(|one| one.index == index) {
+            instructions.push(one.record);
+        }
+        instructions.extend(parts.instructions.get(index).cloned());
+    }
+    Parts { head: parts.head.clone(), instructions }
+}
+
+/// A fault of labels and branches, or a record that looking ahead passes or stops at.
+fn with_fault(rng: &mut Rng, row: &mut Vec<Vec<u8>>) {
+    let at = rng.below(row.len() + 1);
+    let own: Vec<u8> = row.iter().filter(|r| two(r, 2) == LABEL).map(|r| r[4]).collect();
+    let label = if own.is_empty() { any_label(rng) } else { rng.pick(&own) };
+    let other = any_label(rng);
+    let low = rng.below(3) as u8;
+    let third = rng.pick(&[2, 3, 128, 255]);
+    let record = match rng.below(14) {
+        0 | 1 => make::label(label),
+        2 => make::branch(label),
+        3 => make::branch_if(low, label, low % 2),
+        4 => make::branch(other),
+        5 => make::label(low),
+        6 => make::branch(low),
+        7 => make::branch_if(0, low, 0),
+        8 => make::branch_if(0, label, third),
+        9 => make::branch_if(32, label, third),
+        10 => make::raw(rng.pick(&[11, 12, 13, 16, 18, 32, 33, 255, 270]), &[label]),
+        11 => make::raw(rng.pick(&[0, 3, 14, 15, 17]), &[label, 0]),
+        12 => make::uni(0, 32, 0),
+        _ => {
+            row.retain(|r| two(r, 2) != LABEL || r[4] != label);
+            return;
+        }
+    };
+    row.insert(at, record);
 }
 
 fn any_length(rng: &mut Rng) -> usize {
@@ -280,6 +393,26 @@ pub fn to_lower(rng: &mut Rng) -> ToLower {
     ToLower { sheet, room, table }
 }
 
+/// The same of a sheet with labels and branches; some are at fault.
+pub fn branching_to_lower(rng: &mut Rng) -> ToLower {
+    let length = any_length(rng) % 600;
+    let straight = parts(rng, length);
+    let mut parts = woven(rng, &straight);
+    if rng.once_in(3) {
+        with_fault(rng, &mut parts.instructions);
+    }
+    let mut sheet = parts.sheet();
+    if rng.once_in(10) {
+        sheet = damaged(rng, &sheet);
+    }
+    let room = match rng.below(8) {
+        0 => needed(&sheet),
+        1 => needed(&sheet).saturating_sub(1 + rng.below(12)),
+        _ => LISTING_LIMIT,
+    };
+    ToLower { sheet, room, table: TABLE }
+}
+
 /// A play: listing, constants, store, start record.
 #[derive(Clone)]
 pub struct ToPlay {
@@ -301,6 +434,17 @@ pub fn any_store(rng: &mut Rng, indices: &[u16]) -> Vec<u64> {
             let at = crate::player::place_word(class, *index);
             store[at] = if rng.once_in(3) { rng.pick(&[0, u64::MAX]) } else { some(rng) };
             store[at + 1] = some(rng);
+        }
+    }
+    store
+}
+
+/// The same with more zeros of both signs among the registers: what conditions tell apart.
+pub fn store_of_conditions(rng: &mut Rng, indices: &[u16]) -> Vec<u64> {
+    let mut store = any_store(rng, indices);
+    for word in &mut store[..66] {
+        if rng.once_in(2) {
+            *word = rng.pick(&[0, 0, 0, 1 << 63, u64::MAX]);
         }
     }
     store
@@ -372,20 +516,82 @@ fn any_listing(rng: &mut Rng, constants: usize) -> Vec<u8> {
     row.concat()
 }
 
-/// The listing and constants of a random sheet, as far as it was accepted.
-fn lowered(rng: &mut Rng) -> (Vec<u8>, Vec<u64>) {
-    let length = any_length(rng);
-    let sheet = parts(rng, length).sheet();
+/// A listing with labels from 3 up and branches to them put between its records, mostly outside its block.
+fn branching_listing(rng: &mut Rng, constants: usize) -> Vec<u8> {
+    let bytes = any_listing(rng, constants);
+    let mut row: Vec<Vec<u8>> = records(&bytes).into_iter().map(|r| r.to_vec()).collect();
+    let registers: Vec<u8> = (0..3).map(|_| rng.below(66) as u8).collect();
+    let mut labels: Vec<u8> = (0..1 + rng.below(3)).map(|_| any_label(rng)).collect();
+    labels.sort();
+    labels.dedup();
+    for label in labels {
+        let at = outside(rng, &row);
+        row.insert(at, make::label(label));
+        for _ in 0..rng.pick(&[0, 1, 1, 2, 3]) {
+            let to = row.iter().position(|r| *r == make::label(label)).unwrap_or(0);
+            let from = if rng.once_in(16) { rng.below(row.len() + 1) } else { outside(rng, &row[..to]) };
+            row.insert(from, any_branch(rng, label, &registers));
+        }
+    }
+    if rng.once_in(6) {
+        with_fault(rng, &mut row);
+    }
+    row.concat()
+}
+
+/// Where a record may be put into a row: outside its block, but for one time in 16.
+fn outside(rng: &mut Rng, row: &[Vec<u8>]) -> usize {
+    let block = row.iter().position(|r| *r == make::label(1));
+    let end = block.map(|from| row[from..].iter().position(|r| *r == make::branch(0)).map_or(row.len(), |n| from + n));
+    let free: Vec<usize> =
+        (0..=row.len()).filter(|at| block.is_none_or(|from| *at <= from) || end.is_some_and(|to| *at > to)).collect();
+    if free.is_empty() || rng.once_in(16) {
+        rng.below(row.len() + 1)
+    } else {
+        rng.pick(&free)
+    }
+}
+
+/// The listing and constants of a sheet, as far as it was accepted.
+fn lowered(sheet: &[u8]) -> (Vec<u8>, Vec<u64>) {
     let (mut listing, mut constants) = (vec![0; LISTING_LIMIT], vec![0; TABLE]);
-    let answer = Reference.lower(&sheet, &mut listing, &mut constants);
+    let answer = Reference.lower(sheet, &mut listing, &mut constants);
     listing.truncate(answer.written as usize);
     constants.truncate(answer.count as usize);
     (listing, constants)
 }
 
+fn any_start(rng: &mut Rng, listing: &[u8]) -> u64 {
+    let count = records(listing).len();
+    match rng.below(6) {
+        0 => rng.below(count + 2) as u64,
+        1 if rng.once_in(8) => rng.bits(),
+        _ => 0,
+    }
+}
+
+/// The same of a listing with labels from 3 up and branches to them.
+pub fn branching_to_play(rng: &mut Rng) -> ToPlay {
+    let (mut listing, constants) = if rng.once_in(3) {
+        let length = any_length(rng) % 600;
+        let straight = parts(rng, length);
+        lowered(&woven(rng, &straight).sheet())
+    } else {
+        let count = rng.pick(&[0, 1, 3, 256]);
+        (branching_listing(rng, count), (0..count).map(|_| any_word(rng)).collect())
+    };
+    if rng.once_in(10) {
+        listing = damaged(rng, &listing);
+    }
+    let start = any_start(rng, &listing);
+    let store = store_of_conditions(rng, &indices_of(&listing));
+    ToPlay { listing, constants, store, start }
+}
+
 pub fn to_play(rng: &mut Rng) -> ToPlay {
     let (mut listing, constants) = if rng.once_in(3) {
-        lowered(rng)
+        let length = any_length(rng);
+        lowered(&parts(rng, length).sheet())
     } else {
         let count = rng.pick(&[0, 1, 3, 256]);
         (any_listing(rng, count), (0..count).map(|_| any_word(rng)).collect())
@@ -393,12 +599,7 @@ pub fn to_play(rng: &mut Rng) -> ToPlay {
     if rng.once_in(5) {
         listing = damaged(rng, &listing);
     }
-    let count = records(&listing).len();
-    let start = match rng.below(6) {
-        0 => rng.below(count + 2) as u64,
-        1 if rng.once_in(8) => rng.bits(),
-        _ => 0,
-    };
+    let start = any_start(rng, &listing);
     let mut store = any_store(rng, &indices_of(&listing));
     if rng.once_in(200) {
         store.truncate(STORE - 1);

@@ -1,4 +1,4 @@
-//! Document 01's lowering: its wrapper written from its rules, around the Rust's own `complexify`.
+//! Document 01's lowering with document 02's branches: the wrapper written from their rules, around the Rust's own `complexify`.
 
 use std::cell::Cell;
 use std::collections::HashSet;
@@ -160,25 +160,33 @@ impl Fields<'_> {
     }
 }
 
-/// The instruction of the first record of `rest` and the record's length, or refusal 1 to 5. `count`: the sheet's own constants.
-pub fn decode(rest: &[u8], count: usize) -> Result<(Instruction, usize), u32> {
+/// The first record of `rest` and its kind, or refusal 1 or 2: readable length, kind, kind's length.
+fn framed(rest: &[u8]) -> Result<(&[u8], u16), u32> {
     let record = first(rest).ok_or(TORN)?;
     let kind = two(record, 2);
-    if kind > 10 {
+    if !matches!(kind, 0..=10 | LABEL | BRANCH | BRANCH_IF) {
         return Err(UNKNOWN);
     }
     if record.len() != LENGTHS[kind as usize] {
         return Err(TORN);
     }
+    Ok((record, kind))
+}
+
+/// The instruction of the first record of `rest` and the record's length, or refusal 1 to 5, or 10 by its own bytes alone. `count`: the
+/// sheet's own constants.
+pub fn decode(rest: &[u8], count: usize) -> Result<(Instruction, usize), u32> {
+    let (record, kind) = framed(rest)?;
     Ok((fields(kind, &record[4..], count)?, record.len()))
 }
 
-/// The fields of a record of the kind's length: operation, registers, place, constant.
+/// The fields of a record of the kind's length: operation, registers, place, label, constant.
 fn fields(kind: u16, bytes: &[u8], count: usize) -> Result<Instruction, u32> {
     let mut f = Fields { rest: bytes };
     match kind {
         4 | 5 | 8 | 9 => with_place(kind, &mut f),
         6 | 10 => with_constant(kind, &mut f, count),
+        LABEL | BRANCH | BRANCH_IF => with_label(kind, &mut f),
         _ => of_registers(kind, &mut f),
     }
 }
@@ -242,6 +250,51 @@ fn with_constant(kind: u16, f: &mut Fields, count: usize) -> Result<Instruction,
     let op = encode::arith(f.byte()).ok_or(UNKNOWN)?;
     let [dst, s1] = f.registers()?;
     Ok(Instruction::LoadConstMath { op, dst, s1, idx: f.constant(count)? })
+}
+
+/// Label, Branch and BranchIf: 10 "for a label outside 3 to 255, or a third byte above 1".
+fn with_label(kind: u16, f: &mut Fields) -> Result<Instruction, u32> {
+    let cond = if kind == BRANCH_IF { Some(f.registers::<1>()?[0]) } else { None };
+    let number = f.byte();
+    let is_else = if kind == BRANCH_IF { f.byte() } else { 0 };
+    if number < OWN_LABEL || is_else > 1 {
+        return Err(MISPLACED);
+    }
+    let label = encode::label(number);
+    Ok(match cond {
+        Some(cond) => Instruction::BranchIf { cond, label, is_else: is_else == 1 },
+        None if kind == BRANCH => Instruction::Branch { label },
+        None => Instruction::Label { label },
+    })
+}
+
+/// Where labels stand in a sheet, by instruction: "Looking ahead for a label stops at the first torn record"; a record of a kind that
+/// sheets do not take is no torn one.
+fn standings(instructions: &[u8]) -> Vec<(usize, String)> {
+    let (mut found, mut rest, mut index) = (Vec::new(), instructions, 0);
+    loop {
+        match framed(rest) {
+            Err(TORN) => return found,
+            Ok((record, LABEL)) => found.push((index, encode::label(record[4]))),
+            _ => {}
+        }
+        rest = &rest[two(rest, 0) as usize..];
+        index += 1;
+    }
+}
+
+/// Refusal 10 of the instruction at `index` by where labels stand: "at a branch with no such label later or one before it, at a label's
+/// second standing".
+fn misplaced(instruction: &Instruction, index: usize, standings: &[(usize, String)]) -> bool {
+    let at = |label: &String| -> Vec<usize> { standings.iter().filter(|(_, l)| l == label).map(|(i, _)| *i).collect() };
+    match instruction {
+        Instruction::Label { label } => at(label)[0] != index,
+        Instruction::Branch { label } | Instruction::BranchIf { label, .. } => {
+            let places = at(label);
+            places.iter().all(|i| *i < index) || places.iter().any(|i| *i < index)
+        }
+        _ => false,
+    }
 }
 
 /// Refusal 6 as document 01's table says it, for the realness before the instruction.
@@ -325,6 +378,8 @@ struct Work {
     listing: Vec<u8>,
     records: usize,
     realness: Realness,
+    /// The label of each finished branch, and what was recorded there.
+    branches: Vec<(String, Realness)>,
 }
 
 /// The places of a header as the Rust takes them.
@@ -358,10 +413,19 @@ impl Work {
             constants: sheet.constants.clone(),
             listing: Vec::new(),
             records: 0,
+            branches: Vec::new(),
         }
     }
 
-    /// One instruction more, or refusal 6 or 7. After a refusal `complexifier` is not used again.
+    /// Refusal 11: "At each label, the records of all registers and places must equal those at every branch to it".
+    fn unequal(&self, instruction: &Instruction) -> bool {
+        match instruction {
+            Instruction::Label { label } => self.branches.iter().any(|(l, r)| l == label && *r != self.realness),
+            _ => false,
+        }
+    }
+
+    /// One instruction more, or refusal 6, 11 or 7. After a refusal `complexifier` is not used again.
     fn lower(&mut self, instruction: Instruction, room: usize) -> Result<(), u32> {
         let row = std::slice::from_ref(&instruction);
         let (stable, constants) = (self.stable, &self.constants);
@@ -369,6 +433,9 @@ impl Work {
         let listed = unless_asserted(|| Listed::of(&complexify(complexifier, stable, constants, row)));
         assert_eq!(listed.is_none(), barred(&instruction, stable, &self.realness), "{instruction:?}");
         let listed = listed.ok_or(BARRED)?;
+        if self.unequal(&instruction) {
+            return Err(UNEQUAL);
+        }
         let bytes = listed.records.concat();
         if bytes.len() > room - self.listing.len() {
             return Err(FULL);
@@ -376,6 +443,9 @@ impl Work {
         self.listing.extend(bytes);
         self.records += listed.records.len();
         self.constants = listed.constants;
+        if let Instruction::Branch { label } | Instruction::BranchIf { label, .. } = &instruction {
+            self.branches.push((label.clone(), self.realness.clone()));
+        }
         self.realness = Realness::of(&self.complexifier);
         self.finished.push(instruction);
         Ok(())
@@ -413,10 +483,14 @@ pub fn lower_with_points(sheet: &[u8], listing: &mut [u8], constants: &mut [u64]
     };
     let mut work = Work::new(&opened);
     let mut points = vec![point(&work)];
+    let standings = standings(opened.instructions);
     let mut rest = opened.instructions;
     let mut number = 0;
     while !rest.is_empty() {
         let outcome = decode(rest, opened.constants.len()).and_then(|(instruction, length)| {
+            if misplaced(&instruction, work.finished.len(), &standings) {
+                return Err(MISPLACED);
+            }
             work.lower(instruction, listing.len())?;
             Ok(length)
         });

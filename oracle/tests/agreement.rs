@@ -1,25 +1,26 @@
 //! The parts agree: points with prefixes, lists with their reader, and the claim about leftovers has teeth.
 
-use oracle::claim::{random_trial, try_one, Trial};
+use oracle::claim::{pair, random_trial, try_one, Trial};
 use oracle::format::*;
 use oracle::machine::{Machine, Reference};
 use oracle::names::uni;
 use oracle::player::Played;
-use oracle::random::{parts, Parts, Rng};
+use oracle::random::{parts, woven, Parts, Rng};
 use oracle::reference::{lower, lower_with_points, Answer};
 use oracle::{boundary, lists, make, random};
 
 #[test]
 fn points_are_the_ends_of_prefixes() {
     let mut rng = Rng(5);
-    for _ in 0..300 {
-        let sheet = parts(&mut rng, 10);
+    for turn in 0..300 {
+        let straight = parts(&mut rng, 10);
+        let sheet = if turn % 2 == 0 { straight } else { woven(&mut rng, &straight) };
         let (mut listing, mut constants) = (vec![0; LISTING_LIMIT], vec![0; TABLE]);
         let (_, points) = lower_with_points(&sheet.sheet(), &mut listing, &mut constants);
         for (count, point) in points.iter().enumerate() {
             let mut shorter = vec![0; LISTING_LIMIT];
-            let answer = lower(&sheet.prefix(count), &mut shorter, &mut [0; TABLE]);
-            assert_eq!((answer.number, answer.index), (0, count as u64));
+            let answer = lower(&sheet.cut(count), &mut shorter, &mut [0; TABLE]);
+            assert_eq!((answer.number, answer.index), (UNKNOWN, count as u64));
             assert_eq!(answer.written as usize, point.bytes);
             assert_eq!(answer.realness, point.realness);
             assert_eq!(shorter[..point.bytes], listing[..point.bytes]);
@@ -31,16 +32,26 @@ fn points_are_the_ends_of_prefixes() {
 #[test]
 fn the_claim_holds_on_random_sheets() {
     let mut rng = Rng(11);
-    for _ in 0..1000 {
-        let (_, trial) = random_trial(&Reference, &mut rng);
-        assert!(!matches!(trial, Trial::Fails(_)), "{trial:?}");
+    let (mut jumped, mut past_halves, mut not_reached) = (0, 0, 0);
+    for turn in 0..4000 {
+        let (_, trial) = random_trial(&Reference, turn % 4 != 0, &mut rng);
+        match trial {
+            Trial::Fails(text) => panic!("{text}"),
+            Trial::NotReached => not_reached += 1,
+            Trial::Holds { passed, past_half } => {
+                jumped += u64::from(passed > 0);
+                past_halves += u64::from(past_half);
+            }
+            _ => {}
+        }
     }
+    assert!(jumped > 200 && past_halves > 0 && not_reached > 50, "{jumped}, {past_halves}, {not_reached}");
 }
 
 /// How many of some random trials fail.
 fn failures(machine: &impl Machine) -> usize {
     let mut rng = Rng(17);
-    (0..300).filter(|_| matches!(random_trial(machine, &mut rng).1, Trial::Fails(_))).count()
+    (0..600).filter(|turn| matches!(random_trial(machine, turn % 2 == 0, &mut rng).1, Trial::Fails(_))).count()
 }
 
 /// The reference, but every register is recorded as real.
@@ -80,6 +91,84 @@ fn the_claim_fails_where_it_should() {
     assert!(failures(&Untidy) > 100, "{}", failures(&Untidy));
 }
 
+/// Lowering without 10 and 11: the other instructions by the reference, labels and branches put between as they list themselves.
+struct NoLabelRules;
+
+impl Machine for NoLabelRules {
+    fn lower(&self, sheet: &[u8], listing: &mut [u8], constants: &mut [u64]) -> Answer {
+        let mut straight = Parts { head: sheet[..HEADER_LENGTH].to_vec(), instructions: Vec::new() };
+        let mut jumps: Vec<(usize, Vec<u8>)> = Vec::new();
+        for record in records(&sheet[HEADER_LENGTH..]) {
+            let own = straight.instructions.len();
+            match two(record, 2) {
+                CONSTANT if own == 0 => straight.head.extend(record),
+                LABEL | BRANCH => jumps.push((own, record.to_vec())),
+                BRANCH_IF => jumps.push((own, make::branch_if(pair(record[4]).0 as u8, record[5], record[6]))),
+                _ => straight.instructions.push(record.to_vec()),
+            }
+        }
+        let mut own = vec![0; LISTING_LIMIT];
+        let (mut answer, points) = lower_with_points(&straight.sheet(), &mut own, constants);
+        jumps.retain(|(at, _)| *at as u64 <= answer.index);
+        let mut bytes = own[..answer.written as usize].to_vec();
+        for (at, record) in jumps.iter().rev() {
+            bytes.splice(points[*at].bytes..points[*at].bytes, record.iter().copied());
+        }
+        listing[..bytes.len()].copy_from_slice(&bytes);
+        answer.index += jumps.len() as u64;
+        answer.written = bytes.len() as u64;
+        answer
+    }
+
+    fn play(&self, listing: &[u8], constants: &[u64], store: &mut [u64], start: u64) -> Played {
+        Reference.play(listing, constants, store, start)
+    }
+}
+
+/// Register 2 is real at the branch and complex at the label, where its imaginary half is saved.
+#[test]
+fn the_claim_needs_equal_records_at_labels() {
+    let head = make::sheet(false, &[0; 64], &[7], &[]);
+    let row = |second: Vec<u8>| {
+        let instructions =
+            vec![make::load_const(2, 0), make::branch_if(1, 3, 0), second, make::label(3), make::save(2, MEM, 1)];
+        Parts { head: head.clone(), instructions }
+    };
+    let store = vec![3; STORE];
+    let (unequal, equal) = (row(make::load(2, MEM, 0)), row(make::load_const(2, 0)));
+    assert_eq!(try_one(&Reference, &unequal, &store, 1, &mut Rng(1)), Trial::Refused);
+    assert!(matches!(try_one(&NoLabelRules, &unequal, &store, 1, &mut Rng(1)), Trial::Fails(_)));
+    assert_eq!(try_one(&NoLabelRules, &unequal, &store, 3, &mut Rng(1)), Trial::Holds { passed: 0, past_half: false });
+    let holds = Trial::Holds { passed: 1, past_half: false };
+    assert_eq!(try_one(&Reference, &equal, &store, 1, &mut Rng(1)), holds);
+    assert_eq!(try_one(&NoLabelRules, &equal, &store, 1, &mut Rng(1)), holds);
+}
+
+/// What a taken branch jumps over is not reached: no claim is made there, and a Half there is none still to be played.
+#[test]
+fn points_and_halves_that_are_jumped_over() {
+    let head = make::sheet(false, &[0; 64], &[7], &[]);
+    let instructions = vec![
+        make::load_const(0, 0),
+        make::branch_if(1, 3, 1),
+        make::nop(),
+        make::uni(uni::HALF, 2, 0),
+        make::label(3),
+        make::save(2, MEM, 1),
+    ];
+    let sheet = Parts { head, instructions };
+    let trial = |condition: u64, point| {
+        let mut store = vec![3; STORE];
+        store[pair(1).0] = condition;
+        try_one(&Reference, &sheet, &store, point, &mut Rng(1))
+    };
+    assert_eq!(trial(0, 1), Trial::Holds { passed: 2, past_half: true });
+    assert_eq!((trial(0, 2), trial(0, 3)), (Trial::NotReached, Trial::NotReached));
+    assert_eq!(trial(0, 4), Trial::Holds { passed: 0, past_half: false });
+    assert_eq!((trial(1, 1), trial(1 << 63, 3)), (Trial::Half, Trial::Half));
+    assert_eq!(trial(1, 4), Trial::Holds { passed: 0, past_half: false });
+}
+
 #[test]
 fn a_half_of_a_real_register_is_told_apart() {
     let head = make::sheet(false, &[0; 64], &[7], &[]);
@@ -87,7 +176,8 @@ fn a_half_of_a_real_register_is_told_apart() {
     let sheet = Parts { head, instructions };
     let store = vec![3; STORE];
     let trial = |point| try_one(&Reference, &sheet, &store, point, &mut Rng(1));
-    assert_eq!((trial(0), trial(1), trial(2)), (Trial::Half, Trial::Half, Trial::Holds));
+    let holds = Trial::Holds { passed: 0, past_half: false };
+    assert_eq!((trial(0), trial(1), trial(2)), (Trial::Half, Trial::Half, holds));
 }
 
 /// Reads a list back: numbers and slices in turn.

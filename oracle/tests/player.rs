@@ -121,7 +121,10 @@ fn refused_records() {
     one(make::bi(bi::AND_NOT, 1, 2, 3), UNKNOWN);
     one(make::fused(1, 1, 2, 3, 4), UNKNOWN);
     one(make::complex_bi(4, [1; 6]), UNKNOWN);
-    one(make::call(3), UNKNOWN);
+    one(make::raw(18, &[0; 3]), UNKNOWN);
+    one(make::branch_if(66, 3, 2), UNKNOWN);
+    one(make::branch_if(66, 3, 1), REGISTER);
+    one(make::call(3), STRAY);
     one(make::mov(65, 66), REGISTER);
     one(make::load(1, 3, 0), PLACE);
     one(make::load_complex(1, 2, PARAM, 256), PLACE);

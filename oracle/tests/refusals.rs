@@ -87,7 +87,7 @@ fn torn_records() {
 
 #[test]
 fn unknown_work() {
-    for kind in [11, 13, 14, 17, 32, 33, 255, 256, 257, 266] {
+    for kind in [11, 12, 13, 16, 18, 32, 33, 255, 256, 257, 266, 270] {
         assert_eq!(refusal(&then(&make::raw(kind, &[0; 3]))), (UNKNOWN, 1));
     }
     for op in [20, 21, 255] {

@@ -96,15 +96,14 @@ fn numbers(words: &[&str]) -> Vec<u64> {
     words.iter().map(|one| one.parse().unwrap()).collect()
 }
 
-#[test]
-fn plays() {
-    let text = shelf();
-    let constants = [word(between(&text, "one constant, ", ","))];
-    let before = with(vec![0; STORE], between(&text, "zeros but for words", "of the listing"));
-    let after = with(before.clone(), between(&text, "and leaves words", "all others"));
-    let listing = bytes(between(&text, "(hexadecimal):", "From start 0"));
-    let whole: Vec<&str> = between(&text, "number, index, played =", "and leaves").split_whitespace().collect();
-    let mut rows = items(between(&text, "it gives number, index, played:", ""));
+/// A listing of section 8 with its plays, in the text behind "Then plays".
+fn plays_of(text: &str) {
+    let constants = [word(between(text, "one constant, ", ","))];
+    let before = with(vec![0; STORE], between(text, "zeros but for words", "of the listing"));
+    let after = with(before.clone(), between(text, "and leaves words", "all others"));
+    let listing = bytes(between(text, "(hexadecimal):", "From start 0"));
+    let whole: Vec<&str> = between(text, "number, index, played =", "and leaves").split_whitespace().collect();
+    let mut rows = items(between(text, "it gives number, index, played:", ""));
     assert!(rows.len() >= 20);
     rows.push((vec!["start", "0"], whole));
     for (left, right) in rows {
@@ -123,6 +122,14 @@ fn plays() {
             assert_eq!(store, before);
         }
     }
+}
+
+#[test]
+fn plays() {
+    let text = shelf();
+    let listings: Vec<&str> = text.split("Then plays").skip(1).collect();
+    assert_eq!(listings.len(), 2);
+    listings.into_iter().for_each(plays_of);
 }
 
 /// The bytes at the start of each line of an example; other words end them.

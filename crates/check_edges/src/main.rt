@@ -76,6 +76,13 @@ fn instruction_name(i: Instruction) {
             s1: _,
             idx: _,
         } => text(b"LoadConstMath"),
+        Instruction::Label(_) => text(b"Label"),
+        Instruction::Branch(_) => text(b"Branch"),
+        Instruction::BranchIf {
+            cond: _,
+            label: _,
+            is_else: _,
+        } => text(b"BranchIf"),
     }
 }
 
@@ -137,6 +144,11 @@ fn record_name(r: Record) {
         Record::Label(_) => text(b"Label"),
         Record::Branch(_) => text(b"Branch"),
         Record::Call(_) => text(b"Call"),
+        Record::BranchIf {
+            cond: _,
+            label: _,
+            is_else: _,
+        } => text(b"BranchIf"),
     }
 }
 
@@ -232,6 +244,9 @@ fn sheet_kinds() {
     kind_of(false, 8, 10);
     kind_of(false, 9, 10);
     kind_of(false, 10, 9);
+    kind_of(false, 14, 5);
+    kind_of(false, 15, 5);
+    kind_of(false, 17, 7);
 }
 
 fn listing_kinds() {
@@ -249,6 +264,7 @@ fn listing_kinds() {
     kind_of(true, 14, 5);
     kind_of(true, 15, 5);
     kind_of(true, 16, 5);
+    kind_of(true, 17, 7);
 }
 
 fn tails() {
@@ -264,12 +280,13 @@ fn other_kinds() {
     in_listing(b"kind 0", b"\x04\x00\x00\x00");
     in_listing(b"kind 9", b"\x0a\x00\x09\x00\x00\x00\x00\x00\x00\x00");
     in_listing(b"kind 10", b"\x09\x00\x0a\x00\x00\x00\x00\x00\x00");
-    in_both(b"kind 17", b"\x05\x00\x11\x00\x00");
+    in_sheet(b"kind 16", b"\x05\x00\x10\x00\x01");
+    in_both(b"kind 18", b"\x05\x00\x12\x00\x00");
     in_both(b"kind 32", b"\x05\x00\x20\x00\x00");
     in_both(b"kind 33", b"\x05\x00\x21\x00\x00");
     in_both(b"kind 256", b"\x04\x00\x00\x01");
     in_both(b"kind 259", b"\x06\x00\x03\x01\x00\x00");
-    in_both(b"kind 17 past the end", b"\x06\x00\x11\x00\x00");
+    in_both(b"kind 18 past the end", b"\x06\x00\x12\x00\x00");
 }
 
 fn registers() {
@@ -317,10 +334,23 @@ fn operations() {
     in_both(b"Fused MulSub", b"\x09\x00\x07\x00\x01\x00\x00\x00\x00");
     in_both(b"Fused 4", b"\x09\x00\x07\x00\x04\x00\x00\x00\x00");
     in_sheet(b"LoadMath 4", b"\x0a\x00\x09\x00\x04\x00\x00\x00\x00\x00");
-    in_listing(b"Label 2", b"\x05\x00\x0e\x00\x02");
-    in_listing(b"Label 3", b"\x05\x00\x0e\x00\x03");
-    in_listing(b"Branch 3", b"\x05\x00\x0f\x00\x03");
+}
+
+fn labels() {
+    in_both(b"Label 2", b"\x05\x00\x0e\x00\x02");
+    in_both(b"Label 3", b"\x05\x00\x0e\x00\x03");
+    in_both(b"Label 255", b"\x05\x00\x0e\x00\xff");
+    in_both(b"Branch 2", b"\x05\x00\x0f\x00\x02");
+    in_both(b"Branch 3", b"\x05\x00\x0f\x00\x03");
     in_listing(b"Call 3", b"\x05\x00\x10\x00\x03");
+    in_both(b"BranchIf to 3", b"\x07\x00\x11\x00\x1f\x03\x01");
+    in_both(b"BranchIf to 2", b"\x07\x00\x11\x00\x1f\x02\x00");
+    in_both(b"BranchIf with 2", b"\x07\x00\x11\x00\x1f\x03\x02");
+    in_both(b"BranchIf of register 66", b"\x07\x00\x11\x00\x42\x03\x01");
+    in_both(
+        b"BranchIf of register 66 with 2",
+        b"\x07\x00\x11\x00\x42\x03\x02",
+    );
 }
 
 // Of one constant, and where two rules are broken at once.
@@ -457,6 +487,7 @@ fn main() {
     registers();
     places();
     operations();
+    labels();
     constants_and_order();
     headers();
     single_constants();

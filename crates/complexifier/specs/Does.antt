@@ -7,11 +7,11 @@ use mathlib.Core.List.{List, map}
 use Rattle.mir.specs.declared.records.Loc.{Loc}
 use Rattle.mir.specs.declared.records.Work.{Work}
 use Rattle.mir.specs.declared.records.Record.{Record}
-use Rattle.mir.specs.Encode.{Buf}
+use Rattle.mir.specs.Encode.{Buf, pushed}
 use Rattle.lowering.specs.declared.realness.Realness.{Realness}
 use Rattle.lowering.specs.Realness.{isRealReg, isRealLoc, setReg}
 use Rattle.lowering.specs.Lines.{loadLines}
-use Rattle.lowering.specs.Complexifier.{State, Out, withReal, then, emit, byOne, byTwo, loadFrom}
+use Rattle.lowering.specs.Complexifier.{State, Out, withReal, then, directed, emit, byOne, byTwo, loadFrom}
 use Rattle.lines.specs.Lists.{Lists, pushAll, pushAll-append}
 use Rattle.complexifier.specs.declared.state.Complexifier.{Complexifier}
 
@@ -42,6 +42,11 @@ _▸_ {b} {c} {d} {s} {t} {u} {f} {g} p q =
           ∙ simp pushAll-append;
       kept = λ k. q .kept k ∙ ap (λ x. g x .after) (p .kept k);
     }
+
+-- one record that directs the play, and nothing recorded
+pub directs : {b c : Buf} {s : Complexifier} (r : Record) → c ≡ pushed b r → Does b s (directed r) c s
+unfolding directed
+directs r e = record { listed = λ k. e; kept = λ k. refl }
 
 -- the lines of a method, and what it records for a register
 module _ {b c : Buf} {s t : Complexifier} where

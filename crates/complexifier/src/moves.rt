@@ -1,7 +1,7 @@
-// Moves, places, and the call of the root block.
+// Moves, places, the call of the root block, and the labels and branches of a sheet.
 ghost use Rattle.mir.specs.Encode.{buf};
 ghost use Rattle.complexifier.specs.Does.{Does};
-ghost use Rattle.lowering.specs.Complexifier.{ensureComplex, fmov, loadConst, loadFrom, saveTo, callRoot};
+ghost use Rattle.lowering.specs.Complexifier.{ensureComplex, fmov, loadConst, loadFrom, saveTo, callRoot, setLabel, branch, branchIf};
 use super::state::Complexifier;
 use super::state::Listed;
 use lines::emit::call;
@@ -12,6 +12,10 @@ use lines::moves::load_lines;
 use lines::moves::save_lines;
 use mir::records::Loc;
 use mir::registers::RET;
+use mir::registers::re;
+use mir::writer::push_branch;
+use mir::writer::push_branch_if;
+use mir::writer::push_label;
 
 impl Complexifier {
     pub fn ensure_complex(self, out: &mut [u8], at: usize, d: u8) -> Listed
@@ -81,5 +85,27 @@ impl Complexifier {
             low: self.set_reg_complex(RET),
             at: n,
         }
+    }
+
+    pub fn set_label(self, out: &mut [u8], at: usize, label: u8) -> Listed
+        ensures { λ r. ⌜ Does (buf (now (out .entry)) at) self (setLabel label) (buf (now (out .exit)) (r .at)) (r .low) ⌝ }
+    {
+        let n = push_label(out, at, label);
+        Listed { low: self, at: n }
+    }
+
+    pub fn branch(self, out: &mut [u8], at: usize, label: u8) -> Listed
+        ensures { λ r. ⌜ Does (buf (now (out .entry)) at) self (branch label) (buf (now (out .exit)) (r .at)) (r .low) ⌝ }
+    {
+        let n = push_branch(out, at, label);
+        Listed { low: self, at: n }
+    }
+
+    pub fn branch_if(self, out: &mut [u8], at: usize, cond: u8, label: u8, is_else: bool) -> Listed
+        ensures { λ r. ⌜ Does (buf (now (out .entry)) at) self (branchIf cond label «is_else») (buf (now (out .exit)) (r .at)) (r .low) ⌝ }
+    {
+        let c = re(cond);
+        let n = push_branch_if(out, at, c, label, is_else);
+        Listed { low: self, at: n }
     }
 }

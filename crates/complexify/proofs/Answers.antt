@@ -12,6 +12,7 @@ use Rattle.sheet.specs.Setup.{setup, constantsOf}
 use Rattle.sheet.specs.Instruction.{instructions}
 use Rattle.sheet.proofs.Setting.{Right, right, length-constants}
 use Rattle.lowering.specs.Realness.{fresh}
+use Rattle.lowering.specs.Labels.{noneStanding}
 use Rattle.lowering.specs.Lower.{lowerFrom, lowerSheet}
 use Rattle.complexifier.specs.declared.state.Complexifier.{Complexifier}
 use Rattle.complexifier.specs.Does.{state}
@@ -79,7 +80,7 @@ module _ (sheet listing constants : List ℕ) (x : Setup) (e : x ≡ setup sheet
     pub answering : {constants₁ listing' constants' : List ℕ} {low : Complexifier} {a : Answer}
         → constants₁ ≡ sets constants 0 (constantsOf sheet (x .count))
         → low ≡ record { real = fresh (x .places); «root_defined» = false }
-        → Ran (left (x .mode) (length listing) (x .count) sheet listing constants₁ (beginning low)) listing constants₁ (beginning low) listing' constants' a
+        → Ran (left (x .mode) (length listing) (x .count) sheet noneStanding listing constants₁ (beginning low)) listing constants₁ (beginning low) listing' constants' a
         → Answered sheet listing constants a listing' constants'
     unfolding lowerSheet
     answering {constants₁} {listing'} {constants'} {low} {a} k h r =
@@ -89,20 +90,20 @@ module _ (sheet listing constants : List ℕ) (x : Setup) (e : x ≡ setup sheet
           words = kept-sets constants constants' 0 (a .count) kept ∙ ap (sets constants 0) (sym (r .consts) ∙ ap (λ w. w .state .consts) whole) ∙ sym (simp rightly);
         }
       where
-        whole : left (x .mode) (length listing) (x .count) sheet listing constants₁ (beginning low) ≡ lowerSheet sheet (length listing)
+        whole : left (x .mode) (length listing) (x .count) sheet noneStanding listing constants₁ (beginning low) ≡ lowerSheet sheet (length listing)
         whole =
-            ap (λ low. left (x .mode) (length listing) (x .count) sheet listing constants₁ (beginning low)) h
+            ap (λ low. left (x .mode) (length listing) (x .count) sheet noneStanding listing constants₁ (beginning low)) h
             ∙ ap
             (λ k.
             let rest = drop (x .start) sheet in
             let d = instructions (x .count) rest in
-            lowerFrom (x .mode) (length listing) (d .items) (d .fault) rest 0 [] (record { real = fresh (x .places); rootDefined = false; consts = k }))
+            lowerFrom (x .mode) (length listing) (d .items) (d .fault) rest noneStanding 0 [] (record { real = fresh (x .places); rootDefined = false; consts = k }))
             (first k)
             ∙ ap
             (λ y.
             let rest = drop (y .start) sheet in
             let d = instructions (y .count) rest in
-            lowerFrom (y .mode) (length listing) (d .items) (d .fault) rest 0 []
+            lowerFrom (y .mode) (length listing) (d .items) (d .fault) rest noneStanding 0 []
             (record { real = fresh (y .places); rootDefined = false; consts = constantsOf sheet (y .count) }))
             e
 

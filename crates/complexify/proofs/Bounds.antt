@@ -174,6 +174,10 @@ small-define true m = more tt nothing
 small-define false true = record { few = λ s. omega arith; room = λ s. space-exponent (s .consts) }
 small-define false false = record { few = λ s. omega arith; room = λ s. omega arith }
 
+small-directed : (r : Record) → Small 1 (c.directed r)
+unfolding c.directed
+small-directed r = record { few = λ s. omega arith; room = λ s. omega arith }
+
 small-call : Small 1 c.callRoot
 unfolding c.callRoot
 small-call = record { few = λ s. omega arith; room = λ s. omega arith }
@@ -301,6 +305,9 @@ small m (Instruction.Fused op d a b k) = small-fused op d a b k
 small m (Instruction.IfElse d a b p) = more tt (small-ifelse d a b p)
 small m (Instruction.LoadMath op d a p) = more tt (both (small-load Temp p) (small-arith m op d a Temp))
 small m (Instruction.LoadConstMath op d a i) = more tt (both (small-loadConst Temp i) (small-arith m op d a Temp))
+small m (Instruction.Label k) = more tt (small-directed (Record.Label k))
+small m (Instruction.Branch k) = more tt (small-directed (Record.Branch k))
+small m (Instruction.BranchIf k l e) = more tt (small-directed (Record.BranchIf (re k) l e))
 
 -- ---- bytes
 
@@ -320,6 +327,7 @@ encode-few (Record.Work (Work.ComplexBi op xd yd x1 y1 x2 y2)) = omega arith
 encode-few (Record.Label k) = omega arith
 encode-few (Record.Branch k) = omega arith
 encode-few (Record.Call k) = omega arith
+encode-few (Record.BranchIf k l e) = omega arith
 
 encoded-few : (rs : List Record) → length (encodeAll rs) ≤ 11 * length rs
 encoded-few [] = omega arith

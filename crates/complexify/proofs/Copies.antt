@@ -2,21 +2,12 @@
 use Prim.Native.Nat.{ℕ, zero, suc, _+_, _-_, _≤_, _<_}
 use mathlib.Core.Path.{_≡_, refl, sym, ap, _∙_}
 use mathlib.Core.List.{List, _++_}
-use native.Mathlib.Nat.{zero-add, add-zero, add-suc, suc-add}
+use native.Mathlib.Nat.{add-zero, add-suc, suc-add}
 use native.Mathlib.Omega.{arith}
 use lib.ListN.{length, take, drop, getD, set, length-append, length-take, take-append-drop}
 use lib.Seq.{sets, sets-eq, length-sets, take-at, drop-at, drop-drop}
-use Rattle.words.proofs.Copying.{turn}
 use Rattle.sheet.specs.Setup.{constantAt, constantsFromOn}
 use Rattle.complexify.specs.Taken.{Appended}
-
--- a turn that stores from the beginning on
-pub stored : (l b : List ℕ) (i : ℕ) {v : ℕ} → v ≡ getD b i 0 → i < length b
-    → sets (set l i v) (0 + (i + 1)) (drop (i + 1) b) ≡ sets l (0 + i) (drop i b)
-stored l b i {v} e h =
-    ap (λ x. sets (set l i x) (0 + (i + 1)) (drop (i + 1) b)) e
-    ∙ ap (λ n. sets (set l n (getD b i 0)) (0 + (i + 1)) (drop (i + 1) b)) (sym (zero-add i))
-    ∙ sym (turn l b 0 i h)
 
 -- the constants of a sheet, one by one
 module _ (s : List ℕ) where

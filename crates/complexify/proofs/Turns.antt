@@ -1,7 +1,7 @@
 -- One turn of lowering, and the loop over all of them: what is left to do from where lowering stands is the whole answer.
 use Prim.Native.Nat.{ℕ, suc, _+_, _-_, _≤_, _<_}
 use mathlib.Core.Path.{_≡_, refl, sym, ap, _∙_, subst}
-use mathlib.Core.Bool.{Bool, true, false, cond}
+use mathlib.Core.Bool.{Bool, true, false, cond, true≢false, _||_}
 use mathlib.Core.List.{List, [], _∷_, _++_}
 use native.Mathlib.Numerals.{add-one}
 use native.Mathlib.Omega.{arith}
@@ -13,13 +13,21 @@ use Rattle.mir.specs.declared.records.Instruction.{Instruction}
 use Rattle.mir.specs.Encode.{Buf, buf, encodeAll}
 use Rattle.mir.proofs.Passing.{either}
 use Rattle.mir.proofs.Decoding.{Here, Done}
-use Rattle.mir.specs.Decode.{Decoded, decoded}
+use Rattle.mir.specs.Read.{got}
+use Rattle.mir.specs.Field.{wordAt}
+use Rattle.mir.specs.Decode.{readAt, Decoded, decoded}
+use Rattle.mir.proofs.Passing.{then, got-same}
 use Rattle.sheet.specs.declared.setup.Mode.{Mode}
+use Rattle.sheet.specs.declared.reader.NextInstruction.{NextInstruction}
 use Rattle.sheet.specs.Setup.{isStable}
-use Rattle.sheet.specs.Instruction.{instructionFrom}
+use Rattle.sheet.specs.Instruction.{instructionFrom, instructionAt, asNext}
+use Rattle.lowering.specs.declared.realness.Realness.{Realness}
 use Rattle.lowering.specs.Complexifier.{State}
 use Rattle.lowering.specs.Rerun.{rerun}
+use Rattle.lowering.specs.Labels as Labels
+use Rattle.lowering.specs.Labels.{Role, role, Standing, noneStanding, sees, later, misplaced, unequal, passed}
 use Rattle.lowering.specs.Lower.{Ended, ended, past, lowerFrom, barred}
+use Rattle.lowering.proofs.Ahead.{labelIn, seen-first}
 use Rattle.lines.proofs.Fitting.{pushAll-fits}
 use Rattle.complexifier.specs.Does.{state}
 use Rattle.complexify.specs.declared.entry.Answer.{Answer}
@@ -28,35 +36,98 @@ use Rattle.complexify.specs.declared.turn.Cursor.{Cursor}
 use Rattle.complexify.specs.declared.turn.Next.{Next}
 use Rattle.complexify.specs.Entry.{answerOf}
 use Rattle.rerun.specs.Ends.{Ends, tabled, untabled}
-use Rattle.complexify.specs.Taken.{space, Ready, Appended, endedAt, goesOn, left, refusal, finished, full, Finished, Fits, Extended, LoweredOne, Taken, Ran}
+use Rattle.refusals.specs.Noted.{Noted}
+use Rattle.complexify.specs.Taken.{space, Ready, Appended, endedAt, goesOn, left, refusal, finished, full, Finished, Fits, Extended, LoweredOne, Goes, Taken, Ran}
 use Rattle.complexify.proofs.Bounds.{staged, spaced}
 use Rattle.complexify.proofs.Copies.{taken, kept-store, kept-none, kept-then}
+use Rattle.refusals.proofs.Marking.{standsAt, SeenFirst, labelRefusal, Follows}
 
 no : {X : Type 0} → true ≡ false → X
 no e = absurd (subst T e tt)
 
--- ---- the definition's three ways
+-- ---- the definition's ways
 
-module _ (mode : Mode) (room : ℕ) (i : Instruction) (is : List Instruction) (fault : ℕ) (rest : List ℕ) (index : ℕ) (bytes : List ℕ) (s : State) where
-  lower-barred : barred (isStable mode) i (s .real) ≡ true → lowerFrom mode room (i ∷ is) fault rest index bytes s ≡ ended 6 index bytes s
+-- no label and no branch is barred
+pub unbarred : (b : Standing) (stable : Bool) (i : Instruction) (ρ : Realness) → unequal (role i) b ρ ≡ true → barred stable i ρ ≡ false
+unfolding role unequal barred
+unbarred b stable Instruction.Nop ρ e = refl
+unbarred b stable (Instruction.Uni op d a) ρ e = absurd (true≢false (sym e))
+unbarred b stable (Instruction.Bi op d x y) ρ e = absurd (true≢false (sym e))
+unbarred b stable (Instruction.Mov d a) ρ e = refl
+unbarred b stable (Instruction.Load d p) ρ e = refl
+unbarred b stable (Instruction.Save a p) ρ e = refl
+unbarred b stable (Instruction.LoadConst d idx) ρ e = refl
+unbarred b stable (Instruction.Fused op d x y k) ρ e = absurd (true≢false (sym e))
+unbarred b stable (Instruction.IfElse d x y p) ρ e = refl
+unbarred b stable (Instruction.LoadMath op d a p) ρ e = absurd (true≢false (sym e))
+unbarred b stable (Instruction.LoadConstMath op d a idx) ρ e = refl
+unbarred b stable (Instruction.Label l) ρ e = refl
+unbarred b stable (Instruction.Branch l) ρ e = refl
+unbarred b stable (Instruction.BranchIf c l x) ρ e = refl
+
+module _ (mode : Mode) (room : ℕ) (i : Instruction) (is : List Instruction) (fault : ℕ) (rest : List ℕ) (b : Standing) (index : ℕ) (bytes : List ℕ) (s : State) where
+  lower-misplaced : misplaced (role i) b (past rest) ≡ true → lowerFrom mode room (i ∷ is) fault rest b index bytes s ≡ ended 10 index bytes s
   unfolding lowerFrom
-  lower-barred e = simp e
+  lower-misplaced m = rw m refl
 
-  lower-full : barred (isStable mode) i (s .real) ≡ false → room < length bytes + length (encodeAll (rerun mode i s .records))
-      → lowerFrom mode room (i ∷ is) fault rest index bytes s ≡ ended 7 index bytes s
-  unfolding lowerFrom
-  lower-full e h = simp (e, lt-ltb _ _ h)
+  module _ (m : misplaced (role i) b (past rest) ≡ false) where
+    lower-barred : barred (isStable mode) i (s .real) ≡ true → lowerFrom mode room (i ∷ is) fault rest b index bytes s ≡ ended 6 index bytes s
+    unfolding lowerFrom
+    lower-barred e = rw (m, e) refl
 
-  lower-on : barred (isStable mode) i (s .real) ≡ false → length bytes + length (encodeAll (rerun mode i s .records)) ≤ room
-      → lowerFrom mode room (i ∷ is) fault rest index bytes s
-      ≡ lowerFrom mode room is fault (past rest) (suc index) (bytes ++ encodeAll (rerun mode i s .records)) (rerun mode i s .after)
-  unfolding lowerFrom
-  lower-on e h = simp (e, le-ltb _ _ h)
+    lower-unequal : barred (isStable mode) i (s .real) ≡ false → unequal (role i) b (s .real) ≡ true
+        → lowerFrom mode room (i ∷ is) fault rest b index bytes s ≡ ended 11 index bytes s
+    unfolding lowerFrom
+    lower-unequal e u = rw (m, e, u) refl
 
-lower-end : (mode : Mode) (room fault : ℕ) (rest : List ℕ) (index : ℕ) (bytes : List ℕ) (s : State)
-    → lowerFrom mode room [] fault rest index bytes s ≡ ended fault index bytes s
+    module _ (e : barred (isStable mode) i (s .real) ≡ false) (u : unequal (role i) b (s .real) ≡ false) where
+      lower-full : room < length bytes + length (encodeAll (rerun mode i s .records))
+          → lowerFrom mode room (i ∷ is) fault rest b index bytes s ≡ ended 7 index bytes s
+      unfolding lowerFrom
+      lower-full h = rw (m, e, u, lt-ltb room (length bytes + length (encodeAll (rerun mode i s .records))) h) refl
+
+      lower-on : length bytes + length (encodeAll (rerun mode i s .records)) ≤ room
+          → lowerFrom mode room (i ∷ is) fault rest b index bytes s
+          ≡ lowerFrom mode room is fault (past rest) (passed (role i) (s .real) b) (suc index) (bytes ++ encodeAll (rerun mode i s .records)) (rerun mode i s .after)
+      unfolding lowerFrom
+      lower-on h = rw (m, e, u, le-ltb room (length bytes + length (encodeAll (rerun mode i s .records))) h) refl
+
+  -- a number of labels refuses, or none does
+  lower-label : (n : ℕ) → n ≡ labelRefusal (role i) b (past rest) (s .real) → (n ≡ 0 → ⊥)
+      → lowerFrom mode room (i ∷ is) fault rest b index bytes s ≡ ended n index bytes s
+  lower-label n e h =
+      either (misplaced (role i) b (past rest))
+      (λ m.
+      let k : n ≡ 10 = e ∙ ap (λ (q : Bool). cond q 10 (cond (unequal (role i) b (s .real)) 11 0)) m in
+      lower-misplaced m ∙ ap (λ n. ended n index bytes s) (sym k))
+      (λ m.
+      either (unequal (role i) b (s .real))
+      (λ u.
+      let k : n ≡ 11 = e ∙ ap (λ (q : Bool). cond q 10 (cond (unequal (role i) b (s .real)) 11 0)) m ∙ ap (λ (q : Bool). cond q 11 0) u in
+      lower-unequal m (unbarred b (isStable mode) i (s .real) u) u ∙ ap (λ n. ended n index bytes s) (sym k))
+      (λ u.
+      absurd (h (e ∙ ap (λ (q : Bool). cond q 10 (cond (unequal (role i) b (s .real)) 11 0)) m ∙ ap (λ (q : Bool). cond q 11 0) u))))
+
+-- neither 10 nor 11
+module _ (i : Role) (b : Standing) (behind : List ℕ) (ρ : Realness) (e : labelRefusal i b behind ρ ≡ 0) where
+  pub placed : misplaced i b behind ≡ false
+  placed =
+      either (misplaced i b behind)
+      (λ m. let z : _≡_ {A = ℕ} 10 0 = sym (ap (λ (q : Bool). cond q 10 (cond (unequal i b ρ) 11 0)) m) ∙ e in absurd (omega (arith, z)))
+      (λ m. m)
+
+  pub equal : unequal i b ρ ≡ false
+  equal =
+      either (unequal i b ρ)
+      (λ u.
+      let z : _≡_ {A = ℕ} 11 0 = sym (ap (λ (q : Bool). cond q 10 (cond (unequal i b ρ) 11 0)) placed ∙ ap (λ (q : Bool). cond q 11 0) u) ∙ e in
+      absurd (omega (arith, z)))
+      (λ u. u)
+
+lower-end : (mode : Mode) (room fault : ℕ) (rest : List ℕ) (b : Standing) (index : ℕ) (bytes : List ℕ) (s : State)
+    → lowerFrom mode room [] fault rest b index bytes s ≡ ended fault index bytes s
 unfolding lowerFrom
-lower-end mode room fault rest index bytes s = refl
+lower-end mode room fault rest b index bytes s = refl
 
 -- ---- a refused instruction
 
@@ -71,12 +142,13 @@ unchanged {stage} {listing} {constants} {p} number r =
 
 module _ {mode : Mode} {i : Instruction} {next : ℕ} {stage listing constants : List ℕ} {p : Cursor} (r : Ready stage listing constants p) where
   refusing : (number : ℕ)
-      → ((is : List Instruction) (fault : ℕ) (rest : List ℕ) → goesOn mode (length listing) (i ∷ is) fault rest listing constants p ≡ endedAt number listing constants p)
+      → ((is : List Instruction) (fault : ℕ) (rest : List ℕ) (b : Standing) → misplaced (role i) b (past rest) ≡ false → unequal (role i) b (p .low .real) ≡ false
+      → goesOn mode (length listing) (i ∷ is) fault rest b listing constants p ≡ endedAt number listing constants p)
       → LoweredOne mode i next listing constants p listing constants (refusal number p)
   refusing number h = record { same = h; at = no; index = no; turned = unchanged number r }
 
   pub turn-barred : barred (isStable mode) i (p .low .real) ≡ true → LoweredOne mode i next listing constants p listing constants (refusal 6 p)
-  turn-barred e = refusing 6 (λ is fault rest. lower-barred mode (length listing) i is fault rest _ _ _ e)
+  turn-barred e = refusing 6 (λ is fault rest b m u. lower-barred mode (length listing) i is fault rest b _ _ _ m e)
 
 -- ---- what a turn of `rerun` listed and added, copied
 
@@ -175,7 +247,9 @@ module _ (mode : Mode) (i : Instruction) {stage stage' listing constants : List 
 
   turn-full : (next : ℕ) → length listing - p .written < length bytes → LoweredOne mode i next listing constants p listing constants (refusal 7 p)
   turn-full next h =
-      refusing r 7 (λ is fault rest. lower-full mode (length listing) i is fault rest _ _ _ b (omega (arith, h, written-length, r .written)))
+      refusing r 7
+      (λ is fault rest before m u.
+      lower-full mode (length listing) i is fault rest before _ _ _ m b u (omega (arith, h, written-length, r .written)))
 
   turn-done : (next : ℕ) {listing' constants' : List ℕ} → length bytes ≤ length listing - p .written
       → listing' ≡ sets listing (p .written) bytes → constants' ≡ sets constants (p .count) words
@@ -189,10 +263,11 @@ module _ (mode : Mode) (i : Instruction) {stage stage' listing constants : List 
       let y : take (p .count + t .added .count) constants' ≡ take (p .count) constants ++ words
       = ap (λ n. take n constants') c ∙ ap (take (p .count + length words)) g ∙ taken constants words (p .count) fits in
       record {
-        same = λ is fault rest.
-            lower-on mode (length listing) i is fault rest (p .index) (take (p .written) listing) before b (omega (arith, room, written-length))
-            ∙ ap (λ s. lowerFrom mode (length listing) is fault (past rest) (suc (p .index)) (take (p .written) listing ++ bytes) s) (sym (e .kept))
-            ∙ sym (λ j. lowerFrom mode (length listing) is fault (past rest) (add-one (p .index) j) (x j) (state (t .low) (y j)));
+        same = λ is fault rest stood m u.
+            let next = passed (role i) (p .low .real) stood in
+            lower-on mode (length listing) i is fault rest stood (p .index) (take (p .written) listing) before m b u (omega (arith, room, written-length))
+            ∙ ap (λ s. lowerFrom mode (length listing) is fault (past rest) next (suc (p .index)) (take (p .written) listing ++ bytes) s) (sym (e .kept))
+            ∙ sym (λ j. lowerFrom mode (length listing) is fault (past rest) next (add-one (p .index) j) (x j) (state (t .low) (y j)));
         at = λ z. refl;
         index = λ z. add-one (p .index);
         turned = record {
@@ -240,39 +315,101 @@ cond-right true x y z f = refl
 cond-right false x y z f = f refl
 
 -- where no instruction stands, or one that is refused, nothing is left
-stopped : (mode : Mode) (room own : ℕ) (sheet listing constants : List ℕ) (p : Cursor) (k : ℕ) → Done (instructionFrom own) sheet (p .at) k
-    → left mode room own sheet listing constants p ≡ endedAt k listing constants p
-stopped mode room own sheet listing constants p k h =
+stopped : (mode : Mode) (room own : ℕ) (sheet : List ℕ) (b : Standing) (listing constants : List ℕ) (p : Cursor) (k : ℕ) → Done (instructionFrom own) sheet (p .at) k
+    → left mode room own sheet b listing constants p ≡ endedAt k listing constants p
+stopped mode room own sheet b listing constants p k h =
     let rest = drop (p .at) sheet in
     let d = decoded (instructionFrom own) rest in
-    ap (λ is. goesOn mode room is (d .fault) rest listing constants p) (h .same)
-    ∙ ap (λ f. goesOn mode room [] f rest listing constants p) (h .why)
-    ∙ lower-end mode room k _ _ _ _
+    ap (λ is. goesOn mode room is (d .fault) rest b listing constants p) (h .same)
+    ∙ ap (λ f. goesOn mode room [] f rest b listing constants p) (h .why)
+    ∙ lower-end mode room k _ _ _ _ _
 
-module _ {mode : Mode} {own : ℕ} {sheet listing constants : List ℕ} {p : Cursor} where
-  pub turn-got : {i : Instruction} {next : ℕ} {listing' constants' : List ℕ} {r : Next} → Here (instructionFrom own) sheet (p .at) i next
-      → past (drop (p .at) sheet) ≡ drop next sheet
-      → LoweredOne mode i next listing constants p listing' constants' r
-      → Taken mode own sheet listing constants p listing' constants' r
-  turn-got {i} {next} {listing'} {constants'} {r} h b l =
-      let d : ℕ → Decoded Instruction = λ at. decoded (instructionFrom own) (drop at sheet) in
-      record {
-        same =
-            ap (λ is. goesOn mode (length listing) is (d (p .at) .fault) (drop (p .at) sheet) listing constants p) (h .same)
-            ∙ ap (λ f. goesOn mode (length listing) (i ∷ d next .items) f (drop (p .at) sheet) listing constants p) (h .sound)
-            ∙ l .same (d next .items) (d next .fault) (drop (p .at) sheet)
-            ∙ cond-right (r .done) _ _ _
-            (λ z.
-            ap (λ rest. goesOn mode (length listing) (d next .items) (d next .fault) rest listing' constants' (r .stand)) b
-            ∙ ap (λ at. goesOn mode (length listing) (d at .items) (d at .fault) (drop at sheet) listing' constants' (r .stand)) (sym (l .at z)));
-        on = λ z. let a = l .at z in let o = h .on in omega (arith, a, o);
-        index = l .index;
-        turned = l .turned;
-      }
+-- the instruction that was read
+pub read-one : (own : ℕ) (sheet : List ℕ) (at : ℕ) {r : NextInstruction} {i : Instruction} {next : ℕ} → asNext r ≡ instructionAt own sheet at
+    → r ≡ NextInstruction.Got i next → instructionFrom own (drop at sheet) ≡ got i
+unfolding readAt
+read-one own sheet at {r} {i} {next} e f =
+    let t = then (instructionFrom own (drop at sheet)) (λ i. got (record { item = i; next = at + wordAt (drop at sheet) 0 }))
+    (record { item = i; next = next }) (sym e ∙ ap asNext f) in
+    t .found ∙ ap (λ y. got (y .item)) (got-same _ _ (t .rest))
+
+-- what looking ahead sees first
+pub seen : (own : ℕ) (rest : List ℕ) (i : Instruction) → instructionFrom own rest ≡ got i → SeenFirst (role i) rest
+seen own rest i e l = seen-first own l rest i e ∙ ap (λ (q : Bool). q || later l (past rest)) (by (role i))
+  where
+    by : (r : Role) → sees l (labelIn r) ≡ standsAt l r
+    by Labels.works = refl
+    by (Labels.labels m) = refl
+    by (Labels.branches m) = refl
+
+-- an instruction that stands at a position
+abbrev decodedAt : ℕ → List ℕ → ℕ → Decoded Instruction
+decodedAt own sheet at = decoded (instructionFrom own) (drop at sheet)
+
+stands-here : (mode : Mode) (own : ℕ) (sheet : List ℕ) (b : Standing) (listing constants : List ℕ) (p : Cursor) {i : Instruction} {next : ℕ}
+    → Here (instructionFrom own) sheet (p .at) i next
+    → left mode (length listing) own sheet b listing constants p
+    ≡ goesOn mode (length listing) (i ∷ decodedAt own sheet next .items) (decodedAt own sheet next .fault) (drop (p .at) sheet) b listing constants p
+stands-here mode own sheet b listing constants p {i} {next} h =
+    ap (λ is. goesOn mode (length listing) is (decodedAt own sheet (p .at) .fault) (drop (p .at) sheet) b listing constants p) (h .same)
+    ∙ ap (λ f. goesOn mode (length listing) (i ∷ decodedAt own sheet next .items) f (drop (p .at) sheet) b listing constants p) (h .sound)
+
+module _ {mode : Mode} {own : ℕ} {sheet listing constants marks rows : List ℕ} {p : Cursor} where
+  module _ {i : Instruction} {next : ℕ} {marks' rows' : List ℕ} {n : ℕ} (h : Here (instructionFrom own) sheet (p .at) i next)
+      (e : instructionFrom own (drop (p .at) sheet) ≡ got i) (w : Follows (role i) (p .low .real) marks rows marks' rows' n) where
+    pub turn-got : {listing' constants' : List ℕ} {r : Next} → past (drop (p .at) sheet) ≡ drop next sheet → n ≡ 0
+        → LoweredOne mode i next listing constants p listing' constants' r
+        → Taken mode own sheet listing constants marks rows p listing' constants' marks' rows' r
+    turn-got {listing'} {constants'} {r} g z l =
+        record {
+          goes = λ b t.
+              let rest = drop (p .at) sheet in
+              let f = seen own rest i e in
+              let o = sym (w .told b rest f t) ∙ z in
+              let after = passed (role i) (p .low .real) b in
+              record {
+                before = after;
+                same =
+                    stands-here mode own sheet b listing constants p h
+                    ∙ l .same (decodedAt own sheet next .items) (decodedAt own sheet next .fault) rest b (placed (role i) b (past rest) (p .low .real) o) (equal (role i) b (past rest) (p .low .real) o)
+                    ∙ cond-right (r .done) _ _ _
+                    (λ z.
+                    ap (λ rest. goesOn mode (length listing) (decodedAt own sheet next .items) (decodedAt own sheet next .fault) rest after listing' constants' (r .stand)) g
+                    ∙ ap (λ at. goesOn mode (length listing) (decodedAt own sheet at .items) (decodedAt own sheet at .fault) (drop at sheet) after listing' constants' (r .stand)) (sym (l .at z)));
+                noted = λ y.
+                    subst (λ rest. Noted after rest marks' rows') (g ∙ ap (λ at. drop at sheet) (sym (l .at y))) (w .noted b rest f t z);
+              };
+          on = λ z. let a = l .at z in let o = h .on in omega (arith, a, o);
+          index = l .index;
+          turned = l .turned;
+        }
+
+    -- 10 or 11 refuses it
+    pub turn-refused : {stage : List ℕ} → Ready stage listing constants p → (n ≡ 0 → ⊥)
+        → Taken mode own sheet listing constants marks rows p listing constants marks' rows' (refusal n p)
+    turn-refused r z =
+        record {
+          goes = λ b t.
+              let rest = drop (p .at) sheet in
+              record {
+                before = b;
+                same = stands-here mode own sheet b listing constants p h ∙ lower-label mode (length listing) i (decodedAt own sheet next .items) (decodedAt own sheet next .fault) rest b _ _ _ n (w .told b rest (seen own rest i e) t) z;
+                noted = no;
+              };
+          on = no;
+          index = no;
+          turned = unchanged n r;
+        }
 
   pub turn-torn : {stage : List ℕ} {k : ℕ} → Ready stage listing constants p → Done (instructionFrom own) sheet (p .at) k
-      → Taken mode own sheet listing constants p listing constants (refusal k p)
-  turn-torn {stage} {k} r h = record { same = stopped mode (length listing) own sheet listing constants p k h; on = no; index = no; turned = unchanged k r }
+      → Taken mode own sheet listing constants marks rows p listing constants marks rows (refusal k p)
+  turn-torn {stage} {k} r h =
+      record {
+        goes = λ b t. record { before = b; same = stopped mode (length listing) own sheet b listing constants p k h; noted = no };
+        on = no;
+        index = no;
+        turned = unchanged k r;
+      }
 
 -- the answer where the work ends
 ran : {whole : Ended} {listing constants : List ℕ} {start : Cursor} {listing' constants' : List ℕ} (number : ℕ) (p : Cursor) {a : Answer}
@@ -294,38 +431,47 @@ ran {whole} {listing} {constants} {start} {listing'} {constants'} number p {a} e
 -- ---- the loop
 
 -- what holds before each turn: what is left to do is the whole answer
-pub record Standing (mode : Mode) (own : ℕ) (sheet listing₀ constants₀ : List ℕ) (start : Cursor) (stage listing constants : List ℕ) (p : Cursor) : Type 0 where
+pub record Underway (mode : Mode) (own : ℕ) (sheet listing₀ constants₀ : List ℕ) (start : Cursor) (stage listing constants marks rows : List ℕ) (p : Cursor) : Type 0 where
   pub ready : Ready stage listing constants p
   pub index : p .index ≤ p .at
   pub bytes : Appended listing₀ (start .written) listing (p .written)
   pub words : Appended constants₀ (start .count) constants (p .count)
-  pub same : left mode (length listing₀) own sheet listing constants p ≡ left mode (length listing₀) own sheet listing₀ constants₀ start
+  pub before : Standing
+  pub noted : Noted before (drop (p .at) sheet) marks rows
+  pub same : left mode (length listing₀) own sheet before listing constants p ≡ left mode (length listing₀) own sheet noneStanding listing₀ constants₀ start
 
 module _ {mode : Mode} {own : ℕ} {sheet listing₀ constants₀ : List ℕ} {start : Cursor} where
-  pub standing-first : {stage : List ℕ} → Ready stage listing₀ constants₀ start → start .index ≤ start .at
-      → Standing mode own sheet listing₀ constants₀ start stage listing₀ constants₀ start
-  standing-first r h =
+  pub underway-first : {stage marks rows : List ℕ} → Ready stage listing₀ constants₀ start → start .index ≤ start .at
+      → Noted noneStanding (drop (start .at) sheet) marks rows
+      → Underway mode own sheet listing₀ constants₀ start stage listing₀ constants₀ marks rows start
+  underway-first r h t =
       record {
         ready = r;
         index = h;
         bytes = kept-none listing₀ (start .written) (r .written);
         words = kept-none constants₀ (start .count) (omega (arith, r .words, r .count));
+        before = noneStanding;
+        noted = t;
         same = refl;
       }
 
-  module _ {stage listing constants : List ℕ} {p : Cursor} (s : Standing mode own sheet listing₀ constants₀ start stage listing constants p) where
-    module _ {listing' constants' : List ℕ} {r : Next} (t : Taken mode own sheet listing constants p listing' constants' r) where
-      turned-same : left mode (length listing₀) own sheet listing constants p
-          ≡ cond (r .done) (endedAt (r .number) listing' constants' (r .stand)) (left mode (length listing₀) own sheet listing' constants' (r .stand))
+  module _ {stage listing constants marks rows : List ℕ} {p : Cursor} (s : Underway mode own sheet listing₀ constants₀ start stage listing constants marks rows p) where
+    module _ {listing' constants' marks' rows' : List ℕ} {r : Next} (t : Taken mode own sheet listing constants marks rows p listing' constants' marks' rows' r) where
+      gone : Goes mode own sheet (s .before) listing constants p listing' constants' marks' rows' r
+      gone = t .goes (s .before) (s .noted)
+
+      turned-same : left mode (length listing₀) own sheet (s .before) listing constants p
+          ≡ cond (r .done) (endedAt (r .number) listing' constants' (r .stand))
+          (left mode (length listing₀) own sheet (gone .before) listing' constants' (r .stand))
       turned-same =
           subst
-          (λ n. left mode n own sheet listing constants p
-          ≡ cond (r .done) (endedAt (r .number) listing' constants' (r .stand)) (left mode n own sheet listing' constants' (r .stand)))
-          (s .bytes .long) (t .same)
+          (λ n. left mode n own sheet (s .before) listing constants p
+          ≡ cond (r .done) (endedAt (r .number) listing' constants' (r .stand)) (left mode n own sheet (gone .before) listing' constants' (r .stand)))
+          (s .bytes .long) (gone .same)
 
-      pub standing-next : {stage' : List ℕ} → length stage' ≡ length stage → r .done ≡ false
-          → Standing mode own sheet listing₀ constants₀ start stage' listing' constants' (r .stand)
-      standing-next g e =
+      pub underway-next : {stage' : List ℕ} → length stage' ≡ length stage → r .done ≡ false
+          → Underway mode own sheet listing₀ constants₀ start stage' listing' constants' marks' rows' (r .stand)
+      underway-next g e =
           let a = t .turned .bytes in
           let b = t .turned .words in
           let q = s .ready in
@@ -343,16 +489,18 @@ module _ {mode : Mode} {own : ℕ} {sheet listing₀ constants₀ : List ℕ} {s
             index = omega (arith, i, o, s .index);
             bytes = kept-then (s .bytes) a;
             words = kept-then (s .words) b;
+            before = gone .before;
+            noted = gone .noted e;
             same = sym (turned-same ∙ on-false _ _ _ e) ∙ s .same;
           }
 
       pub ran-refused : {a : Answer} → r .done ≡ true
           → a ≡ record { number = r .number; index = r .stand .index; written = r .stand .written; count = r .stand .count; real = r .stand .low .real }
-          → Ran (left mode (length listing₀) own sheet listing₀ constants₀ start) listing₀ constants₀ start listing' constants' a
+          → Ran (left mode (length listing₀) own sheet noneStanding listing₀ constants₀ start) listing₀ constants₀ start listing' constants' a
       ran-refused e h =
           ran (r .number) (r .stand) (sym (s .same) ∙ turned-same ∙ on-true _ _ _ e) (kept-then (s .bytes) (t .turned .bytes)) (kept-then (s .words) (t .turned .words)) h
 
     pub ran-ended : {a : Answer} → Done (instructionFrom own) sheet (p .at) 0
         → a ≡ record { number = 0; index = p .index; written = p .written; count = p .count; real = p .low .real }
-        → Ran (left mode (length listing₀) own sheet listing₀ constants₀ start) listing₀ constants₀ start listing constants a
-    ran-ended d h = ran 0 p (sym (s .same) ∙ stopped mode (length listing₀) own sheet listing constants p 0 d) (s .bytes) (s .words) h
+        → Ran (left mode (length listing₀) own sheet noneStanding listing₀ constants₀ start) listing₀ constants₀ start listing constants a
+    ran-ended d h = ran 0 p (sym (s .same) ∙ stopped mode (length listing₀) own sheet (s .before) listing constants p 0 d) (s .bytes) (s .words) h

@@ -1,7 +1,7 @@
 -- Lowering and the lent slices: what is given back lies within them, no more bytes than the listing has room for and at most 256 constants.
 use Prim.Native.Nat.{ℕ, suc, _+_, _≤_}
-use mathlib.Core.Path.{_≡_, sym, subst}
-use mathlib.Core.Bool.{true}
+use mathlib.Core.Path.{_≡_, refl, sym, subst}
+use mathlib.Core.Bool.{Bool, true, false, cond}
 use mathlib.Core.List.{List, [], _∷_, _++_}
 use native.Mathlib.Omega.{arith}
 use borrow.Author.Tests.{eqb-true, ltb-false}
@@ -15,7 +15,8 @@ use Rattle.sheet.specs.Setup.{isStable, setup, constantsOf}
 use Rattle.sheet.specs.Instruction.{instructions}
 use Rattle.sheet.proofs.Setting.{right, length-constants}
 use Rattle.lowering.specs.Complexifier.{State}
-use Rattle.lowering.specs.Lower.{Ended, barred, past, lowerFrom, startState, lowerSheet}
+use Rattle.lowering.specs.Labels.{role, Standing, noneStanding, misplaced, unequal, passed}
+use Rattle.lowering.specs.Lower.{Ended, ended, barred, past, lowerFrom, startState, lowerSheet}
 use Rattle.lowering.specs.Rerun.{rerun}
 use Rattle.complexify.specs.declared.entry.Answer.{Answer}
 use Rattle.complexify.specs.Entry.{wrongSetup, answer}
@@ -27,21 +28,32 @@ record Held (room : ℕ) (e : Ended) : Type 0 where
   bytes : length (e .bytes) ≤ room
   words : space (e .state .consts) ≤ 256
 
-held : (m : Mode) (room : ℕ) (is : List Instruction) (fault : ℕ) (rest : List ℕ) (index : ℕ) (bytes : List ℕ) (s : State)
-    → length bytes ≤ room → space (s .consts) ≤ 256 → Held room (lowerFrom m room is fault rest index bytes s)
+held : (m : Mode) (room : ℕ) (is : List Instruction) (fault : ℕ) (rest : List ℕ) (b : Standing) (index : ℕ) (bytes : List ℕ) (s : State)
+    → length bytes ≤ room → space (s .consts) ≤ 256 → Held room (lowerFrom m room is fault rest b index bytes s)
 unfolding lowerFrom
-held m room [] fault rest index bytes s b k = record { bytes = b; words = k }
-held m room (i ∷ is) fault rest index bytes s b k =
-    either (barred (isStable m) i (s .real))
-    (λ t. simp t (record { bytes = b; words = k }))
-    (λ t.
-    either (ltb room (length bytes + length (encodeAll (rerun m i s .records))))
-    (λ u. simp (t, u) (record { bytes = b; words = k }))
-    (λ u.
-    let f = ltb-false room (length bytes + length (encodeAll (rerun m i s .records))) u in
-    let n = length-append bytes (encodeAll (rerun m i s .records)) in
+held m room [] fault rest b index bytes s h k = record { bytes = h; words = k }
+held m room (i ∷ is) fault rest b index bytes s h k =
+    go (misplaced (role i) b (past rest)) (barred (isStable m) i (s .real)) (unequal (role i) b (s .real)) (ltb room (length bytes + length new)) refl
+    (λ f.
+    let n = length-append bytes new in
     let r = spaced m i s in
-    simp (t, u) (held m room is fault (past rest) (suc index) (bytes ++ encodeAll (rerun m i s .records)) (rerun m i s .after) (omega (arith, f, n)) (omega (arith, r, k)))))
+    held m room is fault (past rest) (passed (role i) (s .real) b) (suc index) (bytes ++ new) (rerun m i s .after) (omega (arith, f, n)) (omega (arith, r, k)))
+  where
+    new : List ℕ
+    new = encodeAll (rerun m i s .records)
+
+    on : Ended
+    on = lowerFrom m room is fault (past rest) (passed (role i) (s .real) b) (suc index) (bytes ++ new) (rerun m i s .after)
+
+    by : Bool → Bool → Bool → Bool → Ended
+    by w x y z = cond w (ended 10 index bytes s) (cond x (ended 6 index bytes s) (cond y (ended 11 index bytes s) (cond z (ended 7 index bytes s) on)))
+
+    go : (w x y z : Bool) → ltb room (length bytes + length new) ≡ z → (length bytes + length new ≤ room → Held room on) → Held room (by w x y z)
+    go true x y z t f = record { bytes = h; words = k }
+    go false true y z t f = record { bytes = h; words = k }
+    go false false true z t f = record { bytes = h; words = k }
+    go false false false true t f = record { bytes = h; words = k }
+    go false false false false t f = f (ltb-false room (length bytes + length new) t)
 
 held-sheet : (sheet : List ℕ) (room : ℕ) → setup sheet .number ≡ 0 → Held room (lowerSheet sheet room)
 unfolding lowerSheet
@@ -52,7 +64,7 @@ held-sheet sheet room e =
     let own = constantsOf sheet (x .count) in
     let c = right sheet e .few in
     let n = length-constants sheet (x .count) 0 in
-    held (x .mode) room (d .items) (d .fault) rest 0 [] (startState (x .places) own) (omega arith) (space-start own (omega (arith, c, n)))
+    held (x .mode) room (d .items) (d .fault) rest noneStanding 0 [] (startState (x .places) own) (omega arith) (space-start own (omega (arith, c, n)))
 
 pub record Within (listing : List ℕ) (a : Answer) : Type 0 where
   pub written : a .written ≤ length listing

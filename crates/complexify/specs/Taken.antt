@@ -10,6 +10,7 @@ use Rattle.mir.specs.declared.records.Instruction.{Instruction}
 use Rattle.sheet.specs.declared.setup.Mode.{Mode}
 use Rattle.sheet.specs.Instruction.{instructions}
 use Rattle.lowering.specs.Complexifier.{position, MIN_POSITIVE, INFINITY, QUARTER, EXP_MASK_FINITE, FLOOR_FINITE}
+use Rattle.lowering.specs.Labels.{Standing, role, misplaced, unequal, passed}
 use Rattle.lowering.specs.Lower.{Ended, ended, past, lowerFrom}
 use Rattle.complexifier.specs.Does.{state}
 use Rattle.rerun.specs.declared.output.Output.{Output}
@@ -17,6 +18,7 @@ use Rattle.complexify.specs.declared.entry.Answer.{Answer}
 use Rattle.complexify.specs.declared.turn.Cursor.{Cursor}
 use Rattle.complexify.specs.declared.turn.Next.{Next}
 use Rattle.complexify.specs.Entry.{answerOf}
+use Rattle.refusals.specs.Noted.{Noted}
 
 -- the constants, with one place for each of the five that stable mode names and that are not there yet
 unfoldable pub absent : ℕ → List ℕ → ℕ
@@ -42,20 +44,20 @@ pub record Appended (l : List ℕ) (n : ℕ) (l' : List ℕ) (n' : ℕ) : Type 0
   pub long : length l' ≡ length l
   pub rest : drop n' l' ≡ drop n' l
 
--- what the work ends with where it ends here, and what it ends with from here on
+-- what the work ends with where it ends here, and what it ends with from here on, where b stand before
 abbrev pub endedAt : ℕ → List ℕ → List ℕ → Cursor → Ended
 endedAt number listing constants p =
     ended number (p .index) (take (p .written) listing) (state (p .low) (take (p .count) constants))
 
-abbrev pub goesOn : Mode → ℕ → List Instruction → ℕ → List ℕ → List ℕ → List ℕ → Cursor → Ended
-goesOn mode room is fault rest listing constants p =
-    lowerFrom mode room is fault rest (p .index) (take (p .written) listing) (state (p .low) (take (p .count) constants))
+abbrev pub goesOn : Mode → ℕ → List Instruction → ℕ → List ℕ → Standing → List ℕ → List ℕ → Cursor → Ended
+goesOn mode room is fault rest b listing constants p =
+    lowerFrom mode room is fault rest b (p .index) (take (p .written) listing) (state (p .low) (take (p .count) constants))
 
-abbrev pub left : Mode → ℕ → ℕ → List ℕ → List ℕ → List ℕ → Cursor → Ended
-left mode room own sheet listing constants p =
+abbrev pub left : Mode → ℕ → ℕ → List ℕ → Standing → List ℕ → List ℕ → Cursor → Ended
+left mode room own sheet b listing constants p =
     let rest = drop (p .at) sheet in
     let d = instructions own rest in
-    goesOn mode room (d .items) (d .fault) rest listing constants p
+    goesOn mode room (d .items) (d .fault) rest b listing constants p
 
 -- where lowering stands after a number refused the instruction, and after a finished one with these bytes
 abbrev pub refusal : ℕ → Cursor → Next
@@ -100,19 +102,26 @@ pub record Extended (listing constants : List ℕ) (p : Cursor) (listing' consta
   pub words : Appended constants (p .count) constants' (r .stand .count)
   pub space : space (take (r .stand .count) constants') ≤ 256
 
--- the instruction i lowered, whatever stands behind it
+-- the instruction i lowered, whatever stands before and behind it, where neither 10 nor 11 refuses it
 pub record LoweredOne (mode : Mode) (i : Instruction) (next : ℕ) (listing constants : List ℕ) (p : Cursor) (listing' constants' : List ℕ) (r : Next) : Type 0 where
-  pub same : (is : List Instruction) (fault : ℕ) (rest : List ℕ)
-      → goesOn mode (length listing) (i ∷ is) fault rest listing constants p
-      ≡ cond (r .done) (endedAt (r .number) listing' constants' (r .stand)) (goesOn mode (length listing) is fault (past rest) listing' constants' (r .stand))
+  pub same : (is : List Instruction) (fault : ℕ) (rest : List ℕ) (b : Standing) → misplaced (role i) b (past rest) ≡ false → unequal (role i) b (p .low .real) ≡ false
+      → goesOn mode (length listing) (i ∷ is) fault rest b listing constants p
+      ≡ cond (r .done) (endedAt (r .number) listing' constants' (r .stand))
+      (goesOn mode (length listing) is fault (past rest) (passed (role i) (p .low .real) b) listing' constants' (r .stand))
   pub at : r .done ≡ false → r .stand .at ≡ next
   pub index : r .done ≡ false → r .stand .index ≡ suc (p .index)
   pub turned : Extended listing constants p listing' constants' r
 
+-- the work from here on, where b stand before, is the work from there on, where `before` do
+pub record Goes (mode : Mode) (own : ℕ) (sheet : List ℕ) (b : Standing) (listing constants : List ℕ) (p : Cursor) (listing' constants' marks' rows' : List ℕ) (r : Next) : Type 0 where
+  pub before : Standing
+  pub same : left mode (length listing) own sheet b listing constants p
+      ≡ cond (r .done) (endedAt (r .number) listing' constants' (r .stand)) (left mode (length listing) own sheet before listing' constants' (r .stand))
+  pub noted : r .done ≡ false → Noted before (drop (r .stand .at) sheet) marks' rows'
+
 -- one turn
-pub record Taken (mode : Mode) (own : ℕ) (sheet listing constants : List ℕ) (p : Cursor) (listing' constants' : List ℕ) (r : Next) : Type 0 where
-  pub same : left mode (length listing) own sheet listing constants p
-      ≡ cond (r .done) (endedAt (r .number) listing' constants' (r .stand)) (left mode (length listing) own sheet listing' constants' (r .stand))
+pub record Taken (mode : Mode) (own : ℕ) (sheet listing constants marks rows : List ℕ) (p : Cursor) (listing' constants' marks' rows' : List ℕ) (r : Next) : Type 0 where
+  pub goes : (b : Standing) → Noted b (drop (p .at) sheet) marks rows → Goes mode own sheet b listing constants p listing' constants' marks' rows' r
   pub on : r .done ≡ false → p .at < r .stand .at
   pub index : r .done ≡ false → r .stand .index ≡ suc (p .index)
   pub turned : Extended listing constants p listing' constants' r

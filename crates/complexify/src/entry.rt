@@ -1,14 +1,17 @@
 // The lowering entry.
 ghost use mathlib.Core.Path.{_≡_};
 ghost use Prim.Native.Nat.{_<_, _≤_};
-ghost use lib.ListN.{length};
+ghost use lib.ListN.{length, drop};
+ghost use Rattle.lowering.specs.Labels.{noneStanding};
 ghost use Rattle.complexify.specs.Entry as Spec;
+ghost use Rattle.refusals.specs.Noted.{Noted};
 ghost use Rattle.complexify.specs.Taken.{Ready, Ran, left};
 use super::copying::copy_constants;
 use super::turn::Cursor;
 use super::turn::one;
 use complexifier::state::Complexifier;
 use lowering::realness::Realness;
+use refusals::labels::find_labels;
 use sheet::setup::Mode;
 use sheet::setup::read_setup;
 
@@ -55,16 +58,19 @@ fn run(
     mode: Mode,
     start: Cursor,
     stage: &mut [u8],
+    marks: &mut [u8],
+    rows: &mut [u8],
     listing: &mut [u8],
     constants: &mut [u64],
 ) -> Answer
     requires { ⌜ Ready (now stage) (now listing) (now constants) start ⌝ }
     requires { ⌜ (start .index ≤ start .at) × (length (now sheet) ≤ 16384) ⌝ }
-    ensures { λ r. ⌜ Ran (left mode (length (now (listing .entry))) own (now (sheet .entry)) (now (listing .entry)) (now (constants .entry)) start) (now (listing .entry)) (now (constants .entry)) start (now (listing .exit)) (now (constants .exit)) r ⌝ }
+    requires { ⌜ Noted noneStanding (drop (start .at) (now sheet)) (now marks) (now rows) ⌝ }
+    ensures { λ r. ⌜ Ran (left mode (length (now (listing .entry))) own (now (sheet .entry)) noneStanding (now (listing .entry)) (now (constants .entry)) start) (now (listing .entry)) (now (constants .entry)) start (now (listing .exit)) (now (constants .exit)) r ⌝ }
 {
     let mut p = start;
     while p.at < sheet.len() {
-        let t = one(sheet, own, mode, p, stage, listing, constants);
+        let t = one(sheet, own, mode, p, stage, marks, rows, listing, constants);
         let next = t.stand;
         if t.done {
             return answer_at(t.number, next);
@@ -72,6 +78,49 @@ fn run(
         p = next;
     }
     answer_at(0, p)
+}
+
+// The same, from marks made by looking ahead: a sheet with labels needs a row for each, one without none.
+fn run_marked(
+    sheet: &[u8],
+    own: usize,
+    mode: Mode,
+    start: Cursor,
+    stage: &mut [u8],
+    listing: &mut [u8],
+    constants: &mut [u64],
+) -> Answer
+    requires { ⌜ Ready (now stage) (now listing) (now constants) start ⌝ }
+    requires { ⌜ (start .index ≤ start .at) × (length (now sheet) ≤ 16384) ⌝ }
+    ensures { λ r. ⌜ Ran (left mode (length (now (listing .entry))) own (now (sheet .entry)) noneStanding (now (listing .entry)) (now (constants .entry)) start) (now (listing .entry)) (now (constants .entry)) start (now (listing .exit)) (now (constants .exit)) r ⌝ }
+{
+    let mut marks = [0u8; 256];
+    if find_labels(sheet, start.at, &mut marks) {
+        let mut rows = [0u8; 24576];
+        return run(
+            sheet,
+            own,
+            mode,
+            start,
+            stage,
+            &mut marks,
+            &mut rows,
+            listing,
+            constants,
+        );
+    }
+    let mut none = [0u8; 1];
+    run(
+        sheet,
+        own,
+        mode,
+        start,
+        stage,
+        &mut marks,
+        &mut none,
+        listing,
+        constants,
+    )
 }
 
 pub fn lower(sheet: &[u8], listing: &mut [u8], constants: &mut [u64]) -> Answer
@@ -105,5 +154,5 @@ pub fn lower(sheet: &[u8], listing: &mut [u8], constants: &mut [u64]) -> Answer
     };
     let mut stage = [0u8; 704];
     let mode = setup.mode;
-    run(sheet, own, mode, start, &mut stage, listing, constants)
+    run_marked(sheet, own, mode, start, &mut stage, listing, constants)
 }

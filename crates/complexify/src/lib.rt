@@ -1,5 +1,4 @@
 // complexify.rs: a sheet lowered to a listing. `entry::lower` is the whole of it.
-pub mod barred;
 pub mod copying;
 pub mod entry;
 mod turn;

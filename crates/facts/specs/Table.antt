@@ -1,10 +1,10 @@
--- Document 01's facts ("One sheet on paper"), and worked cases of every operation of the machine, over one table. Sheets, listings and words
--- are typed from document 01's record format and from IEEE 754, and none is computed by a definition.
+-- Document 01's facts ("One sheet on paper"), and worked cases of every operation of the machine, over one table. Sheets, listings and
+-- words are typed from document 01's record format and from IEEE 754, and none is computed by a definition.
 use Prim.Native.Nat.{ℕ}
 use mathlib.Core.Path.{_≡_, refl}
 use mathlib.Core.Bool.{true}
 use mathlib.Core.List.{List, [], _∷_, _++_, map}
-use lib.ListN.{replicate}
+use lib.ListN.{length, replicate}
 use lib.Ieee.{ofBits, toBits, isNan, add, sub, mul, div, lt, le, eq, ne}
 use Rattle.mir.specs.declared.ops.UniOp.{UniOp}
 use Rattle.mir.specs.declared.ops.BinOp.{BinOp}
@@ -21,6 +21,7 @@ use Rattle.float.specs.Root.{squareRoot}
 use Rattle.float.specs.Fused.{fusedMultiplyAdd}
 use Rattle.float.specs.Integral.{roundToIntegral}
 use Rattle.player_machine.specs.Machine.{uniWord, binWord, fusedWord, complexWords, writes}
+use Rattle.lowering.specs.Realness.{withoutLoc}
 use Rattle.lowering.specs.Lines.{eachLines, orderLines}
 use Rattle.lowering.specs.Complexifier as c
 use Rattle.lowering.specs.Rerun.{rerun, rerunUni, rerunBin}
@@ -72,6 +73,39 @@ oneTwoThreeFive = 0x3ff0_0000_0000_0000 ∷ 0x4000_0000_0000_0000 ∷ 0x4008_000
 -- four NaNs: 1 has the sign, and bit 51 is set in none
 abbrev pub nans : List ℕ
 nans = 0xfff0_0000_0000_0001 ∷ 0x7ff0_0000_0000_0002 ∷ 0x7ff0_0000_0000_0003 ∷ 0x7ff0_0000_0000_0004 ∷ []
+
+-- Label, Branch and BranchIf, in sheets and in listings (document 02, d): "condition register, label, and a byte 0 or 1 that is `is_else`;
+-- length 7"
+abbrev pub label : ℕ → List ℕ
+label l = 5 ∷ 0 ∷ 14 ∷ 0 ∷ l ∷ []
+
+abbrev pub branch : ℕ → List ℕ
+branch l = 5 ∷ 0 ∷ 15 ∷ 0 ∷ l ∷ []
+
+abbrev pub branchIf : ℕ → ℕ → ℕ → List ℕ
+branchIf register l isElse = 7 ∷ 0 ∷ 17 ∷ 0 ∷ register ∷ l ∷ isElse ∷ []
+
+-- instructions of a sheet without constants and real places: the number that refuses one, its index, and the bytes of the finished ones,
+-- which leave the record as it is
+abbrev pub turnedAway : List ℕ → ℕ → ℕ → List ℕ → Fact
+turnedAway instructions number index bytes =
+    lowered
+    (record {
+      sheet = header 0 noPlaces ++ instructions;
+      room = 64;
+      number = number;
+      index = index;
+      written = length bytes;
+      bytes = bytes;
+      count = 0;
+      constants = [];
+      registers = [];
+      places = noPlaces;
+    })
+
+-- Branch 3; LoadConst general 0, constant 0, which is real then; Label 3
+abbrev pub unequalRegister : List ℕ
+unequalRegister = header 0 noPlaces ++ two ++ branch 3 ++ (7 ∷ 0 ∷ 6 ∷ 0 ∷ 0 ∷ 0 ∷ 0 ∷ []) ++ label 3
 
 -- an operation on words, and the words that it gives
 abbrev pub gives : Operation → List ℕ → List ℕ → Fact
@@ -267,8 +301,8 @@ table =
       registers = 1 ∷ [];
       places = noPlaces;
     })
-    -- Equal of real 0 and complex 1 into 2: 0 is real by Load general 0, Param 9, listed as Load G4 Param 9; its imaginary half is cleared by
-    -- Xor G5 G5 G5, then Equal G9 G5 G7, Equal G8 G4 G6, And G8 G8 G9
+    -- Equal of real 0 and complex 1 into 2: 0 is real by Load general 0, Param 9, listed as Load G4 Param 9; its imaginary half is cleared
+    -- by Xor G5 G5 G5, then Equal G9 G5 G7, Equal G8 G4 G6, And G8 G8 G9
     ∷ lowered
     (record {
       sheet = header 0 paramNine ++ (8 ∷ 0 ∷ 4 ∷ 0 ∷ 0 ∷ 2 ∷ 9 ∷ 0 ∷ []) ++ (8 ∷ 0 ∷ 2 ∷ 0 ∷ 8 ∷ 2 ∷ 0 ∷ 1 ∷ []);
@@ -315,12 +349,110 @@ table =
       registers = [];
       places = noPlaces;
     })
+    -- ---- document 02, d: "It lists as the Rust does."
+    -- Load general 0, Param 9, which is real then; BranchIf of Temp, whose real half is register 0; BranchIf of general 0; Branch; both
+    -- labels. Nothing is cleared, and 0 stays real
+    ∷ lowered
+    (record {
+      sheet =
+          header 0 paramNine
+          ++ (8 ∷ 0 ∷ 4 ∷ 0 ∷ 0 ∷ 2 ∷ 9 ∷ 0 ∷ [])
+          ++ branchIf 31 3 1
+          ++ branchIf 0 255 0
+          ++ branch 255
+          ++ label 3
+          ++ label 255;
+      room = 37;
+      number = 0;
+      index = 6;
+      written = 37;
+      bytes =
+          (8 ∷ 0 ∷ 4 ∷ 0 ∷ 4 ∷ 2 ∷ 9 ∷ 0 ∷ []) ++ branchIf 0 3 1 ++ branchIf 4 255 0 ++ branch 255 ++ label 3 ++ label 255;
+      count = 0;
+      constants = [];
+      registers = 0 ∷ [];
+      places = paramNine;
+    })
+    -- "10 at a branch with no such label later or one before it"
+    ∷ turnedAway (branch 3 ++ label 4) 10 0 []
+    ∷ turnedAway (label 3 ++ branch 3 ++ label 3) 10 1 (label 3)
+    -- "at a label's second standing"; also where its records are unequal, since 11 is tested later: after the first one Load general 0,
+    -- Param 9
+    ∷ turnedAway (label 3 ++ label 3) 10 1 (label 3)
+    ∷ lowered
+    (record {
+      sheet = header 0 paramNine ++ branch 3 ++ label 3 ++ (8 ∷ 0 ∷ 4 ∷ 0 ∷ 0 ∷ 2 ∷ 9 ∷ 0 ∷ []) ++ label 3;
+      room = 64;
+      number = 10;
+      index = 3;
+      written = 18;
+      bytes = branch 3 ++ label 3 ++ (8 ∷ 0 ∷ 4 ∷ 0 ∷ 4 ∷ 2 ∷ 9 ∷ 0 ∷ []);
+      count = 0;
+      constants = [];
+      registers = 0 ∷ [];
+      places = paramNine;
+    })
+    -- "for a label outside 3 to 255, or a third byte above 1"
+    ∷ turnedAway (label 2) 10 0 []
+    ∷ turnedAway (branch 2 ++ label 2) 10 0 []
+    ∷ turnedAway (branchIf 0 3 2 ++ label 3) 10 0 []
+    -- "tested after 4", so after 3: BranchIf of register 32
+    ∷ turnedAway (branchIf 32 3 2 ++ label 3) 3 0 []
+    -- looking ahead passes what will be refused by another number than 1: Neg 32, 0, and a kind that sheets do not take
+    ∷ turnedAway (branch 3 ++ (7 ∷ 0 ∷ 1 ∷ 0 ∷ 0 ∷ 32 ∷ 0 ∷ []) ++ label 3) 3 1 (branch 3)
+    ∷ turnedAway (branch 3 ++ (5 ∷ 0 ∷ 11 ∷ 0 ∷ 0 ∷ []) ++ label 3) 2 1 (branch 3)
+    -- "Looking ahead for a label stops at the first torn record": a Nop of five bytes
+    ∷ turnedAway (branch 3 ++ (5 ∷ 0 ∷ 0 ∷ 0 ∷ 0 ∷ []) ++ label 3) 10 0 []
+    -- "11 for unequal records, given at the label": those of a register
+    ∷ lowered
+    (record {
+      sheet = unequalRegister;
+      room = 17;
+      number = 11;
+      index = 2;
+      written = 12;
+      bytes = branch 3 ++ (7 ∷ 0 ∷ 6 ∷ 0 ∷ 4 ∷ 0 ∷ 0 ∷ []);
+      count = 1;
+      constants = 0x4000_0000_0000_0000 ∷ [];
+      registers = 0 ∷ [];
+      places = noPlaces;
+    })
+    -- before 7: no room for the label
+    ∷ lowered
+    (record {
+      sheet = unequalRegister;
+      room = 12;
+      number = 11;
+      index = 2;
+      written = 12;
+      bytes = branch 3 ++ (7 ∷ 0 ∷ 6 ∷ 0 ∷ 4 ∷ 0 ∷ 0 ∷ []);
+      count = 1;
+      constants = 0x4000_0000_0000_0000 ∷ [];
+      registers = 0 ∷ [];
+      places = noPlaces;
+    })
+    -- those of a place: Stack 5 is real at BranchIf of general 1, and complex by Save general 0, Stack 5, listed as SaveComplex G4 G5
+    -- Stack 5
+    ∷ lowered
+    (record {
+      sheet = header 0 (32 ∷ replicate 63 0) ++ branchIf 1 3 0 ++ (8 ∷ 0 ∷ 5 ∷ 0 ∷ 0 ∷ 0 ∷ 5 ∷ 0 ∷ []) ++ label 3;
+      room = 64;
+      number = 11;
+      index = 2;
+      written = 16;
+      bytes = branchIf 6 3 0 ++ (9 ∷ 0 ∷ 12 ∷ 0 ∷ 4 ∷ 5 ∷ 0 ∷ 5 ∷ 0 ∷ []);
+      count = 0;
+      constants = [];
+      registers = [];
+      places = noPlaces;
+    })
     -- ---- document 01's words
     -- "Half of 0000000000000003 is 0000000000000002": 3 units of 2 ^ -1074 by 2 is a tie, and 2 units are even
     ∷ gives (uni UniOp.Half) (0x0000_0000_0000_0003 ∷ []) (0x0000_0000_0000_0002 ∷ [])
     -- "Root of -0 is -0" (6.3)
     ∷ gives (uni UniOp.Root) (0x8000_0000_0000_0000 ∷ []) (0x8000_0000_0000_0000 ∷ [])
-    -- "MulAdd of 3ff0000000000001 twice and bff0000000000002 is 3970000000000000": with u = 2 ^ -52, (1 + u) * (1 + u) - (1 + 2 * u) is u * u
+    -- "MulAdd of 3ff0000000000001 twice and bff0000000000002 is 3970000000000000": with u = 2 ^ -52, (1 + u) * (1 + u) - (1 + 2 * u) is u *
+    -- u
     ∷ gives (fused FusedOp.MulAdd)
     (0x3ff0_0000_0000_0001 ∷ 0x3ff0_0000_0000_0001 ∷ 0xbff0_0000_0000_0002 ∷ [])
     (0x3970_0000_0000_0000 ∷ [])
@@ -464,8 +596,8 @@ table =
     ∷ gives (complexBi ArithOp.Times) oneTwoThreeFive (0xc01c_0000_0000_0000 ∷ 0x4026_0000_0000_0000 ∷ [])
     -- "x1 times x2 plus y1 times y2, and y1 times x2 minus x1 times y2, each divided by x2 squared plus y2 squared": 13 by 34, and 1 by 34
     ∷ gives (complexBi ArithOp.Divide) oneTwoThreeFive (0x3fd8_7878_7878_7878 ∷ 0x3f9e_1e1e_1e1e_1e1e ∷ [])
-    -- "rounding each operation": (1 + u) * (1 + u) is rounded to 1 + 2 * u and (1 + u) * (1 + 2 * u) to 1 + 3 * u; the product's halves are then
-    -- 1 + 2 * u minus 1 + 2 * u, and 1 + u plus 1 + 3 * u
+    -- "rounding each operation": (1 + u) * (1 + u) is rounded to 1 + 2 * u and (1 + u) * (1 + 2 * u) to 1 + 3 * u; the product's halves are
+    -- then 1 + 2 * u minus 1 + 2 * u, and 1 + u plus 1 + 3 * u
     ∷ gives (complexBi ArithOp.Times)
     (0x3ff0_0000_0000_0001 ∷ 0x3ff0_0000_0000_0000 ∷ 0x3ff0_0000_0000_0001 ∷ 0x3ff0_0000_0000_0002 ∷ [])
     (0x0000_0000_0000_0000 ∷ 0x4000_0000_0000_0002 ∷ [])
@@ -473,8 +605,8 @@ table =
     ∷ gives (complexBi ArithOp.Divide)
     (0x3ff0_0000_0000_0001 ∷ 0x3ff0_0000_0000_0000 ∷ 0x3ff0_0000_0000_0001 ∷ 0xbff0_0000_0000_0002 ∷ [])
     (0x0000_0000_0000_0000 ∷ 0x3fef_ffff_ffff_fffe ∷ [])
-    -- document 02, c: "For a ComplexBi this holds in each of its single operations, operands as document 01 writes them". Of NaNs 1, 2, 3 and 4
-    -- x1 times x2 leaves 1, y1 times y2 and y1 times x2 leave 2, x1 times y2 leaves 1, and the denominator 3
+    -- document 02, c: "For a ComplexBi this holds in each of its single operations, operands as document 01 writes them". Of NaNs 1, 2, 3
+    -- and 4 x1 times x2 leaves 1, y1 times y2 and y1 times x2 leave 2, x1 times y2 leaves 1, and the denominator 3
     ∷ gives (complexBi ArithOp.Minus) nans (0xfff8_0000_0000_0001 ∷ 0x7ff8_0000_0000_0002 ∷ [])
     ∷ gives (complexBi ArithOp.Times) nans (0xfff8_0000_0000_0001 ∷ 0x7ff8_0000_0000_0002 ∷ [])
     ∷ gives (complexBi ArithOp.Divide) nans (0xfff8_0000_0000_0001 ∷ 0x7ff8_0000_0000_0002 ∷ [])
@@ -494,12 +626,12 @@ table =
 
 -- in each row what the definitions give is what the row says
 pub facts : map given table ≡ map stated table
-unfolding lowerSheet setup constantAt decoded instructionFrom takesKind placeAt savePlace uniOps binOps fusedOps rerun rerunUni rerunBin c.unlisted c.loadConst c.loadFrom c.saveTo c.times c.minus c.half c.abs c.byOne c.byTwo c.bits c.compare eachLines orderLines re im recordOf writes uniWord binWord fusedWord complexWords ofBits toBits isNan add sub mul div lt le eq ne squareRoot fusedMultiplyAdd roundToIntegral
+unfolding lowerSheet setup constantAt decoded instructionFrom takesKind placeAt savePlace uniOps binOps fusedOps rerun rerunUni rerunBin withoutLoc c.unlisted c.directed c.loadConst c.loadFrom c.saveTo c.times c.minus c.half c.abs c.byOne c.byTwo c.bits c.compare eachLines orderLines re im recordOf writes uniWord binWord fusedWord complexWords ofBits toBits isNan add sub mul div lt le eq ne squareRoot fusedMultiplyAdd roundToIntegral
 facts = refl
 
 -- what a listing's records compute with (document 01, Sheet): "Uni Neg, Not, Abs, Root, Recip, Round, Half, Sign; Bi Plus, Minus, Times,
--- Divide, GreaterThan, LittleThan, Equal, NotEqual, And, Or, Xor; ArithOp Plus, Minus, Times, Divide; Fused MulAdd"; with document 02, a, Uni
--- Floor, Ceiling, Trunc, IsZero and Bi GreaterThanEqual, LittleThanEqual; and IfElse
+-- Divide, GreaterThan, LittleThan, Equal, NotEqual, And, Or, Xor; ArithOp Plus, Minus, Times, Divide; Fused MulAdd"; with document 02, a,
+-- Uni Floor, Ceiling, Trunc, IsZero and Bi GreaterThanEqual, LittleThanEqual; and IfElse
 abbrev pub operations : List Operation
 operations =
     uni UniOp.Neg

@@ -12,6 +12,7 @@ use Rattle.sheet.specs.Setup.{setup, constantsOf}
 use Rattle.sheet.specs.Instruction.{instructions}
 use Rattle.sheet.proofs.Setting.{length-constants}
 use Rattle.lowering.specs.Realness.{fresh}
+use Rattle.lowering.specs.Labels.{noneStanding}
 use Rattle.complexifier.specs.declared.state.Complexifier.{Complexifier}
 use Rattle.words.specs.Bytes.{stored}
 use Rattle.words.proofs.Stored.{stored-fits}
@@ -61,24 +62,26 @@ module _ (sheet : List ℕ) (x : Setup) (e : x ≡ setup sheet) where
           words = ap length h ∙ length-sets zeros 0 (constantsOf sheet (x .count)) ∙ length-replicate {A = ℕ} 256 0;
           count = omega (arith, own-few);
           space = space-start (take (x .count) k) (let z = ap length (first h) ∙ own-length in omega (arith, own-few, z));
-          taken = record { bytes = omega arith; records = omega arith; calls = omega arith; block = omega arith };
+          taken = record { bytes = omega arith; records = omega arith; calls = omega arith; block = omega arith; branches = omega arith };
         }
 
     pub whole : {k : List ℕ} {low : Complexifier} → k ≡ sets zeros 0 (constantsOf sheet (x .count))
         → low ≡ record { real = fresh (x .places); «root_defined» = false }
-        → left (x .mode) (x .count) sheet k (start low) ≡ shelf sheet
+        → left (x .mode) (x .count) sheet noneStanding k (start low) ≡ shelf sheet
     unfolding shelf
     whole {k} {low} h l =
-        ap (λ low. left (x .mode) (x .count) sheet k (start low)) l
+        ap (λ low. left (x .mode) (x .count) sheet noneStanding k (start low)) l
         ∙ ap
         (λ k.
-        let d = instructions (x .count) (drop (x .start) sheet) in
-        shelfFrom (x .mode) (d .items) (d .fault) 0 nothing (record { real = fresh (x .places); rootDefined = false; consts = k }))
+        let rest = drop (x .start) sheet in
+        let d = instructions (x .count) rest in
+        shelfFrom (x .mode) (d .items) (d .fault) rest noneStanding 0 nothing (record { real = fresh (x .places); rootDefined = false; consts = k }))
         (first h)
         ∙ ap
         (λ y.
-        let d = instructions (y .count) (drop (y .start) sheet) in
-        shelfFrom (y .mode) (d .items) (d .fault) 0 nothing
+        let rest = drop (y .start) sheet in
+        let d = instructions (y .count) rest in
+        shelfFrom (y .mode) (d .items) (d .fault) rest noneStanding 0 nothing
         (record { real = fresh (y .places); rootDefined = false; consts = constantsOf sheet (y .count) }))
         e
         ∙ sym (rw (eq-eqb (setup sheet .number) 0 (ap (λ x. x .number) (sym e) ∙ n)) refl)

@@ -18,7 +18,14 @@ use Rattle.mir.proofs.Decoding.{Here, Done}
 use Rattle.sheet.specs.Instruction.{instructionFrom}
 use Rattle.lowering.specs.Complexifier.{State}
 use Rattle.lowering.specs.Rerun.{rerun}
-use Rattle.lowering.specs.Lower.{barred}
+use Rattle.lowering.specs.Labels as Labels
+use Rattle.lowering.specs.Labels.{Role, role, Standing, noneStanding, misplaced, unequal, passed}
+use Rattle.lowering.specs.Lower.{barred, past}
+use Rattle.mir.specs.Read.{got}
+use Rattle.leftovers.proofs.Instructions.{InRange, AllIn}
+use Rattle.leftovers.proofs.Ranges.{all-in-range}
+use Rattle.refusals.specs.Noted.{Noted}
+use Rattle.refusals.proofs.Marking.{labelRefusal, Follows}
 use Rattle.complexifier.specs.Does.{state}
 use Rattle.rerun.specs.declared.output.Output.{Output}
 use Rattle.rerun.specs.Ends.{Ends, tabled, untabled}
@@ -31,9 +38,9 @@ use Rattle.figures.specs.declared.counting.Count.{Count}
 use Rattle.figures.specs.declared.entry.Figures.{Figures}
 use Rattle.figures.specs.declared.turn.CountCursor.{CountCursor}
 use Rattle.figures.specs.declared.turn.Next.{Next}
-use Rattle.figures.specs.Shelf.{refusal, counted, run, shelfFrom}
+use Rattle.figures.specs.Shelf.{refusal, branchOf, counted, run, shelfFrom}
 use Rattle.figures.specs.Walk.{Listed, Within}
-use Rattle.figures.specs.Taken.{Ready, figuresAt, goesOn, left, refusing, finished, full, Ended, Finished, Fits, CountKept, CountedOne, Taken}
+use Rattle.figures.specs.Taken.{Ready, figuresAt, goesOn, left, refusing, finished, full, Ended, Finished, Fits, CountKept, OwnLabel, CountedOne, Goes, Taken}
 use Rattle.figures.proofs.Sizes.{listed-within}
 use Rattle.sheet.specs.declared.setup.Mode.{Mode}
 use Rattle.sheet.specs.Setup.{isStable}
@@ -41,29 +48,56 @@ use Rattle.sheet.specs.Setup.{isStable}
 no : {X : Type 0} → true ≡ false → X
 no e = absurd (subst T e tt)
 
--- ---- the definition's three ways
+-- ---- the definition's ways
 
-module _ (mode : Mode) (i : Instruction) (is : List Instruction) (fault index : ℕ) (c : Count) (s : State) where
-  shelf-barred : barred (isStable mode) i (s .real) ≡ true → shelfFrom mode (i ∷ is) fault index c s ≡ refusal 6 index
+module _ (mode : Mode) (i : Instruction) (is : List Instruction) (fault : ℕ) (rest : List ℕ) (b : Standing) (index : ℕ) (c : Count) (s : State) where
+  shelf-misplaced : misplaced (role i) b (past rest) ≡ true → shelfFrom mode (i ∷ is) fault rest b index c s ≡ refusal 10 index
   unfolding shelfFrom
-  shelf-barred e = simp e
+  shelf-misplaced m = rw m refl
 
-  shelf-full : barred (isStable mode) i (s .real) ≡ false → ltb 65536 (counted c (rerun mode i s .records) .bytes) ≡ true
-      → shelfFrom mode (i ∷ is) fault index c s ≡ refusal 7 index
-  unfolding shelfFrom
-  shelf-full e h = simp (e, h)
+  module _ (m : misplaced (role i) b (past rest) ≡ false) where
+    shelf-barred : barred (isStable mode) i (s .real) ≡ true → shelfFrom mode (i ∷ is) fault rest b index c s ≡ refusal 6 index
+    unfolding shelfFrom
+    shelf-barred e = rw (m, e) refl
 
-  shelf-on : barred (isStable mode) i (s .real) ≡ false → ltb 65536 (counted c (rerun mode i s .records) .bytes) ≡ false
-      → shelfFrom mode (i ∷ is) fault index c s
-      ≡ shelfFrom mode is fault (suc index) (counted c (rerun mode i s .records)) (rerun mode i s .after)
-  unfolding shelfFrom
-  shelf-on e h = simp (e, h)
+    shelf-unequal : barred (isStable mode) i (s .real) ≡ false → unequal (role i) b (s .real) ≡ true
+        → shelfFrom mode (i ∷ is) fault rest b index c s ≡ refusal 11 index
+    unfolding shelfFrom
+    shelf-unequal e u = rw (m, e, u) refl
 
-shelf-end : (mode : Mode) (fault index : ℕ) (c : Count) (s : State)
-    → shelfFrom mode [] fault index c s
+    module _ (e : barred (isStable mode) i (s .real) ≡ false) (u : unequal (role i) b (s .real) ≡ false) where
+      shelf-full : ltb 65536 (c .bytes + length (encodeAll (rerun mode i s .records))) ≡ true
+          → shelfFrom mode (i ∷ is) fault rest b index c s ≡ refusal 7 index
+      unfolding shelfFrom
+      shelf-full h = rw (m, e, u, h) refl
+
+      shelf-on : ltb 65536 (c .bytes + length (encodeAll (rerun mode i s .records))) ≡ false
+          → shelfFrom mode (i ∷ is) fault rest b index c s
+          ≡ shelfFrom mode is fault (past rest) (passed (role i) (s .real) b) (suc index) (counted c (role i) (rerun mode i s .records)) (rerun mode i s .after)
+      unfolding shelfFrom
+      shelf-on h = rw (m, e, u, h) refl
+
+  -- a number of labels refuses
+  shelf-label : (n : ℕ) → n ≡ labelRefusal (role i) b (past rest) (s .real) → (n ≡ 0 → ⊥)
+      → shelfFrom mode (i ∷ is) fault rest b index c s ≡ refusal n index
+  shelf-label n e h =
+      either (misplaced (role i) b (past rest))
+      (λ m.
+      let k : n ≡ 10 = e ∙ ap (λ (q : Bool). cond q 10 (cond (unequal (role i) b (s .real)) 11 0)) m in
+      shelf-misplaced m ∙ ap (λ n. refusal n index) (sym k))
+      (λ m.
+      either (unequal (role i) b (s .real))
+      (λ u.
+      let k : n ≡ 11 = e ∙ ap (λ (q : Bool). cond q 10 (cond (unequal (role i) b (s .real)) 11 0)) m ∙ ap (λ (q : Bool). cond q 11 0) u in
+      shelf-unequal m (Turns.unbarred b (isStable mode) i (s .real) u) u ∙ ap (λ n. refusal n index) (sym k))
+      (λ u.
+      absurd (h (e ∙ ap (λ (q : Bool). cond q 10 (cond (unequal (role i) b (s .real)) 11 0)) m ∙ ap (λ (q : Bool). cond q 11 0) u))))
+
+shelf-end : (mode : Mode) (fault : ℕ) (rest : List ℕ) (b : Standing) (index : ℕ) (c : Count) (s : State)
+    → shelfFrom mode [] fault rest b index c s
     ≡ cond (eqb fault 0) (record { number = 0; index = index; bytes = c .bytes; constants = length (s .consts); records = run c }) (refusal fault index)
 unfolding shelfFrom
-shelf-end mode fault index c s = refl
+shelf-end mode fault rest b index c s = refl
 
 -- the figures where the work ends
 pub at-refused : (n : ℕ) (p : CountCursor) → (n ≡ 0 → ⊥) → figuresAt n p ≡ refusal n (p .index)
@@ -87,31 +121,33 @@ unchanged : {g k : List ℕ} {p : CountCursor} (number : ℕ) → Ready g k p �
 unchanged number r = record { words = refl; count = r .count; space = r .space; taken = r .taken }
 
 module _ {mode : Mode} {i : Instruction} {next : ℕ} {g k : List ℕ} {p : CountCursor} (r : Ready g k p) where
-  refuses : (number : ℕ) → ((is : List Instruction) (fault : ℕ) → goesOn mode (i ∷ is) fault k p ≡ figuresAt number p)
+  refuses : (number : ℕ)
+      → ((is : List Instruction) (fault : ℕ) (rest : List ℕ) (b : Standing) → misplaced (role i) b (past rest) ≡ false → unequal (role i) b (p .low .real) ≡ false
+      → goesOn mode (i ∷ is) fault rest b k p ≡ figuresAt number p)
       → CountedOne mode i next k p k (refusing number p)
-  refuses number h = record { same = h; at = no; index = no; turned = unchanged number r }
+  refuses number h = record { same = h; at = no; index = no; turned = λ own. unchanged number r }
 
   pub turn-barred : barred (isStable mode) i (p .low .real) ≡ true → CountedOne mode i next k p k (refusing 6 p)
-  turn-barred e = refuses 6 (λ is fault. shelf-barred mode i is fault _ _ _ e)
+  turn-barred e = refuses 6 (λ is fault rest b m u. shelf-barred mode i is fault rest b _ _ _ m e)
 
 -- ---- what a turn of `rerun` listed and added, counted
 
-module _ {t : Output} {rs : List Record} {next : ℕ} {k : List ℕ} {p : CountCursor} {r : Next} where
-  pub too-long : 65536 < counted (p .taken) rs .bytes → r ≡ refusing 7 p → Ended t rs next k p k r
+module _ {t : Output} {i : Role} {rs : List Record} {next : ℕ} {k : List ℕ} {p : CountCursor} {r : Next} where
+  pub too-long : 65536 < counted (p .taken) i rs .bytes → r ≡ refusing 7 p → Ended t i rs next k p k r
   too-long h e =
       let z = sym (lt-ltb _ _ h) in
       record {
-        stands = e ∙ ap (λ x. cond x (refusing 7 p) (finished t (counted (p .taken) rs) next p)) z;
+        stands = e ∙ ap (λ x. cond x (refusing 7 p) (finished t (counted (p .taken) i rs) next p)) z;
         added = ap (λ x. cond x k (sets k (p .constants) (take (t .added .count) (t .added .words)))) z;
       }
 
-  pub copied : {k' : List ℕ} → counted (p .taken) rs .bytes ≤ 65536 → r ≡ finished t (counted (p .taken) rs) next p
+  pub copied : {k' : List ℕ} → counted (p .taken) i rs .bytes ≤ 65536 → r ≡ finished t (counted (p .taken) i rs) next p
       → k' ≡ sets k (p .constants) (take (t .added .count) (t .added .words))
-      → Ended t rs next k p k' r
+      → Ended t i rs next k p k' r
   copied h e g =
       let z = sym (le-ltb _ _ h) in
       record {
-        stands = e ∙ ap (λ x. cond x (refusing 7 p) (finished t (counted (p .taken) rs) next p)) z;
+        stands = e ∙ ap (λ x. cond x (refusing 7 p) (finished t (counted (p .taken) i rs) next p)) z;
         added = g ∙ ap (λ x. cond x k (sets k (p .constants) (take (t .added .count) (t .added .words)))) z;
       }
 
@@ -156,11 +192,11 @@ module _ (mode : Mode) (i : Instruction) {g g' k : List ℕ} {p : CountCursor} {
         index = h;
       }
 
-  turn-full : (next : ℕ) → full p records ≡ true → CountedOne mode i next k p k (refusing 7 p)
-  turn-full next h = refuses r 7 (λ is fault. shelf-full mode i is fault _ _ _ b h)
+  turn-full : (next : ℕ) → full p (role i) records ≡ true → CountedOne mode i next k p k (refusing 7 p)
+  turn-full next h = refuses r 7 (λ is fault rest stood m u. shelf-full mode i is fault rest stood _ _ _ m b u (unfold counted in h))
 
-  turn-done : (next : ℕ) {k' : List ℕ} → p .index < 65536 → full p records ≡ false → k' ≡ sets k (p .constants) words
-      → CountedOne mode i next k p k' (finished t (counted (p .taken) records) next p)
+  turn-done : (next : ℕ) {k' : List ℕ} → p .index < 65536 → full p (role i) records ≡ false → k' ≡ sets k (p .constants) words
+      → CountedOne mode i next k p k' (finished t (counted (p .taken) (role i) records) next p)
   turn-done next {k'} x h q =
       let f = listed-fits x in
       let l = Turns.added-length mode i {listing = []} {p = stand p} (ready r) d b three in
@@ -168,33 +204,40 @@ module _ (mode : Mode) (i : Instruction) {g g' k : List ℕ} {p : CountCursor} {
       let y : take (p .constants + t .added .count) k' ≡ take (p .constants) k ++ words
       = ap (λ n. take n k') c ∙ ap (take (p .constants + length words)) q ∙ taken k words (p .constants) (omega (arith, f .count, l, r .words)) in
       record {
-        same = λ is fault.
-            shelf-on mode i is fault (p .index) (p .taken) before b h
-            ∙ ap (λ s. shelfFrom mode is fault (suc (p .index)) (counted (p .taken) records) s) (sym (e .kept))
-            ∙ sym (λ j. shelfFrom mode is fault (add-one (p .index) j) (counted (p .taken) records) (state (t .low) (y j)));
+        same = λ is fault rest stood m u.
+            let behind = passed (role i) (p .low .real) stood in
+            shelf-on mode i is fault rest stood (p .index) (p .taken) before m b u (unfold counted in h)
+            ∙ ap (λ s. shelfFrom mode is fault (past rest) behind (suc (p .index)) (counted (p .taken) (role i) records) s) (sym (e .kept))
+            ∙ sym (λ j. shelfFrom mode is fault (past rest) behind (add-one (p .index) j) (counted (p .taken) (role i) records) (state (t .low) (y j)));
         at = λ z. refl;
         index = λ z. add-one (p .index);
-        turned = record {
+        turned = λ own. record {
           words = ap length q ∙ length-sets k (p .constants) words;
           count = f .count;
           space = subst (λ k. space k ≤ 256) (sym y) (Turns.listed-space mode i {listing = []} {p = stand p} (ready r) d b three);
-          taken = listed-within mode i before (p .taken) (r .taken) (ltb-false _ _ h);
+          taken = listed-within mode i before (p .taken) own (r .taken) (ltb-false _ _ h);
         };
       }
 
-  by-room : (next : ℕ) {k' : List ℕ} {q : Next} → p .index < 65536 → Ended t records next k p k' q → CountedOne mode i next k p k' q
+  by-room : (next : ℕ) {k' : List ℕ} {q : Next} → p .index < 65536 → Ended t (role i) records next k p k' q → CountedOne mode i next k p k' q
   by-room next {k'} {q} x f =
-      either (full p records)
+      either (full p (role i) records)
       (λ z.
-      subst (λ q. CountedOne mode i next k p k' q) (sym (f .stands ∙ ap (λ x. cond x (refusing 7 p) (finished t (counted (p .taken) records) next p)) z))
+      subst (λ q. CountedOne mode i next k p k' q) (sym (f .stands ∙ ap (λ x. cond x (refusing 7 p) (finished t (counted (p .taken) (role i) records) next p)) z))
       (subst (λ l. CountedOne mode i next k p l (refusing 7 p)) (sym (f .added ∙ ap (λ x. cond x k (sets k (p .constants) words)) z)) (turn-full next z)))
       (λ z.
-      subst (λ q. CountedOne mode i next k p k' q) (sym (f .stands ∙ ap (λ x. cond x (refusing 7 p) (finished t (counted (p .taken) records) next p)) z))
+      subst (λ q. CountedOne mode i next k p k' q) (sym (f .stands ∙ ap (λ x. cond x (refusing 7 p) (finished t (counted (p .taken) (role i) records) next p)) z))
       (turn-done next x z (f .added ∙ ap (λ x. cond x k (sets k (p .constants) words)) z)))
 
-  pub turn-finished : (next : ℕ) {k' : List ℕ} {q : Next} → p .index < 65536 → Finished t (take (t .at) g') next k p k' q
-      → CountedOne mode i next k p k' q
-  turn-finished next x f = by-room next x (f records bytes)
+  pub turn-finished : (next : ℕ) {n : ℕ} {k' : List ℕ} {q : Next} → p .index < 65536 → n ≡ branchOf (role i)
+      → Finished t (take (t .at) g') n next k p k' q → CountedOne mode i next k p k' q
+  turn-finished next x e f = by-room next x (f (role i) e records bytes)
+
+-- 1 or 0
+pub branch-few : (i : Role) → branchOf i ≤ 1
+branch-few Labels.works = omega arith
+branch-few (Labels.labels l) = omega arith
+branch-few (Labels.branches l) = omega arith
 
 -- ---- one turn
 
@@ -203,44 +246,116 @@ cond-right true x y z f = refl
 cond-right false x y z f = f refl
 
 -- where no instruction stands, or one that is refused, nothing is left
-pub stopped : (mode : Mode) (own : ℕ) (sheet k : List ℕ) (p : CountCursor) {g : List ℕ} (n : ℕ) → Ready g k p → Done (instructionFrom own) sheet (p .at) n
-    → left mode own sheet k p ≡ figuresAt n p
-stopped mode own sheet k p n r h =
-    let d = decoded (instructionFrom own) (drop (p .at) sheet) in
+pub stopped : (mode : Mode) (own : ℕ) (sheet : List ℕ) (b : Standing) (k : List ℕ) (p : CountCursor) {g : List ℕ} (n : ℕ) → Ready g k p
+    → Done (instructionFrom own) sheet (p .at) n → left mode own sheet b k p ≡ figuresAt n p
+stopped mode own sheet b k p n r h =
+    let rest = drop (p .at) sheet in
+    let d = decoded (instructionFrom own) rest in
     let l : length (take (p .constants) k) ≡ p .constants = simp length-take (omega (arith, r .words, r .count)) in
-    ap (λ is. goesOn mode is (d .fault) k p) (h .same)
-    ∙ ap (λ f. goesOn mode [] f k p) (h .why)
-    ∙ shelf-end mode n _ _ _
+    ap (λ is. goesOn mode is (d .fault) rest b k p) (h .same)
+    ∙ ap (λ f. goesOn mode [] f rest b k p) (h .why)
+    ∙ shelf-end mode n _ _ _ _ _
     ∙ (λ j.
     cond (eqb n 0) (record { number = 0; index = p .index; bytes = p .taken .bytes; constants = l j; records = run (p .taken) })
     (refusal n (p .index)))
 
-module _ {mode : Mode} {own : ℕ} {sheet k : List ℕ} {p : CountCursor} where
-  pub turn-got : {i : Instruction} {next : ℕ} {k' : List ℕ} {r : Next} → Here (instructionFrom own) sheet (p .at) i next
-      → CountedOne mode i next k p k' r → Taken mode own sheet k p k' r
-  turn-got {i} {next} {k'} {r} h l =
-      let d : ℕ → Decoded Instruction = λ at. decoded (instructionFrom own) (drop at sheet) in
-      record {
-        same =
-            ap (λ is. goesOn mode is (d (p .at) .fault) k p) (h .same)
-            ∙ ap (λ f. goesOn mode (i ∷ d next .items) f k p) (h .sound)
-            ∙ l .same (d next .items) (d next .fault)
-            ∙ cond-right (r .done) _ _ _ (λ z. ap (λ at. goesOn mode (d at .items) (d at .fault) k' (r .cursor)) (sym (l .at z)));
-        on = λ z. let a = l .at z in let o = h .on in omega (arith, a, o);
-        index = l .index;
-        turned = l .turned;
-      }
+-- an instruction that stands at a position
+abbrev decodedAt : ℕ → List ℕ → ℕ → Decoded Instruction
+decodedAt own sheet at = decoded (instructionFrom own) (drop at sheet)
 
-  pub turn-torn : {g : List ℕ} {n : ℕ} → Ready g k p → Done (instructionFrom own) sheet (p .at) n → Taken mode own sheet k p k (refusing n p)
-  turn-torn {g} {n} r h = record { same = stopped mode own sheet k p n r h; on = no; index = no; turned = unchanged n r }
+stands-here : (mode : Mode) (own : ℕ) (sheet : List ℕ) (b : Standing) (k : List ℕ) (p : CountCursor) {i : Instruction} {next : ℕ}
+    → Here (instructionFrom own) sheet (p .at) i next
+    → left mode own sheet b k p
+    ≡ goesOn mode (i ∷ decodedAt own sheet next .items) (decodedAt own sheet next .fault) (drop (p .at) sheet) b k p
+stands-here mode own sheet b k p {i} {next} h =
+    ap (λ is. goesOn mode is (decodedAt own sheet (p .at) .fault) (drop (p .at) sheet) b k p) (h .same)
+    ∙ ap (λ f. goesOn mode (i ∷ decodedAt own sheet next .items) f (drop (p .at) sheet) b k p) (h .sound)
+
+-- its label is the sheet's own
+in-own : (own : ℕ) (i : Instruction) → InRange own i → OwnLabel (role i)
+unfolding role
+in-own own Instruction.Nop v = tt
+in-own own (Instruction.Uni op d a) v = tt
+in-own own (Instruction.Bi op d a b) v = tt
+in-own own (Instruction.Mov d a) v = tt
+in-own own (Instruction.Load d p) v = tt
+in-own own (Instruction.Save a p) v = tt
+in-own own (Instruction.LoadConst d i) v = tt
+in-own own (Instruction.Fused op d a b c) v = tt
+in-own own (Instruction.IfElse d a b p) v = tt
+in-own own (Instruction.LoadMath op d a p) v = tt
+in-own own (Instruction.LoadConstMath op d a i) v = tt
+in-own own (Instruction.Label l) v = v
+in-own own (Instruction.Branch l) v = tt
+in-own own (Instruction.BranchIf c l e) v = tt
+
+own-label : (own : ℕ) (sheet : List ℕ) (at : ℕ) {i : Instruction} {next : ℕ} → Here (instructionFrom own) sheet at i next → OwnLabel (role i)
+unfolding decoded
+own-label own sheet at {i} {next} h = in-own own i (subst (λ is. AllIn own is) (h .same) (all-in-range own (drop at sheet) 0) .0)
+
+module _ {mode : Mode} {own : ℕ} {sheet k marks rows : List ℕ} {p : CountCursor} where
+  module _ {i : Instruction} {next : ℕ} {marks' rows' : List ℕ} {n : ℕ} (h : Here (instructionFrom own) sheet (p .at) i next)
+      (e : instructionFrom own (drop (p .at) sheet) ≡ got i) (w : Follows (role i) (p .low .real) marks rows marks' rows' n) where
+    pub turn-got : {k' : List ℕ} {r : Next} → past (drop (p .at) sheet) ≡ drop next sheet → n ≡ 0 → CountedOne mode i next k p k' r
+        → Taken mode own sheet k marks rows p k' marks' rows' r
+    turn-got {k'} {r} g z l =
+        record {
+          goes = λ b t.
+              let rest = drop (p .at) sheet in
+              let f = Turns.seen own rest i e in
+              let o = sym (w .told b rest f t) ∙ z in
+              let after = passed (role i) (p .low .real) b in
+              record {
+                before = after;
+                same =
+                    stands-here mode own sheet b k p h
+                    ∙ l .same (decodedAt own sheet next .items) (decodedAt own sheet next .fault) rest b
+                    (Turns.placed (role i) b (past rest) (p .low .real) o) (Turns.equal (role i) b (past rest) (p .low .real) o)
+                    ∙ cond-right (r .done) _ _ _
+                    (λ z.
+                    ap (λ rest. goesOn mode (decodedAt own sheet next .items) (decodedAt own sheet next .fault) rest after k' (r .cursor)) g
+                    ∙ ap (λ at. goesOn mode (decodedAt own sheet at .items) (decodedAt own sheet at .fault) (drop at sheet) after k' (r .cursor)) (sym (l .at z)));
+                noted = λ y.
+                    subst (λ rest. Noted after rest marks' rows') (g ∙ ap (λ at. drop at sheet) (sym (l .at y))) (w .noted b rest f t z);
+              };
+          on = λ z. let a = l .at z in let o = h .on in omega (arith, a, o);
+          index = l .index;
+          turned = l .turned (own-label own sheet (p .at) h);
+        }
+
+    -- 10 or 11 refuses it
+    pub turn-refused : {g : List ℕ} → Ready g k p → (n ≡ 0 → ⊥) → Taken mode own sheet k marks rows p k marks' rows' (refusing n p)
+    turn-refused r z =
+        record {
+          goes = λ b t.
+              let rest = drop (p .at) sheet in
+              record {
+                before = b;
+                same =
+                    stands-here mode own sheet b k p h
+                    ∙ shelf-label mode i (decodedAt own sheet next .items) (decodedAt own sheet next .fault) rest b _ _ _ n (w .told b rest (Turns.seen own rest i e) t) z
+                    ∙ sym (at-refused n p z);
+                noted = no;
+              };
+          on = no;
+          index = no;
+          turned = unchanged n r;
+        }
+
+  pub turn-torn : {g : List ℕ} {n : ℕ} → Ready g k p → Done (instructionFrom own) sheet (p .at) n
+      → Taken mode own sheet k marks rows p k marks rows (refusing n p)
+  turn-torn {g} {n} r h =
+      record { goes = λ b t. record { before = b; same = stopped mode own sheet b k p n r h; noted = no }; on = no; index = no; turned = unchanged n r }
 
 -- ---- the loop
 
 -- what holds before each turn: what is left to count is the whole answer
-pub record Standing (mode : Mode) (own : ℕ) (sheet k₀ : List ℕ) (start : CountCursor) (g k : List ℕ) (p : CountCursor) : Type 0 where
+pub record Underway (mode : Mode) (own : ℕ) (sheet k₀ : List ℕ) (start : CountCursor) (g k marks rows : List ℕ) (p : CountCursor) : Type 0 where
   pub ready : Ready g k p
   pub index : p .index ≤ p .at
-  pub same : left mode own sheet k p ≡ left mode own sheet k₀ start
+  pub before : Standing
+  pub noted : Noted before (drop (p .at) sheet) marks rows
+  pub same : left mode own sheet before k p ≡ left mode own sheet noneStanding k₀ start
 
 on-false : (b : Bool) (x y : Figures) → b ≡ false → cond b x y ≡ y
 on-false b x y e = simp e
@@ -248,10 +363,14 @@ on-false b x y e = simp e
 on-true : (b : Bool) (x y : Figures) → b ≡ true → cond b x y ≡ x
 on-true b x y e = simp e
 
-module _ {mode : Mode} {own : ℕ} {sheet k₀ : List ℕ} {start : CountCursor} {g k : List ℕ} {p : CountCursor}
-    (s : Standing mode own sheet k₀ start g k p) {k' : List ℕ} {r : Next} (t : Taken mode own sheet k p k' r) where
-  pub standing-next : {g' : List ℕ} → length g' ≡ length g → r .done ≡ false → Standing mode own sheet k₀ start g' k' (r .cursor)
-  standing-next h e =
+module _ {mode : Mode} {own : ℕ} {sheet k₀ : List ℕ} {start : CountCursor} {g k marks rows : List ℕ} {p : CountCursor}
+    (s : Underway mode own sheet k₀ start g k marks rows p) {k' marks' rows' : List ℕ} {r : Next} (t : Taken mode own sheet k marks rows p k' marks' rows' r) where
+  gone : Goes mode own sheet (s .before) k p k' marks' rows' r
+  gone = t .goes (s .before) (s .noted)
+
+  pub underway-next : {g' : List ℕ} → length g' ≡ length g → r .done ≡ false
+      → Underway mode own sheet k₀ start g' k' marks' rows' (r .cursor)
+  underway-next h e =
       let u = t .turned in
       let q = s .ready in
       let i = t .index e in
@@ -259,8 +378,10 @@ module _ {mode : Mode} {own : ℕ} {sheet k₀ : List ℕ} {start : CountCursor}
       record {
         ready = record { stage = h ∙ q .stage; words = u .words ∙ q .words; count = u .count; space = u .space; taken = u .taken };
         index = omega (arith, i, o, s .index);
-        same = sym (t .same ∙ on-false _ _ _ e) ∙ s .same;
+        before = gone .before;
+        noted = gone .noted e;
+        same = sym (gone .same ∙ on-false _ _ _ e) ∙ s .same;
       }
 
-  pub refused : r .done ≡ true → figuresAt (r .number) (r .cursor) ≡ left mode own sheet k₀ start
-  refused e = sym (on-true _ _ _ e) ∙ sym (t .same) ∙ s .same
+  pub refused : r .done ≡ true → figuresAt (r .number) (r .cursor) ≡ left mode own sheet noneStanding k₀ start
+  refused e = sym (on-true _ _ _ e) ∙ sym (gone .same) ∙ s .same

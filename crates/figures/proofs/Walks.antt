@@ -19,7 +19,8 @@ use Rattle.player_machine.specs.Count.{isCall}
 use Rattle.figures.specs.declared.counting.Count.{Count}
 use Rattle.figures.specs.declared.counting.Part.{Part}
 use Rattle.figures.specs.declared.counting.BlockStep.{BlockStep}
-use Rattle.figures.specs.Shelf.{blockIn, counted}
+use Rattle.lowering.specs.Labels.{Role}
+use Rattle.figures.specs.Shelf.{blockIn, branchOf, counted}
 use Rattle.figures.specs.Walk.{callsOf, blockStep, Listed}
 
 -- ---- one record
@@ -53,6 +54,7 @@ spelled (Record.Work (Work.ComplexBi op xd yd x1 y1 x2 y2)) l = record { size = 
 spelled (Record.Label m) l = record { size = refl; kind = refl; label = refl; long = omega arith }
 spelled (Record.Branch m) l = record { size = refl; kind = refl; label = refl; long = omega arith }
 spelled (Record.Call m) l = record { size = refl; kind = refl; label = refl; long = omega arith }
+spelled (Record.BranchIf c m e) l = record { size = refl; kind = refl; label = refl; long = omega arith }
 
 -- working records have the kinds below Label's
 work-kind : (w : Work) → ltb (kindOf (Record.Work w)) 14 ≡ true
@@ -78,6 +80,7 @@ calls-seen (Record.Work w) = rw (other-kind w 16 (omega arith)) refl
 calls-seen (Record.Label l) = refl
 calls-seen (Record.Branch l) = refl
 calls-seen (Record.Call l) = refl
+calls-seen (Record.BranchIf c l e) = refl
 
 -- ---- the block's records among those that are left
 
@@ -115,14 +118,17 @@ block-seen Part.Before (Record.Work w) rs = rw (other-kind w 14 (omega arith)) (
 block-seen Part.Before (Record.Label l) rs = labelled l rs (eqb l 1) refl
 block-seen Part.Before (Record.Branch l) rs = passed (Record.Branch l) rs refl
 block-seen Part.Before (Record.Call l) rs = passed (Record.Call l) rs refl
+block-seen Part.Before (Record.BranchIf c l e) rs = passed (Record.BranchIf c l e) rs refl
 block-seen Part.Inside (Record.Work w) rs = rw (work-kind w) (omega arith)
 block-seen Part.Inside (Record.Label l) rs = refl
 block-seen Part.Inside (Record.Branch l) rs = refl
 block-seen Part.Inside (Record.Call l) rs = refl
+block-seen Part.Inside (Record.BranchIf c l e) rs = refl
 block-seen Part.Behind (Record.Work w) rs = refl
 block-seen Part.Behind (Record.Label l) rs = refl
 block-seen Part.Behind (Record.Branch l) rs = refl
 block-seen Part.Behind (Record.Call l) rs = refl
+block-seen Part.Behind (Record.BranchIf c l e) rs = refl
 
 -- ---- how much a record adds at most
 
@@ -219,20 +225,20 @@ module _ {bytes : List ℕ} {c : Count} {rs : List Record} {at n m b : ℕ} {p :
           (subst (λ a. Stepped bytes c rs at n m b p (length (encode r)) (kindOf r) a) (sym k) (walked r l h d x y z)))
 
   -- where no record is left, all are counted
-  pub finish : Rest bytes c rs at n m b p → length bytes ≤ at → bytes ≡ encodeAll rs
-      → record { bytes = c .bytes + length bytes; records = n; calls = m; block = b } ≡ counted c rs
+  pub finish : Rest bytes c rs at n m b p → length bytes ≤ at → {x : ℕ} (i : Role) → x ≡ branchOf i → bytes ≡ encodeAll rs
+      → record { bytes = c .bytes + length bytes; records = n; calls = m; block = b; branches = c .branches + x } ≡ counted c i rs
   unfolding tally counted
-  finish s h e = go (s .left) (s .here) (s .records) (s .calls) (s .block)
+  finish s h {x} i f e = go (s .left) (s .here) (s .records) (s .calls) (s .block)
     where
       go : (l : List Record) → drop at bytes ≡ encodeAll l → n + length l ≡ c .records + length rs
           → m + tally isCall l ≡ c .calls + tally isCall rs → b + tail p l ≡ c .block + blockIn rs
-          → record { bytes = c .bytes + length bytes; records = n; calls = m; block = b } ≡ counted c rs
-      go [] d x y z =
-          let u : n ≡ c .records + length rs = omega (arith, x) in
-          let v : m ≡ c .calls + tally isCall rs = omega (arith, y) in
-          let w : b ≡ c .block + blockIn rs = let q = tail-none p in omega (arith, z, q) in
-          λ i. record { bytes = c .bytes + length (e i); records = u i; calls = v i; block = w i }
-      go (r ∷ l) d x y z =
+          → record { bytes = c .bytes + length bytes; records = n; calls = m; block = b; branches = c .branches + x } ≡ counted c i rs
+      go [] d y z w =
+          let u : n ≡ c .records + length rs = omega (arith, y) in
+          let v : m ≡ c .calls + tally isCall rs = omega (arith, z) in
+          let q : b ≡ c .block + blockIn rs = let o = tail-none p in omega (arith, w, o) in
+          λ j. record { bytes = c .bytes + length (e j); records = u j; calls = v j; block = q j; branches = c .branches + f j }
+      go (r ∷ l) d y z w =
           let s = spelled r (encodeAll l) in
           let q : length (encodeAll (r ∷ l)) ≡ 0 = ap length (sym d ∙ drop-of-length-le bytes h) in
           let k = length-append (encode r) (encodeAll l) in

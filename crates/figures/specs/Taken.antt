@@ -12,12 +12,16 @@ use Rattle.mir.specs.Encode.{encodeAll}
 use Rattle.sheet.specs.Instruction.{instructions}
 use Rattle.complexifier.specs.Does.{state}
 use Rattle.rerun.specs.declared.output.Output.{Output}
+use Rattle.lowering.specs.Labels as Labels
+use Rattle.lowering.specs.Labels.{Role, role, Standing, misplaced, unequal, passed}
+use Rattle.lowering.specs.Lower.{past}
+use Rattle.refusals.specs.Noted.{Noted}
 use Rattle.complexify.specs.Taken.{space}
 use Rattle.figures.specs.declared.counting.Count.{Count}
 use Rattle.figures.specs.declared.entry.Figures.{Figures}
 use Rattle.figures.specs.declared.turn.CountCursor.{CountCursor}
 use Rattle.figures.specs.declared.turn.Next.{Next}
-use Rattle.figures.specs.Shelf.{refusal, counted, run, shelfFrom}
+use Rattle.figures.specs.Shelf.{refusal, branchOf, counted, run, shelfFrom}
 use Rattle.figures.specs.Walk.{Listed, Within}
 use Rattle.sheet.specs.declared.setup.Mode.{Mode}
 
@@ -36,11 +40,14 @@ figuresAt number p =
     (record { number = 0; index = p .index; bytes = p .taken .bytes; constants = p .constants; records = run (p .taken) })
     (refusal number (p .index))
 
-abbrev pub goesOn : Mode → List Instruction → ℕ → List ℕ → CountCursor → Figures
-goesOn mode is fault k p = shelfFrom mode is fault (p .index) (p .taken) (state (p .low) (take (p .constants) k))
+abbrev pub goesOn : Mode → List Instruction → ℕ → List ℕ → Standing → List ℕ → CountCursor → Figures
+goesOn mode is fault rest b k p = shelfFrom mode is fault rest b (p .index) (p .taken) (state (p .low) (take (p .constants) k))
 
-abbrev pub left : Mode → ℕ → List ℕ → List ℕ → CountCursor → Figures
-left mode own sheet k p = let d = instructions own (drop (p .at) sheet) in goesOn mode (d .items) (d .fault) k p
+abbrev pub left : Mode → ℕ → List ℕ → Standing → List ℕ → CountCursor → Figures
+left mode own sheet b k p =
+    let rest = drop (p .at) sheet in
+    let d = instructions own rest in
+    goesOn mode (d .items) (d .fault) rest b k p
 
 -- where the count stands after a number refused the instruction, and after a finished one with these records
 abbrev pub refusing : ℕ → CountCursor → Next
@@ -55,15 +62,15 @@ finished t c next p =
     }
 
 -- 7, more than 65,536 bytes; else the constants that the turn added stand behind the finished ones
-abbrev pub full : CountCursor → List Record → Bool
-full p rs = ltb 65536 (counted (p .taken) rs .bytes)
+abbrev pub full : CountCursor → Role → List Record → Bool
+full p i rs = ltb 65536 (counted (p .taken) i rs .bytes)
 
-pub record Ended (t : Output) (rs : List Record) (next : ℕ) (k : List ℕ) (p : CountCursor) (k' : List ℕ) (r : Next) : Type 0 where
-  pub stands : r ≡ cond (full p rs) (refusing 7 p) (finished t (counted (p .taken) rs) next p)
-  pub added : k' ≡ cond (full p rs) k (sets k (p .constants) (take (t .added .count) (t .added .words)))
+pub record Ended (t : Output) (i : Role) (rs : List Record) (next : ℕ) (k : List ℕ) (p : CountCursor) (k' : List ℕ) (r : Next) : Type 0 where
+  pub stands : r ≡ cond (full p i rs) (refusing 7 p) (finished t (counted (p .taken) i rs) next p)
+  pub added : k' ≡ cond (full p i rs) k (sets k (p .constants) (take (t .added .count) (t .added .words)))
 
-abbrev pub Finished : Output → List ℕ → ℕ → List ℕ → CountCursor → List ℕ → Next → Type 0
-Finished t bytes next k p k' r = (rs : List Record) → bytes ≡ encodeAll rs → Ended t rs next k p k' r
+abbrev pub Finished : Output → List ℕ → ℕ → ℕ → List ℕ → CountCursor → List ℕ → Next → Type 0
+Finished t bytes n next k p k' r = (i : Role) → n ≡ branchOf i → (rs : List Record) → bytes ≡ encodeAll rs → Ended t i rs next k p k' r
 
 -- what that asks of the turn and of the constants
 pub record Fits (t : Output) (bytes k : List ℕ) (p : CountCursor) : Type 0 where
@@ -81,18 +88,31 @@ pub record CountKept (k : List ℕ) (k' : List ℕ) (r : Next) : Type 0 where
   pub space : space (take (r .cursor .constants) k') ≤ 256
   pub taken : Within (r .cursor .taken)
 
--- the instruction i counted, whatever stands behind it
+-- a label of the sheet's own
+abbrev pub OwnLabel : Role → Type 0
+OwnLabel Labels.works = Unit {0}
+OwnLabel (Labels.labels l) = 2 < l
+OwnLabel (Labels.branches l) = Unit {0}
+
+-- the instruction i counted, whatever stands before and behind it, where neither 10 nor 11 refuses it
 pub record CountedOne (mode : Mode) (i : Instruction) (next : ℕ) (k : List ℕ) (p : CountCursor) (k' : List ℕ) (r : Next) : Type 0 where
-  pub same : (is : List Instruction) (fault : ℕ)
-      → goesOn mode (i ∷ is) fault k p ≡ cond (r .done) (figuresAt (r .number) (r .cursor)) (goesOn mode is fault k' (r .cursor))
+  pub same : (is : List Instruction) (fault : ℕ) (rest : List ℕ) (b : Standing) → misplaced (role i) b (past rest) ≡ false → unequal (role i) b (p .low .real) ≡ false
+      → goesOn mode (i ∷ is) fault rest b k p
+      ≡ cond (r .done) (figuresAt (r .number) (r .cursor)) (goesOn mode is fault (past rest) (passed (role i) (p .low .real) b) k' (r .cursor))
   pub at : r .done ≡ false → r .cursor .at ≡ next
   pub index : r .done ≡ false → r .cursor .index ≡ suc (p .index)
-  pub turned : CountKept k k' r
+  pub turned : OwnLabel (role i) → CountKept k k' r
+
+-- the work from here on, where b stand before, is the work from there on, where `before` do
+pub record Goes (mode : Mode) (own : ℕ) (sheet : List ℕ) (b : Standing) (k : List ℕ) (p : CountCursor) (k' marks' rows' : List ℕ) (r : Next) : Type 0 where
+  pub before : Standing
+  pub same : left mode own sheet b k p
+      ≡ cond (r .done) (figuresAt (r .number) (r .cursor)) (left mode own sheet before k' (r .cursor))
+  pub noted : r .done ≡ false → Noted before (drop (r .cursor .at) sheet) marks' rows'
 
 -- one turn
-pub record Taken (mode : Mode) (own : ℕ) (sheet k : List ℕ) (p : CountCursor) (k' : List ℕ) (r : Next) : Type 0 where
-  pub same : left mode own sheet k p
-      ≡ cond (r .done) (figuresAt (r .number) (r .cursor)) (left mode own sheet k' (r .cursor))
+pub record Taken (mode : Mode) (own : ℕ) (sheet k marks rows : List ℕ) (p : CountCursor) (k' marks' rows' : List ℕ) (r : Next) : Type 0 where
+  pub goes : (b : Standing) → Noted b (drop (p .at) sheet) marks rows → Goes mode own sheet b k p k' marks' rows' r
   pub on : r .done ≡ false → p .at < r .cursor .at
   pub index : r .done ≡ false → r .cursor .index ≡ suc (p .index)
   pub turned : CountKept k k' r

@@ -10,7 +10,8 @@ use Rattle.mir.specs.Encode.{encodeAll}
 use Rattle.figures.specs.declared.counting.Count.{Count}
 use Rattle.figures.specs.declared.counting.Part.{Part}
 use Rattle.figures.specs.declared.counting.BlockStep.{BlockStep}
-use Rattle.figures.specs.Shelf.{counted}
+use Rattle.lowering.specs.Labels.{Role}
+use Rattle.figures.specs.Shelf.{branchOf, counted}
 
 -- by a record's kind: 1 for a Call
 abbrev pub callsOf : ℕ → ℕ
@@ -30,9 +31,9 @@ pub record Listed (bytes : List ℕ) : Type 0 where
   pub same : bytes ≡ encodeAll records
   pub short : length bytes ≤ 704
 
--- these bytes counted behind c: whatever records they are of, those records are counted
-abbrev pub Counts : List ℕ → Count → Count → Type 0
-Counts bytes c r = (rs : List Record) → bytes ≡ encodeAll rs → r ≡ counted c rs
+-- these bytes and n branches counted behind c: whatever records they are of, and whatever role has so many, those are counted
+abbrev pub Counts : List ℕ → ℕ → Count → Count → Type 0
+Counts bytes n c r = (i : Role) → n ≡ branchOf i → (rs : List Record) → bytes ≡ encodeAll rs → r ≡ counted c i rs
 
 -- a count of at most 65,536 bytes
 pub record Within (c : Count) : Type 0 where
@@ -40,3 +41,4 @@ pub record Within (c : Count) : Type 0 where
   pub records : c .records ≤ c .bytes
   pub calls : c .calls ≤ c .records
   pub block : c .block ≤ c .records
+  pub branches : c .branches ≤ c .records

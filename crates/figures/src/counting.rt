@@ -1,19 +1,24 @@
 // What the records in the stage take, counted by a walk over their lengths and kinds.
 ghost use mathlib.Core.Path.{_≡_};
+ghost use Prim.Native.Nat.{_≤_};
+ghost use Rattle.lowering.specs.Labels.{role};
+ghost use Rattle.figures.specs.Shelf.{branchOf};
 ghost use Rattle.figures.specs.Walk.{callsOf, blockStep, Listed, Within, Counts};
 use mir::fields::byte;
+use mir::records::Instruction;
 
 // The kinds that the walk tells apart.
 const LABEL: u8 = 14;
 
 const CALL: u8 = 16;
 
-// What the instructions so far take: bytes, records, Calls, and the records of the block (0: none stands yet).
+// What the instructions so far take: bytes, records, Calls, and the records of the block (0: none stands yet); how many of them branch.
 pub struct Count {
     pub bytes: usize,
     pub records: usize,
     pub calls: usize,
     pub block: usize,
+    pub branches: usize,
 }
 
 // Where a record stands to the block: before its Label 1, directly behind the Label or its working records, or further on.
@@ -27,6 +32,37 @@ pub enum Part {
 pub struct BlockStep {
     pub adds: usize,
     pub next: Part,
+}
+
+// 1 for a Branch or BranchIf of the sheet.
+pub(crate) fn branch_of(instruction: Instruction) -> usize
+    ensures { λ r. ⌜ r ≡ branchOf (role instruction) ⌝ }
+{
+    match instruction {
+        Instruction::Nop => 0,
+        Instruction::Uni { op, dst, s1 } => 0,
+        Instruction::Bi { op, dst, s1, s2 } => 0,
+        Instruction::Mov { dst, s1 } => 0,
+        Instruction::Load { dst, loc } => 0,
+        Instruction::Save { src, loc } => 0,
+        Instruction::LoadConst { dst, idx } => 0,
+        Instruction::Fused { op, dst, a, b, c } => 0,
+        Instruction::IfElse {
+            dst,
+            true_val,
+            false_val,
+            cond,
+        } => 0,
+        Instruction::LoadMath { op, dst, s1, loc } => 0,
+        Instruction::LoadConstMath { op, dst, s1, idx } => 0,
+        Instruction::Label(label) => 0,
+        Instruction::Branch(label) => 1,
+        Instruction::BranchIf {
+            cond,
+            label,
+            is_else,
+        } => 1,
+    }
 }
 
 fn calls_of(kind: u8) -> usize
@@ -73,11 +109,12 @@ fn block_step(part: Part, kind: u8, label: u8) -> BlockStep
     }
 }
 
-// The records of one instruction more, from their bytes.
-pub(crate) fn count_records(bytes: &[u8], before: Count) -> Count
+// The records of one instruction more, from their bytes; `branches` is 1 where it branches.
+pub(crate) fn count_records(bytes: &[u8], branches: usize, before: Count) -> Count
     requires { ⌜ Listed (now bytes) ⌝ }
     requires { ⌜ Within before ⌝ }
-    ensures { λ r. ⌜ Counts (now (bytes .entry)) before r ⌝ }
+    requires { ⌜ branches ≤ 1 ⌝ }
+    ensures { λ r. ⌜ Counts (now (bytes .entry)) branches before r ⌝ }
 {
     let mut at: usize = 0;
     let mut records = before.records;
@@ -100,5 +137,6 @@ pub(crate) fn count_records(bytes: &[u8], before: Count) -> Count
         records: records,
         calls: calls,
         block: block,
+        branches: before.branches + branches,
     }
 }

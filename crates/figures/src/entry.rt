@@ -1,7 +1,9 @@
 // The figures of a sheet. No listing is made: the records of one instruction stand in the stage at a time.
 ghost use mathlib.Core.Path.{_≡_};
 ghost use Prim.Native.Nat.{_≤_};
-ghost use lib.ListN.{length};
+ghost use lib.ListN.{length, drop};
+ghost use Rattle.lowering.specs.Labels.{noneStanding};
+ghost use Rattle.refusals.specs.Noted.{Noted};
 ghost use Rattle.figures.specs.Shelf as Spec;
 ghost use Rattle.figures.specs.Walk.{Within};
 ghost use Rattle.figures.specs.Taken.{Ready, left, figuresAt};
@@ -11,11 +13,12 @@ use super::turn::one;
 use complexifier::state::Complexifier;
 use complexify::copying::put_constants;
 use lowering::realness::Realness;
+use refusals::labels::find_labels;
 use sheet::setup::Mode;
 use sheet::setup::read_setup;
 
-// The number (0: lowering would accept) and index of lowering with 65,536 bytes; the listing's bytes, the count of constants and the records
-// that a play from record 0 would run.
+// The number (0: lowering would accept) and index of lowering with 65,536 bytes; the listing's bytes, the count of constants and the
+// records that a play from record 0 would run, or, of a sheet that branches, the most that one could.
 pub struct Figures {
     pub number: u8,
     pub index: usize,
@@ -36,6 +39,18 @@ fn refusal(number: u8, index: usize) -> Figures
     }
 }
 
+// The records of a play: all, less the block where no branch stands, and the block once for each Call.
+fn records_run(taken: Count) -> usize
+    requires { ⌜ Within taken ⌝ }
+    ensures { λ r. ⌜ r ≡ Spec.run taken ⌝ }
+{
+    let block = taken.block;
+    if taken.branches == 0 {
+        return taken.records - block + taken.calls * block;
+    }
+    taken.records + taken.calls * block
+}
+
 // The figures where the work ends with a number.
 fn figures_at(number: u8, p: CountCursor) -> Figures
     requires { ⌜ Within (p .taken) ⌝ }
@@ -45,13 +60,12 @@ fn figures_at(number: u8, p: CountCursor) -> Figures
         return refusal(number, p.index);
     }
     let taken = p.taken;
-    let block = taken.block;
     Figures {
         number: 0,
         index: p.index,
         bytes: taken.bytes,
         constants: p.constants,
-        records: taken.records - block + taken.calls * block,
+        records: records_run(taken),
     }
 }
 
@@ -62,15 +76,18 @@ fn run(
     mode: Mode,
     start: CountCursor,
     stage: &mut [u8],
+    marks: &mut [u8],
+    rows: &mut [u8],
     constants: &mut [u64],
 ) -> Figures
     requires { ⌜ Ready (now stage) (now constants) start ⌝ }
     requires { ⌜ (start .index ≤ start .at) × (length (now sheet) ≤ 16384) ⌝ }
-    ensures { λ r. ⌜ r ≡ left mode own (now (sheet .entry)) (now (constants .entry)) start ⌝ }
+    requires { ⌜ Noted noneStanding (drop (start .at) (now sheet)) (now marks) (now rows) ⌝ }
+    ensures { λ r. ⌜ r ≡ left mode own (now (sheet .entry)) noneStanding (now (constants .entry)) start ⌝ }
 {
     let mut p = start;
     while p.at < sheet.len() {
-        let t = one(sheet, own, mode, p, stage, constants);
+        let t = one(sheet, own, mode, p, stage, marks, rows, constants);
         let next = t.cursor;
         if t.done {
             return figures_at(t.number, next);
@@ -78,6 +95,46 @@ fn run(
         p = next;
     }
     figures_at(0, p)
+}
+
+// The same, from marks made by looking ahead: a sheet with labels needs a row for each, one without none.
+fn run_marked(
+    sheet: &[u8],
+    own: usize,
+    mode: Mode,
+    start: CountCursor,
+    stage: &mut [u8],
+    constants: &mut [u64],
+) -> Figures
+    requires { ⌜ Ready (now stage) (now constants) start ⌝ }
+    requires { ⌜ (start .index ≤ start .at) × (length (now sheet) ≤ 16384) ⌝ }
+    ensures { λ r. ⌜ r ≡ left mode own (now (sheet .entry)) noneStanding (now (constants .entry)) start ⌝ }
+{
+    let mut marks = [0u8; 256];
+    if find_labels(sheet, start.at, &mut marks) {
+        let mut rows = [0u8; 24576];
+        return run(
+            sheet,
+            own,
+            mode,
+            start,
+            stage,
+            &mut marks,
+            &mut rows,
+            constants,
+        );
+    }
+    let mut none = [0u8; 1];
+    run(
+        sheet,
+        own,
+        mode,
+        start,
+        stage,
+        &mut marks,
+        &mut none,
+        constants,
+    )
 }
 
 pub fn shelf(sheet: &[u8]) -> Figures
@@ -100,6 +157,7 @@ pub fn shelf(sheet: &[u8]) -> Figures
         records: 0,
         calls: 0,
         block: 0,
+        branches: 0,
     };
     let start = CountCursor {
         at: setup.start,
@@ -110,5 +168,5 @@ pub fn shelf(sheet: &[u8]) -> Figures
     };
     let mut stage = [0u8; 704];
     let mode = setup.mode;
-    run(sheet, own, mode, start, &mut stage, &mut constants)
+    run_marked(sheet, own, mode, start, &mut stage, &mut constants)
 }

@@ -1,13 +1,15 @@
 // One instruction of a sheet: read, listed in the stage, and counted there.
 ghost use mathlib.Core.Path.{_≡_};
-ghost use Prim.Native.Nat.{_<_};
+ghost use Prim.Native.Nat.{_≤_, _<_};
 ghost use lib.ListN.{length};
 ghost use Rattle.figures.specs.Taken.{Ready, Fits, Finished, CountedOne, Taken, refusing};
 use super::counting::Count;
+use super::counting::branch_of;
 use super::counting::count_records;
 use complexifier::state::Complexifier;
-use complexify::barred::barred;
 use mir::records::Instruction;
+use refusals::barred::barred;
+use refusals::labels::pass;
 use rerun::instruction::rerun;
 use rerun::output::Output;
 use sheet::reader::NextInstruction;
@@ -44,11 +46,19 @@ fn refused(number: u8, cursor: CountCursor) -> Next
 }
 
 // An instruction's records counted, and its constants put behind the finished ones; 7 where there are more than 65,536 bytes.
-fn finish(t: Output, bytes: &[u8], next: usize, p: CountCursor, constants: &mut [u64]) -> Next
+fn finish(
+    t: Output,
+    bytes: &[u8],
+    branches: usize,
+    next: usize,
+    p: CountCursor,
+    constants: &mut [u64],
+) -> Next
     requires { ⌜ Fits t (now bytes) (now constants) p ⌝ }
-    ensures { λ r. ⌜ Finished t (now (bytes .entry)) next (now (constants .entry)) p (now (constants .exit)) r ⌝ }
+    requires { ⌜ branches ≤ 1 ⌝ }
+    ensures { λ r. ⌜ Finished t (now (bytes .entry)) branches next (now (constants .entry)) p (now (constants .exit)) r ⌝ }
 {
-    let taken = count_records(bytes, p.taken);
+    let taken = count_records(bytes, branches, p.taken);
     if 65536 < taken.bytes {
         return refused(7, p);
     }
@@ -93,7 +103,8 @@ fn lower_one(
     let before = p.constants;
     let t = rerun(low, &constants[..before], mode, stage, 0, instruction);
     let n = t.at;
-    finish(t, &stage[..n], next, p, constants)
+    let branches = branch_of(instruction);
+    finish(t, &stage[..n], branches, next, p, constants)
 }
 
 // One turn, of a sheet with `own` constants.
@@ -103,16 +114,24 @@ pub(crate) fn one(
     mode: Mode,
     p: CountCursor,
     stage: &mut [u8],
+    marks: &mut [u8],
+    rows: &mut [u8],
     constants: &mut [u64],
 ) -> Next
     requires { ⌜ Ready (now stage) (now constants) p ⌝ }
     requires { ⌜ p .index < 65536 ⌝ }
     requires { ⌜ p .at < length (now sheet) ⌝ }
-    ensures { λ r. ⌜ Taken mode own (now (sheet .entry)) (now (constants .entry)) p (now (constants .exit)) r ⌝ }
+    ensures { λ r. ⌜ Taken mode own (now (sheet .entry)) (now (constants .entry)) (now (marks .entry)) (now (rows .entry)) p (now (constants .exit)) (now (marks .exit)) (now (rows .exit)) r ⌝ }
 {
     let at = p.at;
     match read_instruction(sheet, at, own) {
         NextInstruction::Got(instruction, next) => {
+            let low = p.low;
+            let real = low.real;
+            let number = pass(instruction, real, marks, rows);
+            if number != 0 {
+                return refused(number, p);
+            }
             lower_one(instruction, next, mode, p, stage, constants)
         }
         NextInstruction::Refused(number) => refused(number, p),

@@ -1,7 +1,7 @@
 -- The claim of demand 3, about a sheet whose instructions are within their limits.
 use mathlib.Core.Path.{_≡_, refl, sym, ap, _∙_, subst}
 use mathlib.Core.Bool.{Bool, true, false}
-use mathlib.Core.List.{List}
+use mathlib.Core.List.{List, []}
 use mathlib.Core.Option.{Option, none, some}
 use Prim.Native.Nat.{ℕ, suc, _+_, _-_, _≤_, _<_}
 use native.Mathlib.Omega.{arith}
@@ -16,22 +16,17 @@ use Rattle.player_machine.specs.Machine.{Store, block, going, reach}
 use Rattle.player_machine.specs.Answer.{accept}
 use Rattle.lowering.specs.declared.realness.Realness.{Realness}
 use Rattle.lowering.specs.Realness.{isRealReg}
-use Rattle.lowering.specs.Rerun.{complexify}
+use Rattle.lowering.specs.Lower.{startState}
 use Rattle.leftovers.specs.Leftovers.{Alike, Sheet, Lowered, upTo, point, realAt, playOn}
 use Rattle.leftovers.specs.Leftovers.{standing, Mixing, Spares, Changes, AllSpare, EndAlike, Claim}
-use Rattle.leftovers.proofs.Instructions.{HalfOk}
+use Rattle.leftovers.proofs.Instructions.{AllIn, HalfOk}
 use Rattle.leftovers.proofs.Lengths.{play-length}
 use Rattle.leftovers.proofs.Words.{to-kept, from-kept}
-use Rattle.leftovers.proofs.Points.{AllIn, HalvesOk, halves, whole, playFrom, stood, play-on, real-at, reached, reached-behind, spares}
+use Rattle.leftovers.proofs.Points.{whole, playFrom, stood, play-on, spares}
+use Rattle.leftovers.proofs.Branches.{Sound, Same}
+use Rattle.leftovers.proofs.Jumping.{Fair}
+use Rattle.leftovers.proofs.Sought.{none≢some}
 use Rattle.leftovers.proofs.Sheets.{asLowered, all-in, read-back, answers}
-
-is-some : Option Store → Type 0
-is-some none = ⊥
-is-some (some σ) = Unit {0}
-
-none≢some : {σ : Store} → none ≡ some σ → ⊥
-unfolding is-some
-none≢some e = subst is-some (sym e) tt
 
 module _ (s : Sheet) (v : AllIn (length (s .constants)) (s .instructions)) (f : length (s .constants) ≤ 251) where
   v' : AllIn (length (whole s .after .consts)) (s .instructions)
@@ -46,29 +41,25 @@ module _ (s : Sheet) (v : AllIn (length (s .constants)) (s .instructions)) (f : 
       ap (λ (rs : List Record). reach (whole s .after .consts) (block rs) going (point s j - point s i) (drop (point s i) rs) σ)
       (ap (λ d. d .items) (read-back s v f))
 
-  -- the next higher point reached is the next one
+  -- from its point to the next higher one reached
   spares-next : (i n : ℕ) (σ α β : Store) → Changes l i σ (i + n) α β
       → Spares (realAt s (i + n)) (getD (s .instructions) (i + n) Instruction.Nop) α β
   unfolding l
   spares-next i n σ α β c =
-      spares s v' i n below σ α β (sym (stands i σ (i + n)) ∙ c .before)
-      (sym (stands i σ (i + suc n)) ∙ subst (λ (x : ℕ). standing l i σ x ≡ some β) next (c .after))
+      spares s v' i n x below σ α β (sym (stands i σ (i + n)) ∙ c .before) (sym (stands i σ (i + (n + suc x))) ∙ subst (λ (y : ℕ). standing l i σ y ≡ some β) next (c .after))
+      (λ y h. sym (stands i σ (i + (n + suc y))) ∙ c .first (i + (n + suc y)) (omega arith) (omega (arith, h, next)))
     where
+      x : ℕ
+      x = c .next - (i + suc n)
+
+      next : c .next ≡ i + (n + suc (c .next - (i + suc n)))
+      next = let h = c .higher in omega arith
+
       below : n < length (drop i (s .instructions))
       below =
           let h = c .higher in
           let g = c .within in
           omega (arith, length-drop i (s .instructions))
-
-      next : c .next ≡ i + suc n
-      next = go (decLt (i + suc n) (c .next))
-        where
-          go : Dec (i + suc n < c .next) → c .next ≡ i + suc n
-          go (yes h) =
-              absurd (none≢some (sym (c .first (i + suc n) (omega arith) h) ∙ stands i σ (i + suc n) ∙ reached-behind s v' i n below σ .1))
-          go (no h) =
-              let g = c .higher in
-              omega arith
 
   all-spare : (i : ℕ) (σ : Store) → AllSpare l i σ
   unfolding l
@@ -81,51 +72,47 @@ module _ (s : Sheet) (v : AllIn (length (s .constants)) (s .instructions)) (f : 
           let h = c .from in
           omega arith
 
-  -- every later instruction is reached
-  no-mixing : (i : ℕ) (σ : Store) → (Mixing l i σ → ⊥) → HalvesOk (s .mode) (drop i (s .instructions)) (upTo s i .after)
+  -- no Half that is reached stands in the way
+  half-ok : (i : ℕ) (σ : Store) → (Mixing l i σ → ⊥) → (n : ℕ) (α : Store) → n < length (drop i (s .instructions)) → stood s i σ (i + n) ≡ some α
+      → HalfOk (realAt s (i + n)) (getD (drop i (s .instructions)) n Instruction.Nop)
   unfolding l
-  no-mixing i σ g = halves (s .mode) (drop i (s .instructions)) (upTo s i .after) half-ok
+  half-ok i σ g n α h e d a f x = go (isRealReg (realAt s (i + n)) d) refl
     where
-      half-ok : (n : ℕ) → n < length (drop i (s .instructions))
-          → HalfOk (complexify (s .mode) (take n (drop i (s .instructions))) (upTo s i .after) .after .real)
-          (getD (drop i (s .instructions)) n Instruction.Nop)
-      half-ok n h d a e x =
-          subst (λ (ρ : Realness). isRealReg ρ d ≡ true) (sym (real-at s v' i n h)) (go (isRealReg (realAt s (i + n)) d) refl)
-        where
-          go : (y : Bool) → isRealReg (realAt s (i + n)) d ≡ y → y ≡ true
-          go true q = refl
-          go false q =
-              absurd (g (record {
-                j = i + n;
-                d = d;
-                a = a;
-                α = reached s v' i n h σ .0;
-                later = omega arith;
-                isHalf = sym (getD-drop i (s .instructions) n Instruction.Nop) ∙ e;
-                reached = stands i σ (i + n) ∙ reached s v' i n h σ .1;
-                fromReal = subst (λ (ρ : Realness). isRealReg ρ a ≡ true) (real-at s v' i n h) x;
-                intoComplex = q;
-              }))
+      go : (y : Bool) → isRealReg (realAt s (i + n)) d ≡ y → y ≡ true
+      go true q = refl
+      go false q =
+          absurd (g (record {
+            j = i + n;
+            d = d;
+            a = a;
+            α = α;
+            later = omega arith;
+            isHalf = sym (getD-drop i (s .instructions) n Instruction.Nop) ∙ f;
+            reached = stands i σ (i + n) ∙ e;
+            fromReal = x;
+            intoComplex = q;
+          }))
 
-  module _ (room : length (encodeAll (whole s .records)) ≤ 65536) where
+  module _ (f₀ : Fair [] (whole s .records)) (d : Sound (whole s .after .consts) (block (whole s .records)) (s .mode) (s .instructions) (startState (s .places) (s .constants)))
+      (room : length (encodeAll (whole s .records)) ≤ 65536) where
     plays : (i : ℕ) (σ : Store) → length σ ≡ 1602 → playOn l i σ ≡ accept (length (whole s .records)) (playFrom s i σ)
     unfolding l
-    plays i σ h = answers s v f room i σ h
+    plays i σ h = answers s v f f₀ room i σ h
 
     end-alike : (i : ℕ) (σ τ : Store) → Alike (realAt s i) σ τ → (Mixing l i σ → ⊥) → EndAlike l i σ τ
     unfolding l
     end-alike i σ τ a g =
-        let e = play-on s v' i σ τ (to-kept a) (no-mixing i σ g) in
+        let e = play-on s v' d i σ τ (to-kept a) (half-ok i σ g) in
         let p = plays i σ (a .words) in
         let q = plays i τ (sym (a .same) ∙ a .words) in
         let n =
         play-length (whole s .after .consts) (block (whole s .records)) going (drop (point s i) (whole s .records)) σ ∙ a .words in
         record {
-          played = ap (λ a. a .played) p ∙ e .0 ∙ sym (ap (λ a. a .played) q);
+          played = ap (λ a. a .played) p ∙ e .played ∙ sym (ap (λ a. a .played) q);
           stores =
               subst (λ (x : Store). Alike (whole s .after .real) x (playOn l i τ .store)) (sym (ap (λ a. a .store) p))
               (subst (λ (y : Store). Alike (whole s .after .real) (playFrom s i σ .store) y) (sym (ap (λ a. a .store) q))
-              (from-kept n (e .1)));
+              (from-kept n (e .agree)));
         }
 
     pub claim : (σ₀ : Store) → length σ₀ ≡ 1602 → (i : ℕ) (σ τ : Store) → Alike (realAt s i) σ τ → Claim (asLowered s) σ₀ i σ τ

@@ -1,8 +1,8 @@
--- The two sheets of specs/Examples.antt, computed.
+-- The sheets of specs/Examples.antt, computed.
 use mathlib.Core.Path.{_≡_, refl, sym, ap, _∙_}
 use mathlib.Core.Bool.{true, false, true≢false}
 use mathlib.Core.List.{List}
-use mathlib.Core.Option.{Option, some}
+use mathlib.Core.Option.{Option, none, some}
 use Prim.Native.Nat.{ℕ, zero, suc, _≤_}
 use native.Mathlib.Omega.{arith}
 use native.Mathlib.Decide.{ℕ-discrete}
@@ -21,7 +21,7 @@ use Rattle.mir.specs.Encode.{recordOf}
 use Rattle.sheet.specs.Setup.{setup}
 use Rattle.sheet.specs.Instruction.{instructionFrom}
 use Rattle.records.specs.Record.{recordFrom}
-use Rattle.player_machine.specs.Machine.{Store, at, uniWord, binWord, writes, put, exec, ticks, play, reach}
+use Rattle.player_machine.specs.Machine.{Store, at, uniWord, binWord, writes, put, exec, isLabel, ticks, play, reach}
 use Rattle.player_machine.specs.Jumps.{breach}
 use Rattle.player_machine.specs.Answer.{answer}
 use Rattle.lowering.specs.declared.realness.Realness.{Realness}
@@ -30,15 +30,17 @@ use Rattle.lowering.specs.Lines.{realLines}
 use Rattle.lowering.specs.Complexifier as c
 use Rattle.lowering.specs.Complexifier.{then, unlisted, byOne}
 use Rattle.lowering.specs.Rerun.{rerunUni, rerun, complexify}
+use Rattle.lowering.specs.Labels.{role, later, misplaced, unequal, passed}
 use Rattle.lowering.specs.Lower.{lowerFrom, lowerSheet}
 use Rattle.leftovers.specs.Leftovers.{Leftover, half, Alike, sheetOf, Accepted, Lowered, lowered, realAt, playOn, standing}
 use Rattle.leftovers.specs.Kept.{kept-im}
-use Rattle.leftovers.specs.Examples.{zeros, mixing, touched, Needed, clean, Met}
+use Rattle.leftovers.specs.Examples.{zeros, mixing, touched, Needed, clean, Met, jumping, JumpedOver}
 use Rattle.leftovers.proofs.Words.{not-both}
+use Rattle.leftovers.proofs.Sought.{none≢some}
 
 -- what is opened to lower a sheet, to stand at its points and to play on
 unfoldable lower : List ℕ → Lowered
-unfolding lowerSheet setup wordAt lowerFrom decoded instructionFrom takesKind lengthOf uniOps rerun rerunUni byOne realLines recordOf c.half re im complexify then unlisted
+unfolding lowerSheet setup wordAt lowerFrom role later misplaced unequal passed decoded instructionFrom takesKind lengthOf uniOps rerun rerunUni byOne realLines recordOf c.directed c.half re im complexify then unlisted
 lower bytes = lowered bytes 65536
 
 unfoldable stood : List ℕ → ℕ → Option Store
@@ -162,6 +164,76 @@ met =
           };
       unmixed = λ m. clean-unmixed (m .j) (m .d) (m .a) (m .later) (m .isHalf) (m .intoComplex);
       other = λ e. differ (unfold zeros touched in ap (λ (σ : Store). at σ 5) e);
+    }
+  where
+    differ : _≡_ {A = ℕ} 0 0x4000_0000_0000_0000 → ⊥
+    differ q = omega arith
+
+-- ---- the third
+
+jumping-accepted : Accepted jumping 65536
+unfolding jumping lower
+jumping-accepted = record { right = refl; slice = lit≤ tt; number = refl }
+
+jumping-stands : stood jumping 1 ≡ some zeros
+unfolding jumping stood
+jumping-stands = refl
+
+jumping-real : isRealReg (realAt (sheetOf jumping) 1) 0 ≡ true
+unfolding jumping lower
+jumping-real = refl
+
+-- the play does not stand at the Half's point
+jumping-over : standing (lower jumping) 1 zeros 2 ≡ none
+unfolding jumping lower stood isLabel
+jumping-over = refl
+
+jumping-1 : getD (sheetOf jumping .instructions) 1 Instruction.Nop ≡ Instruction.Branch 3
+unfolding jumping lower
+jumping-1 = refl
+
+jumping-3 : getD (sheetOf jumping .instructions) 3 Instruction.Nop ≡ Instruction.Label 3
+unfolding jumping lower
+jumping-3 = refl
+
+jumping-after : (j : ℕ) → getD (sheetOf jumping .instructions) (suc (suc (suc (suc j)))) Instruction.Nop ≡ Instruction.Nop
+unfolding jumping lower
+jumping-after j = refl
+
+branch-no-half : (d a : ℕ) → Instruction.Branch 3 ≡ Instruction.Uni UniOp.Half d a → ⊥
+branch-no-half d a q = let z : _≡_ {A = ℕ} 0 1 = cc in omega arith
+
+label-no-half : (d a : ℕ) → Instruction.Label 3 ≡ Instruction.Uni UniOp.Half d a → ⊥
+label-no-half d a q = let z : _≡_ {A = ℕ} 0 1 = cc in omega arith
+
+jumping-unmixed : (j d a : ℕ) (α : Store) → 1 ≤ j → getD (sheetOf jumping .instructions) j Instruction.Nop ≡ Instruction.Uni UniOp.Half d a
+    → standing (lower jumping) 1 zeros j ≡ some α → ⊥
+jumping-unmixed zero d a α h e q = omega arith
+jumping-unmixed (suc zero) d a α h e q = branch-no-half d a (sym jumping-1 ∙ e)
+jumping-unmixed (suc (suc zero)) d a α h e q = none≢some (sym jumping-over ∙ q)
+jumping-unmixed (suc (suc (suc zero))) d a α h e q = label-no-half d a (sym jumping-3 ∙ e)
+jumping-unmixed (suc (suc (suc (suc j)))) d a α h e q = no-half d a (sym (jumping-after j) ∙ e)
+
+pub jumped-over : JumpedOver jumping 1 2
+unfolding lower stood
+jumped-over =
+    record {
+      isHalf = unfold jumping in refl;
+      fromReal = unfold jumping in refl;
+      intoComplex = unfold jumping in refl;
+      met =
+          record {
+            given =
+                record {
+                  accepted = jumping-accepted;
+                  words = unfold zeros in refl;
+                  upper = unfold jumping in lit≤ tt;
+                  stands = jumping-stands;
+                  changed = touches (realAt (sheetOf jumping) 1) jumping-real;
+                };
+            unmixed = λ m. jumping-unmixed (m .j) (m .d) (m .a) (m .α) (m .later) (m .isHalf) (m .reached);
+            other = λ e. differ (unfold zeros touched in ap (λ (σ : Store). at σ 5) e);
+          };
     }
   where
     differ : _≡_ {A = ℕ} 0 0x4000_0000_0000_0000 → ⊥

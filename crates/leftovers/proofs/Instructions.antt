@@ -2,7 +2,7 @@
 use mathlib.Core.Path.{_≡_, refl}
 use mathlib.Core.Bool.{Bool, true, false, cond}
 use mathlib.Core.Logic.{inl, inr}
-use mathlib.Core.List.{List, [], _∷_}
+use mathlib.Core.List.{List, [], _∷_, _++_}
 use Prim.Native.Nat.{ℕ, _≤_, _<_}
 use lib.ListN.{length}
 use lib.Dec.{lit<, lit≤, eqb}
@@ -47,10 +47,41 @@ InRange count (Instruction.Fused op d a b c) = (d < 32) × (a < 32) × (b < 32) 
 InRange count (Instruction.IfElse d a b p) = (d < 32) × (a < 32) × (b < 32) × (index p < 256) × Stacked p
 InRange count (Instruction.LoadMath op d a p) = (d < 32) × (a < 32) × (index p < 256)
 InRange count (Instruction.LoadConstMath op d a i) = (d < 32) × (a < 32) × (i < count)
+InRange count (Instruction.Label l) = 2 < l
+InRange count (Instruction.Branch l) = 2 < l
+InRange count (Instruction.BranchIf c l e) = (c < 32) × (2 < l)
+
+-- every instruction is in range
+abbrev pub AllIn : ℕ → List Instruction → Type 0
+AllIn count [] = Unit {0}
+AllIn count (i ∷ l) = InRange count i × AllIn count l
+
+pub all-in-split : (count : ℕ) (l l' : List Instruction) → AllIn count (l ++ l') → AllIn count l × AllIn count l'
+all-in-split count [] l' v = (tt, v)
+all-in-split count (i ∷ l) l' v =
+    let r = all-in-split count l l' (v .1) in
+    ((v .0, r .0), r .1)
 
 -- the operands that are recorded as real before the instruction
 abbrev pub Cleared : Realness → Instruction → ℕ → Type 0
 Cleared ρ i r = IsOperand i r × (isRealReg ρ r ≡ true)
+
+-- an instruction that neither is a label nor branches
+abbrev pub Works : Instruction → Type 0
+Works Instruction.Nop = Unit {0}
+Works (Instruction.Uni op d a) = Unit {0}
+Works (Instruction.Bi op d a b) = Unit {0}
+Works (Instruction.Mov d a) = Unit {0}
+Works (Instruction.Load d p) = Unit {0}
+Works (Instruction.Save a p) = Unit {0}
+Works (Instruction.LoadConst d i) = Unit {0}
+Works (Instruction.Fused op d a b c) = Unit {0}
+Works (Instruction.IfElse d a b p) = Unit {0}
+Works (Instruction.LoadMath op d a p) = Unit {0}
+Works (Instruction.LoadConstMath op d a i) = Unit {0}
+Works (Instruction.Label l) = ⊥
+Works (Instruction.Branch l) = ⊥
+Works (Instruction.BranchIf c l e) = ⊥
 
 -- an instruction is no Half of a register recorded as real into one recorded as complex
 abbrev pub HalfOk : Realness → Instruction → Type 0
@@ -137,29 +168,29 @@ module _ (k : List ℕ) (B : List Work) (m : Mode) (s : State) where
   unfolding c.loadConst good rename re im
   load-const-keeps Z H d i hd hi = settled k B Z H s d d d hd hd hd _ _ true refl refl (Work.LoadConst 4 i ∷ []) _ (tt, refl, (hi, tt))
 
--- each instruction keeps the agreement, and spares the general registers
-pub rerun-keeps : (k : List ℕ) (B : List Work) (m : Mode) (i : Instruction) (s : State) → InRange (length k) i
+-- each instruction that works keeps the agreement, and spares the general registers
+pub rerun-keeps : (k : List ℕ) (B : List Work) (m : Mode) (i : Instruction) (s : State) → Works i → InRange (length k) i
     → (rerun m i s .after .rootDefined ≡ true → Block k B) → length (rerun m i s .after .consts) ≤ length k
     → Keeps k B (IsDestination i) (Cleared (s .real) i) (HalfOk (s .real) i) s (rerun m i s)
 unfolding rerun then
-rerun-keeps k B m Instruction.Nop s v b hk = unlisted-keeps k B _ _ _ s
-rerun-keeps k B m (Instruction.Uni op d a) s v b hk =
+rerun-keeps k B m Instruction.Nop s z v b hk = unlisted-keeps k B _ _ _ s
+rerun-keeps k B m (Instruction.Uni op d a) s z v b hk =
     uni-keeps k B m s _ _ op d a (v .0) (v .1) (λ e. (refl, e)) (λ h e. h d a (rw e)) b hk
-rerun-keeps k B m (Instruction.Bi op d a c) s v b hk =
+rerun-keeps k B m (Instruction.Bi op d a c) s z v b hk =
     bin-keeps k B m s _ _ op d a c (v .0) (v .1) (v .2) (λ e. (inl refl, e)) (λ e. (inr refl, e)) hk
-rerun-keeps k B m (Instruction.Mov d a) s v b hk =
+rerun-keeps k B m (Instruction.Mov d a) s z v b hk =
     let i = Instruction.Mov d a in
     two (λ q. Keeps k B (λ r. r ≡ d) (Cleared (s .real) i) (HalfOk (s .real) i) s (cond q (unlisted s) (c.fmov d a s)))
     (unlisted-keeps k B _ _ _ s) (fmov-keeps k B _ _ s d a (v .0) (v .1)) (eqb d a)
-rerun-keeps k B m (Instruction.Load d p) s v b hk = load-keeps k B _ _ s d p (v .0) (v .1)
-rerun-keeps k B m (Instruction.Save a p) s v b hk = save-keeps k B _ _ _ a p (v .0) (v .1) (v .2) s (λ e. (refl, e))
-rerun-keeps k B m (Instruction.LoadConst d i) s v b hk = load-const-keeps k B m s _ _ d i (v .0) (v .1)
-rerun-keeps k B m (Instruction.Fused op d a b' c) s v b hk = fused-keeps k B m s _ _ op d a b' c (v .0) (v .1) (v .2) (v .3)
-rerun-keeps k B m (Instruction.IfElse d a c p) s v b hk =
+rerun-keeps k B m (Instruction.Load d p) s z v b hk = load-keeps k B _ _ s d p (v .0) (v .1)
+rerun-keeps k B m (Instruction.Save a p) s z v b hk = save-keeps k B _ _ _ a p (v .0) (v .1) (v .2) s (λ e. (refl, e))
+rerun-keeps k B m (Instruction.LoadConst d i) s z v b hk = load-const-keeps k B m s _ _ d i (v .0) (v .1)
+rerun-keeps k B m (Instruction.Fused op d a b' c) s z v b hk = fused-keeps k B m s _ _ op d a b' c (v .0) (v .1) (v .2) (v .3)
+rerun-keeps k B m (Instruction.IfElse d a c p) s z v b hk =
     ifelse-keeps k B _ _ s d a c (v .0) (v .1) (v .2) (λ e. (inl refl, e)) (λ e. (inr refl, e)) p (v .3) (v .4)
-rerun-keeps k B m (Instruction.LoadMath op d a p) s v b hk =
+rerun-keeps k B m (Instruction.LoadMath op d a p) s z v b hk =
     join (frame-any _ 31 (lit≤ tt) (load-keeps k B _ _ s 31 p (lit< tt) (v .2)))
     (arith-keeps k B _ _ (c.loadFrom 31 p s .after) d a 31 (v .0) (v .1) (lit< tt) m op hk)
-rerun-keeps k B m (Instruction.LoadConstMath op d a i) s v b hk =
+rerun-keeps k B m (Instruction.LoadConstMath op d a i) s z v b hk =
     join (frame-any _ 31 (lit≤ tt) (load-const-keeps k B m s _ _ 31 i (lit< tt) (v .2)))
     (arith-keeps k B _ _ (c.loadConst 31 i s .after) d a 31 (v .0) (v .1) (lit< tt) m op hk)

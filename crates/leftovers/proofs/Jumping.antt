@@ -1,13 +1,13 @@
 -- A lowered listing keeps the jump rules.
-use mathlib.Core.Path.{_≡_, refl, sym, ap, _∙_}
-use mathlib.Core.Bool.{Bool, true, false, _||_}
+use mathlib.Core.Path.{_≡_, refl, sym, ap, _∙_, subst}
+use mathlib.Core.Bool.{Bool, true, false, _||_, true≢false}
 use mathlib.Core.List.{List, [], _∷_, _++_, map, reverseAux, append-assoc, append-nil}
 use Prim.Native.Nat.{ℕ, zero, suc, _+_, _<_}
 use native.Mathlib.Omega.{arith}
 use native.Mathlib.Nat.{zero-add, suc-add}
 use lib.ListN.{length, length-append}
 use lib.Dec.{ltb}
-use borrow.Author.Tests.{lt-ltb}
+use borrow.Author.Tests.{lt-ltb, le-ltb, ne-eqb}
 use Rattle.mir.specs.declared.records.Work.{Work}
 use Rattle.mir.specs.declared.records.Record.{Record}
 use Rattle.mir.specs.declared.records.Instruction.{Instruction}
@@ -16,7 +16,8 @@ use Rattle.player_machine.specs.Jumps.{isReturn, tally, has, inBlock, breachFro
 use Rattle.sheet.specs.declared.setup.Mode.{Mode}
 use Rattle.lowering.specs.Complexifier.{State}
 use Rattle.lowering.specs.Rerun.{complexify}
-use Rattle.leftovers.proofs.Listing.{Plain, plain-works, Shape, unrooted, rooted, shape}
+use Rattle.leftovers.proofs.Listing.{AllOutside, Plain, plain-works, Shape, unrooted, rooted, shape}
+use Rattle.leftovers.proofs.Instructions.{AllIn}
 
 -- what is found in a list is found with others before it
 past : (p : Record → Bool) (xs rs : List Record) → 0 < tally p rs → 0 < tally p (xs ++ rs)
@@ -43,40 +44,79 @@ unfolding breachFrom
 works-pass before [] rest = sym (zero-add (breachFrom before rest))
 works-pass before (w ∷ l) rest = ap suc (works-pass (Record.Work w ∷ before) l rest) ∙ sym (suc-add (length (map Record.Work l)) _)
 
--- working records and Calls neither open the block nor end it, and no Label stands among them
-plain-open : (rs before : List Record) → Plain rs → inBlock (reverseAux rs before) ≡ inBlock before
+-- of a label of the sheet's own none stands before; of a branch to one it stands behind, and not before
+abbrev pub FairAt : List Record → Record → List Record → Type 0
+FairAt before (Record.Work w) behind = Unit {0}
+FairAt before (Record.Label l) behind = 2 < l → has (isLabel l) before ≡ false
+FairAt before (Record.Branch l) behind = 2 < l → (has (isLabel l) behind ≡ true) × (has (isLabel l) before ≡ false)
+FairAt before (Record.Call l) behind = Unit {0}
+FairAt before (Record.BranchIf c l e) behind = 2 < l → (has (isLabel l) behind ≡ true) × (has (isLabel l) before ≡ false)
+
+abbrev pub Fair : List Record → List Record → Type 0
+Fair before [] = Unit {0}
+Fair before (r ∷ rs) = FairAt before r rs × Fair (r ∷ before) rs
+
+pub fair-past : (before rs rest : List Record) → Fair before (rs ++ rest) → Fair (reverseAux rs before) rest
+fair-past before [] rest f = f
+fair-past before (r ∷ rs) rest f = fair-past (r ∷ before) rs rest (f .1)
+
+-- what stands outside the block neither opens it nor ends it, and none of Root's labels is among it
+outside-open : (calls : Bool) (rs before : List Record) → AllOutside true calls rs → inBlock (reverseAux rs before) ≡ inBlock before
 unfolding inBlock isLabel isReturn
-plain-open [] before p = refl
-plain-open (Record.Work w ∷ rs) before p = plain-open rs (Record.Work w ∷ before) (p .1)
-plain-open (Record.Label l ∷ rs) before p = absurd (p .0)
-plain-open (Record.Branch l ∷ rs) before p = absurd (p .0)
-plain-open (Record.Call l ∷ rs) before p = plain-open rs (Record.Call l ∷ before) (p .1)
+outside-open calls [] before p = refl
+outside-open calls (Record.Work w ∷ rs) before p = outside-open calls rs (Record.Work w ∷ before) (p .1)
+outside-open calls (Record.Label l ∷ rs) before p =
+    outside-open calls rs (Record.Label l ∷ before) (p .1) ∙ rw (ne-eqb l 1 (λ e. let h = p .0 in omega (arith, e, h))) refl
+outside-open calls (Record.Branch l ∷ rs) before p =
+    outside-open calls rs (Record.Branch l ∷ before) (p .1) ∙ rw (ne-eqb l 0 (λ e. let h = p .0 in omega (arith, e, h))) refl
+outside-open calls (Record.Call l ∷ rs) before p = outside-open calls rs (Record.Call l ∷ before) (p .1)
+outside-open calls (Record.BranchIf c l e ∷ rs) before p = outside-open calls rs (Record.BranchIf c l e ∷ before) (p .1)
 
-plain-labels : (l : ℕ) (rs before : List Record) → Plain rs → tally (isLabel l) (reverseAux rs before) ≡ tally (isLabel l) before
+outside-labels : (calls : Bool) (l : ℕ) → l < 3 → (rs before : List Record) → AllOutside true calls rs
+    → tally (isLabel l) (reverseAux rs before) ≡ tally (isLabel l) before
 unfolding tally isLabel
-plain-labels l [] before p = refl
-plain-labels l (Record.Work w ∷ rs) before p = plain-labels l rs (Record.Work w ∷ before) (p .1) ∙ zero-add _
-plain-labels l (Record.Label m ∷ rs) before p = absurd (p .0)
-plain-labels l (Record.Branch m ∷ rs) before p = absurd (p .0)
-plain-labels l (Record.Call m ∷ rs) before p = plain-labels l rs (Record.Call m ∷ before) (p .1) ∙ zero-add _
+outside-labels calls l o [] before p = refl
+outside-labels calls l o (Record.Work w ∷ rs) before p = outside-labels calls l o rs (Record.Work w ∷ before) (p .1) ∙ zero-add _
+outside-labels calls l o (Record.Label m ∷ rs) before p =
+    outside-labels calls l o rs (Record.Label m ∷ before) (p .1) ∙ rw (ne-eqb m l (λ e. let h = p .0 in omega (arith, e, h))) (zero-add _)
+outside-labels calls l o (Record.Branch m ∷ rs) before p = outside-labels calls l o rs (Record.Branch m ∷ before) (p .1) ∙ zero-add _
+outside-labels calls l o (Record.Call m ∷ rs) before p = outside-labels calls l o rs (Record.Call m ∷ before) (p .1) ∙ zero-add _
+outside-labels calls l o (Record.BranchIf c m e ∷ rs) before p = outside-labels calls l o rs (Record.BranchIf c m e ∷ before) (p .1) ∙ zero-add _
 
--- outside the block, where a Label 1 stands somewhere, they break no rule
+-- outside the block they break no rule, where a Label 1 stands somewhere if there are Calls
 anywhere : (a b : ℕ) → 0 < a + b → (ltb 0 a || ltb 0 b) ≡ true
 anywhere zero b h = lt-ltb 0 b (omega (arith, h))
 anywhere (suc a) b h = rw (lt-ltb 0 (suc a) (omega arith)) refl
 
-plain-pass : (before rs rest : List Record) → Plain rs → inBlock before ≡ false
-    → 0 < tally (isLabel 1) before + tally (isLabel 1) (rs ++ rest)
+outside-pass : (calls : Bool) (before rs rest : List Record) → AllOutside true calls rs → Fair before (rs ++ rest) → inBlock before ≡ false
+    → (calls ≡ true → 0 < tally (isLabel 1) before + tally (isLabel 1) (rs ++ rest))
     → breachFrom before (rs ++ rest) ≡ length rs + breachFrom (reverseAux rs before) rest
 unfolding breachFrom
-plain-pass before [] rest p o h = sym (zero-add (breachFrom before rest))
-plain-pass before (Record.Work w ∷ rs) rest p o h =
-    ap suc (plain-pass (Record.Work w ∷ before) rs rest (p .1) o (omega (arith, h))) ∙ sym (suc-add (length rs) _)
-plain-pass before (Record.Label l ∷ rs) rest p o h = absurd (p .0)
-plain-pass before (Record.Branch l ∷ rs) rest p o h = absurd (p .0)
-plain-pass before (Record.Call l ∷ rs) rest p o h =
-    rw (p .0, o, anywhere (tally (isLabel 1) before) (tally (isLabel 1) (rs ++ rest)) (omega (arith, h)))
-    (ap suc (plain-pass (Record.Call 1 ∷ before) rs rest (p .1) o (omega (arith, h))) ∙ sym (suc-add (length rs) _))
+outside-pass calls before [] rest p f o h = sym (zero-add (breachFrom before rest))
+outside-pass calls before (Record.Work w ∷ rs) rest p f o h =
+    ap suc (outside-pass calls (Record.Work w ∷ before) rs rest (p .1) (f .1) o (λ c. let i = h c in omega (arith, i))) ∙ sym (suc-add (length rs) _)
+outside-pass calls before (Record.Label l ∷ rs) rest p f o h =
+    let q = p .0 in
+    let one = ne-eqb l 1 (λ e. omega (arith, e, q)) in
+    rw (ne-eqb l 0 (λ e. omega (arith, e, q)), f .0 q, o, one)
+    (ap suc (outside-pass calls (Record.Label l ∷ before) rs rest (p .1) (f .1) (rw (one, o) refl) (λ c. let i = rw one at h c in omega (arith, i)))
+    ∙ sym (suc-add (length rs) _))
+outside-pass calls before (Record.Branch l ∷ rs) rest p f o h =
+    let q = p .0 in
+    let n = ne-eqb l 0 (λ e. omega (arith, e, q)) in
+    rw (lt-ltb 1 l (omega (arith, q)), f .0 q .0, lt-ltb 2 l q, f .0 q .1, ne-eqb l 1 (λ e. omega (arith, e, q)), n, o)
+    (ap suc (outside-pass calls (Record.Branch l ∷ before) rs rest (p .1) (f .1) (rw (n, o) refl) (λ c. let i = h c in omega (arith, i)))
+    ∙ sym (suc-add (length rs) _))
+outside-pass true before (Record.Call l ∷ rs) rest p f o h =
+    rw (p .0, o, anywhere (tally (isLabel 1) before) (tally (isLabel 1) (rs ++ rest)) (let i = h refl in omega (arith, i)))
+    (ap suc (outside-pass true (Record.Call 1 ∷ before) rs rest (p .1) (rw (p .0) at f .1) o (λ c. let i = h c in omega (arith, i)))
+    ∙ sym (suc-add (length rs) _))
+outside-pass false before (Record.Call l ∷ rs) rest p f o h = absurd (p .0)
+outside-pass calls before (Record.BranchIf c l e ∷ rs) rest p f o h =
+    let q = p .0 in
+    rw (lt-ltb 1 l (omega (arith, q)), f .0 q .0, lt-ltb 2 l q, f .0 q .1, le-ltb l 3 q, o)
+    (ap suc (outside-pass calls (Record.BranchIf c l e ∷ before) rs rest (p .1) (f .1) o (λ c. let i = h c in omega (arith, i)))
+    ∙ sym (suc-add (length rs) _))
 
 -- the records before the block's Branch 0, and before what stands behind the block
 abbrev opened : List Record → List Work → List Record
@@ -96,7 +136,7 @@ block-passes before t last o n m =
     let second = past (isLabel 2) (Record.Branch 0 ∷ []) (Record.Label 2 ∷ last) (first-one (isLabel 2) (Record.Label 2) last refl) in
     let two = past (isLabel 2) (Record.Label 1 ∷ map Record.Work t) tail second in
     let end = past isReturn (map Record.Work t) tail (first-one isReturn (Record.Branch 0) (Record.Label 2 ∷ last) refl) in
-    let l = plain-labels 2 (map Record.Work t) (Record.Label 1 ∷ Record.Branch 2 ∷ before) (plain-works t) in
+    let l = outside-labels true 2 (omega arith) (map Record.Work t) (Record.Label 1 ∷ Record.Branch 2 ∷ before) (plain-works t) in
     let passed : breachFrom (Record.Label 1 ∷ Record.Branch 2 ∷ before) (map Record.Work t ++ tail)
     ≡ length (map Record.Work t) + suc (suc (breachFrom (closed before t) last)) =
     works-pass (Record.Label 1 ∷ Record.Branch 2 ∷ before) t tail
@@ -109,37 +149,41 @@ none-after : (before : List Record) → breachFrom before [] ≡ 0
 unfolding breachFrom
 none-after before = refl
 
-works-alone : (l : List Work) → breach (map Record.Work l) ≡ length (map Record.Work l)
-unfolding breach
-works-alone l =
-    let rs = map Record.Work l in
+-- without a Call
+alone : (rs : List Record) → AllOutside true false rs → Fair [] rs → breach rs ≡ length rs
+unfolding breach inBlock
+alone rs p f =
     let e = none-after (reverseAux rs []) in
-    ap (breachFrom []) (sym (append-nil rs)) ∙ works-pass [] l [] ∙ omega (arith, e)
+    let f' : Fair [] (rs ++ []) = rw (append-nil rs) f in
+    ap (breachFrom []) (sym (append-nil rs)) ∙ outside-pass false [] rs [] p f' refl (λ c. absurd (true≢false (sym c))) ∙ omega (arith, e)
 
 with-block : (first last : List Record) (t : List Work) → Plain first → Plain last
     → let rs = first ++ (Record.Branch 2 ∷ Record.Label 1 ∷ (map Record.Work t ++ Record.Branch 0 ∷ Record.Label 2 ∷ last)) in
-    breach rs ≡ length rs
+    Fair [] rs → breach rs ≡ length rs
 unfolding breach isLabel inBlock tally isReturn
-with-block first last t p q =
+with-block first last t p q f =
     let tail = Record.Branch 0 ∷ Record.Label 2 ∷ last in
     let mid = Record.Branch 2 ∷ Record.Label 1 ∷ (map Record.Work t ++ tail) in
     let body = map Record.Work t ++ tail in
     let label = past (isLabel 1) (Record.Branch 2 ∷ []) (Record.Label 1 ∷ body) (first-one (isLabel 1) (Record.Label 1) body refl) in
     let one = past (isLabel 1) first mid label in
     let before = reverseAux first [] in
-    let a = plain-pass [] first mid p refl (omega (arith, one)) in
-    let b = block-passes before t last (plain-open first [] p) (plain-labels 1 first [] p) (plain-labels 2 first [] p) in
-    let o = plain-labels 1 (map Record.Work t) (Record.Label 1 ∷ Record.Branch 2 ∷ before) (plain-works t) in
+    let a = outside-pass true [] first mid p f refl (λ c. omega (arith, one)) in
+    let f1 : Fair (Record.Label 1 ∷ Record.Branch 2 ∷ before) (map Record.Work t ++ tail) = fair-past [] first mid f .1 .1 in
+    let f2 : Fair (closed before t) (last ++ []) = rw (append-nil last) (fair-past (Record.Label 1 ∷ Record.Branch 2 ∷ before) (map Record.Work t) tail f1 .1 .1) in
+    let b = block-passes before t last (outside-open true first [] p) (outside-labels true 1 (omega arith) first [] p) (outside-labels true 2 (omega arith) first [] p) in
+    let o = outside-labels true 1 (omega arith) (map Record.Work t) (Record.Label 1 ∷ Record.Branch 2 ∷ before) (plain-works t) in
     let c : breachFrom (closed before t) last ≡ length last + breachFrom (reverseAux last (closed before t)) [] =
-    ap (breachFrom (closed before t)) (sym (append-nil last)) ∙ plain-pass (closed before t) last [] q refl (omega (arith, o)) in
+    ap (breachFrom (closed before t)) (sym (append-nil last)) ∙ outside-pass true (closed before t) last [] q f2 refl (λ c. omega (arith, o)) in
     let e = none-after (reverseAux last (closed before t)) in
     omega (arith, a, b, c, e, length-append first mid, length-append (map Record.Work t) tail)
 
-pub no-breach : (m : Mode) (l : List Instruction) (s : State) → s .rootDefined ≡ false
-    → breach (complexify m l s .records) ≡ length (complexify m l s .records)
-no-breach m l s e = go (shape m l s e)
+pub no-breach : (m : Mode) (count : ℕ) (l : List Instruction) (s : State) → AllIn count l → s .rootDefined ≡ false
+    → Fair [] (complexify m l s .records) → breach (complexify m l s .records) ≡ length (complexify m l s .records)
+no-breach m count l s v e f = go (shape m count l s v e)
   where
     go : Shape (complexify m l s) → breach (complexify m l s .records) ≡ length (complexify m l s .records)
-    go (unrooted r w g) = rw g (works-alone w)
+    go (unrooted r p) = alone (complexify m l s .records) p f
     go (rooted r first p t b last q g) =
-        rw (g, append-assoc (map Record.Work t) (Record.Branch 0 ∷ Record.Label 2 ∷ []) last) (with-block first last t p q)
+        let g' = g ∙ ap (λ (rs : List Record). first ++ (Record.Branch 2 ∷ Record.Label 1 ∷ rs)) (append-assoc (map Record.Work t) (Record.Branch 0 ∷ Record.Label 2 ∷ []) last) in
+        subst (λ (rs : List Record). breach rs ≡ length rs) (sym g') (with-block first last t p q (subst (Fair []) g' f))

@@ -7,7 +7,7 @@ use lib.ListN.{length}
 use lib.Dec.{eqb}
 use Rattle.mir.specs.declared.records.Work.{Work}
 use Rattle.mir.specs.declared.records.Record.{Record}
-use Rattle.player_machine.specs.Machine.{Store, writes, exec, execs, End, ticks, Way, going, seeking, play}
+use Rattle.player_machine.specs.Machine.{Store, at, writes, exec, execs, branches, End, ticks, Way, going, seeking, play}
 use Rattle.player_machine.proofs.Drawing.{put-length}
 
 exec-length : (k : List ℕ) (w : Work) (σ : Store) → length (exec k w σ) ≡ length σ
@@ -32,6 +32,9 @@ play-length k b going (Record.Branch l ∷ rs) σ =
     choose (λ e. length (e .store) ≡ length σ) (eqb l 0) (record { store = σ; played = 1 }) (ticks 1 (play k b (seeking l) rs σ)) refl
     (play-length k b (seeking l) rs σ)
 play-length k b going (Record.Call l ∷ rs) σ = play-length k b going rs (execs k b σ) ∙ execs-length k b σ
+play-length k b going (Record.BranchIf c l e ∷ rs) σ =
+    choose (λ e. length (e .store) ≡ length σ) (branches e (at σ c)) (play k b (seeking l) rs σ) (play k b going rs σ)
+    (play-length k b (seeking l) rs σ) (play-length k b going rs σ)
 play-length k b (seeking l) [] σ = refl
 play-length k b (seeking l) (Record.Work w ∷ rs) σ = play-length k b (seeking l) rs σ
 play-length k b (seeking l) (Record.Label m ∷ rs) σ =
@@ -39,3 +42,4 @@ play-length k b (seeking l) (Record.Label m ∷ rs) σ =
     (play-length k b (seeking l) rs σ)
 play-length k b (seeking l) (Record.Branch m ∷ rs) σ = play-length k b (seeking l) rs σ
 play-length k b (seeking l) (Record.Call m ∷ rs) σ = play-length k b (seeking l) rs σ
+play-length k b (seeking l) (Record.BranchIf c m e ∷ rs) σ = play-length k b (seeking l) rs σ

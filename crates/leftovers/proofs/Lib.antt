@@ -5,6 +5,8 @@ pub mod Held
 pub mod Names
 pub mod Constants
 pub mod Stretch
+pub mod Sought
+pub mod Moves
 pub mod Methods
 pub mod Clearing
 pub mod Bit
@@ -13,11 +15,14 @@ pub mod Halving
 pub mod Root
 pub mod Instructions
 pub mod Listing
+pub mod Branches
 pub mod Jumping
 pub mod Points
 pub mod Lengths
 pub mod Words
+pub mod Ahead
 pub mod Accepting
+pub mod Standing
 pub mod Ranges
 pub mod Sheets
 pub mod Claims

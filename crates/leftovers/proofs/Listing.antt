@@ -2,7 +2,9 @@
 use mathlib.Core.Path.{_≡_, refl, sym, ap, _∙_}
 use mathlib.Core.Bool.{Bool, true, false, cond, true≢false}
 use mathlib.Core.List.{List, [], _∷_, _++_, map, append-assoc, map-append}
-use Prim.Native.Nat.{ℕ}
+use Prim.Native.Nat.{ℕ, _<_}
+use native.Mathlib.Omega.{arith}
+use borrow.Author.Tests.{ne-eqb}
 use lib.Dec.{eqb, ltb}
 use Rattle.mir.specs.declared.ops.UniOp.{UniOp}
 use Rattle.mir.specs.declared.ops.BinOp.{BinOp}
@@ -28,29 +30,60 @@ use Rattle.lowering.specs.Complexifier.{bothAsReal, bothAsComplex}
 use Rattle.lowering.specs.Rerun.{compareZero, rerunUni, rerunBin, rerunFused, rerunArith, rerun, complexify}
 use Rattle.lowering.specs.Complexifier.{aroundBlock, threeLines, withReal, savedReal}
 use Rattle.leftovers.proofs.Methods.{two}
+use Rattle.leftovers.proofs.Instructions.{InRange, AllIn, Works}
 use Rattle.leftovers.proofs.Constants.{Stable, min-positive, infinity, quarter, mask, floor, Grown, same, grown-then, grown-three}
 use Rattle.leftovers.proofs.Root.{Block, root-block-fine}
 
 -- ---- what an instruction lists
 
--- records that work on words, and Calls
-abbrev pub IsPlain : Record → Type 0
-IsPlain (Record.Work w) = Unit {0}
-IsPlain (Record.Label l) = ⊥
-IsPlain (Record.Branch l) = ⊥
-IsPlain (Record.Call l) = l ≡ 1
+-- What stands outside the block: records that work on words; labels and branches of the sheet's own, and Calls, where they may stand.
+abbrev pub Outside : Bool → Bool → Record → Type 0
+Outside own calls (Record.Work w) = Unit {0}
+Outside true calls (Record.Label l) = 2 < l
+Outside false calls (Record.Label l) = ⊥
+Outside true calls (Record.Branch l) = 2 < l
+Outside false calls (Record.Branch l) = ⊥
+Outside own true (Record.Call l) = l ≡ 1
+Outside own false (Record.Call l) = ⊥
+Outside true calls (Record.BranchIf c l e) = 2 < l
+Outside false calls (Record.BranchIf c l e) = ⊥
+
+abbrev pub AllOutside : Bool → Bool → List Record → Type 0
+AllOutside own calls [] = Unit {0}
+AllOutside own calls (r ∷ rs) = Outside own calls r × AllOutside own calls rs
 
 abbrev pub Plain : List Record → Type 0
-Plain [] = Unit {0}
-Plain (r ∷ rs) = IsPlain r × Plain rs
+Plain rs = AllOutside true true rs
+
+pub outside-append : (own calls : Bool) (rs rs' : List Record) → AllOutside own calls rs → AllOutside own calls rs' → AllOutside own calls (rs ++ rs')
+outside-append own calls [] rs' p q = q
+outside-append own calls (r ∷ rs) rs' p q = (p .0, outside-append own calls rs rs' (p .1) q)
 
 pub plain-append : (rs rs' : List Record) → Plain rs → Plain rs' → Plain (rs ++ rs')
-plain-append [] rs' p q = q
-plain-append (r ∷ rs) rs' p q = (p .0, plain-append rs rs' (p .1) q)
+plain-append rs rs' p q = outside-append true true rs rs' p q
+
+pub outside-works : (own calls : Bool) (l : List Work) → AllOutside own calls (map Record.Work l)
+outside-works own calls [] = tt
+outside-works own calls (w ∷ l) = (tt, outside-works own calls l)
 
 pub plain-works : (l : List Work) → Plain (map Record.Work l)
-plain-works [] = tt
-plain-works (w ∷ l) = (tt, plain-works l)
+plain-works l = outside-works true true l
+
+-- where less may stand
+plain-one : (own calls : Bool) (r : Record) → Outside own calls r → Outside true true r
+plain-one own calls (Record.Work w) p = tt
+plain-one true calls (Record.Label l) p = p
+plain-one false calls (Record.Label l) p = absurd p
+plain-one true calls (Record.Branch l) p = p
+plain-one false calls (Record.Branch l) p = absurd p
+plain-one own true (Record.Call l) p = p
+plain-one own false (Record.Call l) p = absurd p
+plain-one true calls (Record.BranchIf c l e) p = p
+plain-one false calls (Record.BranchIf c l e) p = absurd p
+
+pub plain : (own calls : Bool) (rs : List Record) → AllOutside own calls rs → Plain rs
+plain own calls [] p = tt
+plain own calls (r ∷ rs) p = (plain-one own calls r (p .0), plain own calls rs (p .1))
 
 -- a method that only lists working records
 pub record Quiet (s : State) (o : Out) : Type 0 where
@@ -59,8 +92,11 @@ pub record Quiet (s : State) (o : Out) : Type 0 where
   pub listed : o .records ≡ map Record.Work lines
   pub grown : Grown (s .consts) (o .after .consts)
 
+pub quiet-outside : (own calls : Bool) {s : State} {o : Out} → Quiet s o → AllOutside own calls (o .records)
+quiet-outside own calls q = rw (q .listed) (outside-works own calls (q .lines))
+
 pub quiet-plain : {s : State} {o : Out} → Quiet s o → Plain (o .records)
-quiet-plain q = rw (q .listed) (plain-works (q .lines))
+quiet-plain q = quiet-outside true true q
 
 quiet-then : (s : State) (o : Out) (f : State → Out) → Quiet s o → Quiet (o .after) (f (o .after)) → Quiet s (then o f)
 unfolding then
@@ -190,29 +226,31 @@ quiet-fused FusedOp.NegMulSub d a b e s =
     (quiet-then s _ (c.plus d 30 e) (quiet-by₂ timesLines promoted 30 a b s) (quiet-by₂ plusLines promoted d 30 e _))
     (quiet-by₁ (eachLines UniOp.Neg) copied d d _)
 
--- what an instruction lists: working records; a Call of the block that stands already; or a Call and then the block
-pub data Said (s : State) (o : Out) : Type 0 where
-  quiet : Quiet s o → Said s o
-  calls : s .rootDefined ≡ true → o .after .rootDefined ≡ true → Plain (o .records) → Grown (s .consts) (o .after .consts) → Said s o
-  opens : s .rootDefined ≡ false → o .after .rootDefined ≡ true → (first : List Record) → Plain first
-      → (t : List Work) → ((k : List ℕ) → Block k t) → o .records ≡ first ++ aroundBlock t → Grown (s .consts) (o .after .consts) → Said s o
+-- what an instruction lists: working records; a label or a branch (not under N), of the sheet's own under R; a Call of the block that
+-- stands already; or a Call and then the block
+pub data Said (N R : Type 0) (s : State) (o : Out) : Type 0 where
+  quiet : Quiet s o → Said N R s o
+  directs : (N → ⊥) → o .after ≡ s → (r : Record) → (R → Outside true false r) → o .records ≡ r ∷ [] → Said N R s o
+  calls : s .rootDefined ≡ true → o .after .rootDefined ≡ true → AllOutside false true (o .records) → Grown (s .consts) (o .after .consts) → Said N R s o
+  opens : s .rootDefined ≡ false → o .after .rootDefined ≡ true → (first : List Record) → AllOutside false true first
+      → (t : List Work) → ((k : List ℕ) → Block k t) → o .records ≡ first ++ aroundBlock t → Grown (s .consts) (o .after .consts) → Said N R s o
 
 block-grown : (m : Bool) (k : List ℕ) → Grown k (c.blockConsts m k)
 unfolding c.blockConsts
 block-grown true k = grown-three floor mask infinity
 block-grown false k = same
 
-define-said : (m : Bool) (s : State) (o : Out) → o .after .rootDefined ≡ s .rootDefined → Plain (o .records)
-    → Grown (s .consts) (o .after .consts) → (x : Bool) → o .after .rootDefined ≡ x → Said s (then o (c.defineRoot x m))
+define-said : (N R : Type 0) (m : Bool) (s : State) (o : Out) → o .after .rootDefined ≡ s .rootDefined → AllOutside false true (o .records)
+    → Grown (s .consts) (o .after .consts) → (x : Bool) → o .after .rootDefined ≡ x → Said N R s (then o (c.defineRoot x m))
 unfolding then c.defineRoot unlisted
-define-said m s o e p g true h = calls (sym e ∙ h) h (plain-append (o .records) [] p tt) g
-define-said m s o e p g false h =
+define-said N R m s o e p g true h = calls (sym e ∙ h) h (outside-append false true (o .records) [] p tt) g
+define-said N R m s o e p g false h =
     opens (sym e ∙ h) refl (o .records) p (c.blockOf m (o .after .consts)) (λ k. root-block-fine k m (o .after .consts)) refl
     (grown-then g (block-grown m (o .after .consts)))
 
-root-said : (m : Bool) (d a : ℕ) (s : State) → Said s (c.root m d a s)
+root-said : (N R : Type 0) (m : Bool) (d a : ℕ) (s : State) → Said N R s (c.root m d a s)
 unfolding c.root
-root-said m d a s = unfold then in define-said m s o3 equal before more-consts (o3 .after .rootDefined) refl
+root-said N R m d a s = unfold then in define-said N R m s o3 equal before more-consts (o3 .after .rootDefined) refl
   where
     o1 : Out
     o1 = then (c.ensureComplex a s) (c.fmov 31 a)
@@ -235,43 +273,47 @@ root-said m d a s = unfold then in define-said m s o3 equal before more-consts (
     more-consts : Grown (s .consts) (o3 .after .consts)
     more-consts = unfold then c.callRoot in grown-then (q1 .grown) (q3 .grown)
 
-    before : Plain (o3 .records)
+    before : AllOutside false true (o3 .records)
     before = unfold then c.callRoot in
-        plain-append (o1 .records ++ Record.Call 1 ∷ []) (c.fmov d 30 (o2 .after) .records)
-        (plain-append (o1 .records) (Record.Call 1 ∷ []) (quiet-plain q1) (refl, tt)) (quiet-plain q3)
+        outside-append false true (o1 .records ++ Record.Call 1 ∷ []) (c.fmov d 30 (o2 .after) .records)
+        (outside-append false true (o1 .records) (Record.Call 1 ∷ []) (quiet-outside false true q1) (refl, tt)) (quiet-outside false true q3)
 
-real-root-said : (m x : Bool) (d a : ℕ) (s : State) → Said s (c.realRootBy m x d a s)
+real-root-said : (N R : Type 0) (m x : Bool) (d a : ℕ) (s : State) → Said N R s (c.realRootBy m x d a s)
 unfolding c.realRootBy
-real-root-said m true d a s = quiet (record { rooted = refl; lines = realRootLines d a; listed = refl; grown = same })
-real-root-said m false d a s = root-said m d a s
+real-root-said N R m true d a s = quiet (record { rooted = refl; lines = realRootLines d a; listed = refl; grown = same })
+real-root-said N R m false d a s = root-said N R m d a s
 
-uni-said : (m : Mode) (op : UniOp) (d a : ℕ) (s : State) → Said s (rerunUni m op d a s)
+uni-said : (N R : Type 0) (m : Mode) (op : UniOp) (d a : ℕ) (s : State) → Said N R s (rerunUni m op d a s)
 unfolding rerunUni c.half c.abs c.realRoot c.recip
-uni-said m UniOp.Neg d a s = quiet (quiet-by₁ (eachLines UniOp.Neg) copied d a s)
-uni-said m UniOp.Not d a s = quiet (quiet-by₁ notLines asReal d a s)
-uni-said m UniOp.Abs d a s = quiet (quiet-abs (isStable m) (isRealReg (s .real) a) d a s)
-uni-said m UniOp.Root d a s = root-said (isStable m) d a s
-uni-said m UniOp.RealRoot d a s = real-root-said (isStable m) (isRealReg (s .real) a) d a s
-uni-said m UniOp.Recip d a s = quiet (quiet-recip (isStable m) (isRealReg (s .real) a) d a s)
-uni-said m UniOp.Round d a s = quiet (quiet-by₁ (eachLines UniOp.Round) copied d a s)
-uni-said m UniOp.Floor d a s = quiet (quiet-by₁ (eachLines UniOp.Floor) copied d a s)
-uni-said m UniOp.Ceiling d a s = quiet (quiet-by₁ (eachLines UniOp.Ceiling) copied d a s)
-uni-said m UniOp.Trunc d a s = quiet (quiet-by₁ (eachLines UniOp.Trunc) copied d a s)
-uni-said m UniOp.Real d a s = quiet (quiet-by₁ realLines asReal d a s)
-uni-said m UniOp.Imaginary d a s = quiet (quiet-by₁ imaginaryLines asReal d a s)
-uni-said m UniOp.Conjugate d a s = quiet (quiet-by₁ conjugateLines copied d a s)
-uni-said m UniOp.Half d a s = quiet (record { rooted = refl; lines = halfLines d a; listed = refl; grown = same })
-uni-said m UniOp.IsZero d a s = quiet (quiet-compare-zero BinOp.Equal BinOp.And d a s)
-uni-said m UniOp.IsNotZero d a s = quiet (quiet-compare-zero BinOp.NotEqual BinOp.Or d a s)
-uni-said m UniOp.Sign d a s = quiet (quiet-by₁ (eachLines UniOp.Sign) copied d a s)
-uni-said m UniOp.Abs2 d a s = quiet (quiet-by₁ abs2Lines copied d a s)
-uni-said m UniOp.TimesI d a s = quiet (quiet-by₁ timesILines asComplex d a s)
-uni-said m UniOp.TimesNegI d a s = quiet (quiet-by₁ timesNegILines asComplex d a s)
+uni-said N R m UniOp.Neg d a s = quiet (quiet-by₁ (eachLines UniOp.Neg) copied d a s)
+uni-said N R m UniOp.Not d a s = quiet (quiet-by₁ notLines asReal d a s)
+uni-said N R m UniOp.Abs d a s = quiet (quiet-abs (isStable m) (isRealReg (s .real) a) d a s)
+uni-said N R m UniOp.Root d a s = root-said N R (isStable m) d a s
+uni-said N R m UniOp.RealRoot d a s = real-root-said N R (isStable m) (isRealReg (s .real) a) d a s
+uni-said N R m UniOp.Recip d a s = quiet (quiet-recip (isStable m) (isRealReg (s .real) a) d a s)
+uni-said N R m UniOp.Round d a s = quiet (quiet-by₁ (eachLines UniOp.Round) copied d a s)
+uni-said N R m UniOp.Floor d a s = quiet (quiet-by₁ (eachLines UniOp.Floor) copied d a s)
+uni-said N R m UniOp.Ceiling d a s = quiet (quiet-by₁ (eachLines UniOp.Ceiling) copied d a s)
+uni-said N R m UniOp.Trunc d a s = quiet (quiet-by₁ (eachLines UniOp.Trunc) copied d a s)
+uni-said N R m UniOp.Real d a s = quiet (quiet-by₁ realLines asReal d a s)
+uni-said N R m UniOp.Imaginary d a s = quiet (quiet-by₁ imaginaryLines asReal d a s)
+uni-said N R m UniOp.Conjugate d a s = quiet (quiet-by₁ conjugateLines copied d a s)
+uni-said N R m UniOp.Half d a s = quiet (record { rooted = refl; lines = halfLines d a; listed = refl; grown = same })
+uni-said N R m UniOp.IsZero d a s = quiet (quiet-compare-zero BinOp.Equal BinOp.And d a s)
+uni-said N R m UniOp.IsNotZero d a s = quiet (quiet-compare-zero BinOp.NotEqual BinOp.Or d a s)
+uni-said N R m UniOp.Sign d a s = quiet (quiet-by₁ (eachLines UniOp.Sign) copied d a s)
+uni-said N R m UniOp.Abs2 d a s = quiet (quiet-by₁ abs2Lines copied d a s)
+uni-said N R m UniOp.TimesI d a s = quiet (quiet-by₁ timesILines asComplex d a s)
+uni-said N R m UniOp.TimesNegI d a s = quiet (quiet-by₁ timesNegILines asComplex d a s)
 
-pub rerun-said : (m : Mode) (i : Instruction) (s : State) → Said s (rerun m i s)
-unfolding rerun
+-- in range, with some count of constants
+abbrev pub InSome : Instruction → Type 0
+InSome i = (count : ℕ) × InRange count i
+
+pub rerun-said : (m : Mode) (i : Instruction) (s : State) → Said (Works i) (InSome i) s (rerun m i s)
+unfolding rerun c.directed
 rerun-said m Instruction.Nop s = quiet (quiet-none s)
-rerun-said m (Instruction.Uni op d a) s = uni-said m op d a s
+rerun-said m (Instruction.Uni op d a) s = uni-said (Unit {0}) (InSome (Instruction.Uni op d a)) m op d a s
 rerun-said m (Instruction.Bi op d a b) s = quiet (quiet-bin m op d a b s)
 rerun-said m (Instruction.Mov d a) s =
     quiet (two (λ q. Quiet s (cond q (unlisted s) (c.fmov d a s))) (quiet-none s) (quiet-fmov d a s) (eqb d a))
@@ -284,12 +326,15 @@ rerun-said m (Instruction.LoadMath op d a p) s =
     quiet (quiet-then s _ (rerunArith m op d a 31) (quiet-load 31 p s) (quiet-arith m op d a 31 _))
 rerun-said m (Instruction.LoadConstMath op d a i) s =
     quiet (quiet-then s _ (rerunArith m op d a 31) (quiet-load-const 31 i s) (quiet-arith m op d a 31 _))
+rerun-said m (Instruction.Label l) s = directs (λ n. n) refl (Record.Label l) (λ v. v .1) refl
+rerun-said m (Instruction.Branch l) s = directs (λ n. n) refl (Record.Branch l) (λ v. v .1) refl
+rerun-said m (Instruction.BranchIf c l e) s = directs (λ n. n) refl (Record.BranchIf (re c) l e) (λ v. v .1 .1) refl
 
 -- ---- what a whole sheet lists
 
--- a listing without Root, or the plain records up to the first Root's moves, the block, and plain records
+-- a listing without Root and without a Call, or the plain records up to the first Root's moves, the block, and plain records
 pub data Shape (o : Out) : Type 0 where
-  unrooted : o .after .rootDefined ≡ false → (l : List Work) → o .records ≡ map Record.Work l → Shape o
+  unrooted : o .after .rootDefined ≡ false → AllOutside true false (o .records) → Shape o
   rooted : o .after .rootDefined ≡ true → (first : List Record) → Plain first → (t : List Work) → ((k : List ℕ) → Block k t)
       → (last : List Record) → Plain last → o .records ≡ first ++ (aroundBlock t ++ last) → Shape o
 
@@ -297,8 +342,9 @@ pub data Shape (o : Out) : Type 0 where
 pub rerun-grows : (m : Mode) (i : Instruction) (s : State) → Grown (s .consts) (rerun m i s .after .consts)
 rerun-grows m i s = go (rerun-said m i s)
   where
-    go : Said s (rerun m i s) → Grown (s .consts) (rerun m i s .after .consts)
+    go : Said (Works i) (InSome i) s (rerun m i s) → Grown (s .consts) (rerun m i s .after .consts)
     go (quiet q) = q .grown
+    go (directs z e r p l) = rw e same
     go (calls e r q g) = g
     go (opens n r first q t b e g) = g
 
@@ -308,11 +354,11 @@ grows m [] s = same
 grows m (i ∷ l) s = grown-then (rerun-grows m i s) (grows m l (rerun m i s .after))
 
 -- behind the first Root only plain records follow
-pub stays : (m : Mode) (l : List Instruction) (s : State) → s .rootDefined ≡ true
+pub stays : (m : Mode) (count : ℕ) (l : List Instruction) (s : State) → AllIn count l → s .rootDefined ≡ true
     → (complexify m l s .after .rootDefined ≡ true) × Plain (complexify m l s .records)
 unfolding complexify then unlisted
-stays m [] s e = (e, tt)
-stays m (i ∷ l) s e = go (rerun-said m i s) (stays m l (rerun m i s .after))
+stays m count [] s v e = (e, tt)
+stays m count (i ∷ l) s v e = go (rerun-said m i s) (stays m count l (rerun m i s .after) (v .1))
   where
     o : Out
     o = rerun m i s
@@ -320,16 +366,20 @@ stays m (i ∷ l) s e = go (rerun-said m i s) (stays m l (rerun m i s .after))
     p : Out
     p = complexify m l (o .after)
 
-    go : Said s o → (o .after .rootDefined ≡ true → (p .after .rootDefined ≡ true) × Plain (p .records))
+    go : Said (Works i) (InSome i) s o → (o .after .rootDefined ≡ true → (p .after .rootDefined ≡ true) × Plain (p .records))
         → (p .after .rootDefined ≡ true) × Plain (o .records ++ p .records)
     go (quiet q) ih = let h = ih (q .rooted ∙ e) in (h .0, plain-append (o .records) (p .records) (quiet-plain q) (h .1))
-    go (calls e r q g) ih = let h = ih r in (h .0, plain-append (o .records) (p .records) q (h .1))
+    go (directs z a r q g) ih =
+        let h = ih (ap (λ (s : State). s .rootDefined) a ∙ e) in
+        (h .0, rw g (plain-one true false r (q (count, v .0)), h .1))
+    go (calls e r q g) ih = let h = ih r in (h .0, plain-append (o .records) (p .records) (plain false true (o .records) q) (h .1))
     go (opens n r first q t b g h) ih = absurd (true≢false (sym e ∙ n))
 
-pub shape : (m : Mode) (l : List Instruction) (s : State) → s .rootDefined ≡ false → Shape (complexify m l s)
+pub shape : (m : Mode) (count : ℕ) (l : List Instruction) (s : State) → AllIn count l → s .rootDefined ≡ false → Shape (complexify m l s)
 unfolding complexify then unlisted
-shape m [] s e = unrooted e [] refl
-shape m (i ∷ l) s e = go (rerun-said m i s) (shape m l (rerun m i s .after)) (stays m l (rerun m i s .after))
+shape m count [] s v e = unrooted e tt
+shape m count (i ∷ l) s v e =
+    go (rerun-said m i s) (shape m count l (rerun m i s .after) (v .1)) (stays m count l (rerun m i s .after) (v .1))
   where
     o : Out
     o = rerun m i s
@@ -337,29 +387,32 @@ shape m (i ∷ l) s e = go (rerun-said m i s) (shape m l (rerun m i s .after)) (
     p : Out
     p = complexify m l (o .after)
 
-    go : Said s o → (o .after .rootDefined ≡ false → Shape p)
+    -- records without a Call before what is listed behind
+    onto : AllOutside true false (o .records) → Shape p → Shape (then o (complexify m l))
+    onto q (unrooted r g) = unfold then in unrooted r (outside-append true false (o .records) (p .records) q g)
+    onto q (rooted r first pl t b last pl' g) =
+        unfold then in
+        rooted r (o .records ++ first) (plain-append (o .records) first (plain true false (o .records) q) pl) t b last pl'
+        (rw g (sym (append-assoc (o .records) first (aroundBlock t ++ last))))
+
+    go : Said (Works i) (InSome i) s o → (o .after .rootDefined ≡ false → Shape p)
         → (o .after .rootDefined ≡ true → (p .after .rootDefined ≡ true) × Plain (p .records))
         → Shape (then o (complexify m l))
     go (calls h r q g) ih st = absurd (true≢false (sym h ∙ e))
     go (opens n r first q t b g g') ih st =
         let h = st r in
-        unfold then in rooted (h .0) first q t b (p .records) (h .1) (rw g (append-assoc first (aroundBlock t) (p .records)))
-    go (quiet q) ih st = onto (ih (q .rooted ∙ e))
-      where
-        onto : Shape p → Shape (then o (complexify m l))
-        onto (unrooted r k g) = unfold then in unrooted r (q .lines ++ k) (rw (q .listed, g) (sym (map-append Record.Work (q .lines) k)))
-        onto (rooted r first pl t b last pl' g) =
-            unfold then in
-            rooted r (o .records ++ first) (plain-append (o .records) first (quiet-plain q) pl) t b last pl'
-            (rw g (sym (append-assoc (o .records) first (aroundBlock t ++ last))))
+        unfold then in rooted (h .0) first (plain false true first q) t b (p .records) (h .1) (rw g (append-assoc first (aroundBlock t) (p .records)))
+    go (quiet q) ih st = onto (quiet-outside true false q) (ih (q .rooted ∙ e))
+    go (directs z a r q g) ih st = onto (rw g (q (count, v .0), tt)) (ih (ap (λ (s : State). s .rootDefined) a ∙ e))
 
 pub seek-plain : (rs rest : List Record) → Plain rs → seek 1 (rs ++ rest) ≡ seek 1 rest
 unfolding seek isLabel
 seek-plain [] rest p = refl
 seek-plain (Record.Work w ∷ rs) rest p = seek-plain rs rest (p .1)
-seek-plain (Record.Label l ∷ rs) rest p = absurd (p .0)
-seek-plain (Record.Branch l ∷ rs) rest p = absurd (p .0)
+seek-plain (Record.Label l ∷ rs) rest p = rw (ne-eqb l 1 (λ e. omega (arith, e, p .0))) (seek-plain rs rest (p .1))
+seek-plain (Record.Branch l ∷ rs) rest p = seek-plain rs rest (p .1)
 seek-plain (Record.Call l ∷ rs) rest p = seek-plain rs rest (p .1)
+seek-plain (Record.BranchIf c l e ∷ rs) rest p = seek-plain rs rest (p .1)
 
 works-before : (l : List Work) (rest : List Record) → works (map Record.Work l ++ Record.Branch 0 ∷ rest) ≡ l
 unfolding works
@@ -374,10 +427,10 @@ block-of first last t p =
     (works-before t (Record.Label 2 ∷ last))
 
 -- what a Call finds keeps the agreement: a listing with a Root holds the block once
-pub finds-block : (k : List ℕ) (m : Mode) (l : List Instruction) (s : State) → s .rootDefined ≡ false
+pub finds-block : (k : List ℕ) (m : Mode) (count : ℕ) (l : List Instruction) (s : State) → AllIn count l → s .rootDefined ≡ false
     → complexify m l s .after .rootDefined ≡ true → Block k (block (complexify m l s .records))
-finds-block k m l s e h = go (shape m l s e)
+finds-block k m count l s v e h = go (shape m count l s v e)
   where
     go : Shape (complexify m l s) → Block k (block (complexify m l s .records))
-    go (unrooted r l' g) = absurd (true≢false (sym h ∙ r))
+    go (unrooted r g) = absurd (true≢false (sym h ∙ r))
     go (rooted r first p t b last p' g) = rw (g, block-of first last t p) (b k)

@@ -19,8 +19,7 @@ use Rattle.sheet.specs.Instruction.{fieldsFrom, instructionFrom}
 use Rattle.records.proofs.Holding.{Saved, Stacked}
 use Rattle.records.proofs.Held.{place-index, save-held, cond-held}
 use Rattle.leftovers.proofs.Held.{All}
-use Rattle.leftovers.proofs.Instructions.{InRange}
-use Rattle.leftovers.proofs.Points.{AllIn}
+use Rattle.leftovers.proofs.Instructions.{InRange, AllIn}
 
 -- what is read, if it is not refused, is as P says
 data IfRead {A : Type 0} (P : A → Type 0) : Read A → Type 0 where
@@ -60,6 +59,10 @@ saved-in (Loc.Mem n) h = (omega arith, h)
 stacked-in : (p : Loc) → Stacked p → (index p < 256) × Stacked p
 stacked-in (Loc.Stack n) h = (omega arith, h)
 
+-- a label of the sheet's own
+own : (l : ℕ) → ltb l 3 ≡ false → 2 < l
+own l e = let h = ltb-false l 3 e in omega arith
+
 -- kind by kind
 in-range : (count kind : ℕ) (s : List ℕ) → IfRead (InRange count) (fieldsFrom count kind s)
 unfolding fieldsFrom
@@ -96,7 +99,12 @@ in-range count kind s =
     (parted (taken (takesArith) arithOps (b 4)) (λ op e. limited (b 5 ∷ b 6 ∷ [])
     (λ l. tested (leb count (wordAt s 7)) 5
     (λ e. read {a = Instruction.LoadConstMath op (b 5) (b 6) (wordAt s 7)} (l .0, l .1 .0, leb-false count (wordAt s 7) e)))))
-    told))))))))))
+    (chosen (eqb kind 14) (tested (ltb (b 4) 3) 10 (λ e. read {a = Instruction.Label (b 4)} (own (b 4) e)))
+    (chosen (eqb kind 15) (tested (ltb (b 4) 3) 10 (λ e. read {a = Instruction.Branch (b 4)} (own (b 4) e)))
+    (chosen (eqb kind 17)
+    (limited (b 4 ∷ []) (λ l. tested (ltb (b 5) 3) 10 (λ e. tested (ltb 1 (b 6)) 10
+    (λ f. read {a = Instruction.BranchIf (b 4) (b 5) (eqb (b 6) 1)} (l .0, own (b 5) e)))))
+    told)))))))))))))
 
 one-in-range : (count : ℕ) (s : List ℕ) → IfRead (InRange count) (instructionFrom count s)
 unfolding instructionFrom

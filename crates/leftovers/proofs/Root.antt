@@ -91,7 +91,7 @@ call-keeps k B X Z H s b e = record {
   stands = λ j rest σ. rw (suc-add 0 j, zero-add j);
   agree = λ _ g. b .agree (s .real) e g;
   frame = λ σ r h n. (b .keep σ r (re r) h (inl refl), inl (b .keep σ r (im r) h (inr refl)));
-  held = λ few. and (lit≤ tt) none;
+  held = λ few. and tt none;
 }
 
 seek-play : (k : List ℕ) (b : List Work) (l : ℕ) (as' : List Work) (rest : List Record) (σ : Store)
@@ -146,7 +146,7 @@ around-keeps k B X Z H t ρ hd = record {
   stands = unfold stretch in over-reach k B t;
   agree = λ _ g. g;
   frame = λ σ r h n. (refl, inl refl);
-  held = λ few. and (lit≤ tt) (and (lit≤ tt) (held-append (hd few) (and (lit≤ tt) (and (lit≤ tt) none))));
+  held = λ few. and tt (and tt (held-append (hd few) (and tt (and tt none))));
 }
 
 pub unlisted-keeps : (k : List ℕ) (B : List Work) (X Z : ℕ → Type 0) (H : Type 0) (s : State) → Keeps k B X Z H s (unlisted s)

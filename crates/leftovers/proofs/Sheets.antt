@@ -1,5 +1,5 @@
--- An accepted sheet: its instructions are within their limits, its listing is read back as what `complexify` lists, and the player accepts it
--- from every point.
+-- An accepted sheet: its instructions are within their limits, its listing is read back as what `complexify` lists, and the player accepts
+-- it from every point.
 use mathlib.Core.Path.{_≡_, refl, sym, ap, subst}
 use mathlib.Core.List.{List, [], _∷_}
 use Prim.Native.Nat.{ℕ, _≤_}
@@ -16,18 +16,22 @@ use Rattle.records.specs.Record.{records}
 use Rattle.records.proofs.Holding.{AllHold}
 use Rattle.records.proofs.Round.{round}
 use Rattle.player_machine.specs.Machine.{Store, block}
-use Rattle.player_machine.specs.Jumps.{breach}
+use Rattle.player_machine.specs.Jumps.{tally, breach}
 use Rattle.player_machine.specs.Answer.{accept, answer}
+use Rattle.lowering.specs.Labels.{noneStanding}
 use Rattle.lowering.specs.Lower.{startState, lowerSheet}
 use Rattle.mir.specs.Decode.{decoded}
 use Rattle.leftovers.proofs.Accepting.{wrote}
 use Rattle.leftovers.proofs.Ranges.{all-in-range}
 use Rattle.leftovers.specs.Leftovers.{Sheet, sheetOf, Accepted, Lowered, lowered, point}
 use Rattle.leftovers.proofs.Constants.{grown-few, grown-length}
-use Rattle.leftovers.proofs.Instructions.{InRange}
+use Rattle.leftovers.proofs.Instructions.{InRange, AllIn}
 use Rattle.leftovers.proofs.Listing.{grows, finds-block}
-use Rattle.leftovers.proofs.Jumping.{no-breach}
-use Rattle.leftovers.proofs.Points.{AllIn, all-keep, whole, playFrom, point-below}
+use Rattle.leftovers.proofs.Jumping.{Fair, no-breach}
+use Rattle.leftovers.proofs.Points.{whole, playFrom, point-below, all-kinds, all-held}
+use Rattle.leftovers.proofs.Branches.{Sound as Meeting}
+use Rattle.leftovers.proofs.Ahead.{reads}
+use Rattle.leftovers.proofs.Standing.{fair, sound as each-meets}
 
 -- ---- instructions within the limits of a longer table
 
@@ -43,6 +47,9 @@ in-more n m h (Instruction.Fused op d a b c) v = v
 in-more n m h (Instruction.IfElse d a b p) v = v
 in-more n m h (Instruction.LoadMath op d a p) v = v
 in-more n m h (Instruction.LoadConstMath op d a i) v = (v .0, v .1, le-trans (v .2) h)
+in-more n m h (Instruction.Label l) v = v
+in-more n m h (Instruction.Branch l) v = v
+in-more n m h (Instruction.BranchIf c l e) v = v
 
 all-in-more : (n m : ℕ) → n ≤ m → (l : List Instruction) → AllIn n l → AllIn m l
 all-in-more n m h [] v = tt
@@ -62,21 +69,20 @@ module _ (s : Sheet) (v : AllIn (length (s .constants)) (s .instructions)) (f : 
 
   held : AllHold (length (whole s .after .consts)) (whole s .records)
   held =
-      all-keep (whole s .after .consts) (block (whole s .records)) (s .mode) (s .instructions) (startState (s .places) (s .constants)) all-in
-      (finds-block (whole s .after .consts) (s .mode) (s .instructions) (startState (s .places) (s .constants)) refl) (le-refl _)
-      .held (omega (arith, table))
+      all-held (whole s .after .consts) (block (whole s .records)) (s .mode) (s .instructions) (startState (s .places) (s .constants))
+      (all-kinds s all-in) (omega (arith, table))
 
   pub read-back : records (length (whole s .after .consts)) (encodeAll (whole s .records)) ≡ record { items = whole s .records; fault = 0 }
   read-back = round (length (whole s .after .consts)) (whole s .records) held
 
   -- from any point, with any store of the machine's length
-  pub answers : length (encodeAll (whole s .records)) ≤ 65536 → (i : ℕ) (σ : Store) → length σ ≡ 1602
+  pub answers : Fair [] (whole s .records) → length (encodeAll (whole s .records)) ≤ 65536 → (i : ℕ) (σ : Store) → length σ ≡ 1602
       → answer (encodeAll (whole s .records)) (whole s .after .consts) (point s i) σ ≡ accept (length (whole s .records)) (playFrom s i σ)
   unfolding answer
-  answers room i σ h =
+  answers f₀ room i σ h =
       let rs = whole s .records in
       let k = whole s .after .consts in
-      let b = no-breach (s .mode) (s .instructions) (startState (s .places) (s .constants)) refl in
+      let b = no-breach (s .mode) (length (s .constants)) (s .instructions) (startState (s .places) (s .constants)) v refl f₀ in
       rw (
         le-ltb 65536 (length (encodeAll rs)) room,
         le-ltb 256 (length k) table,
@@ -100,14 +106,17 @@ pub record Sound (bytes : List ℕ) (room : ℕ) : Type 0 where
   pub few : length (sheetOf bytes .constants) ≤ 251
   pub within : length (lowerSheet bytes room .bytes) ≤ room
   pub fits : length (encodeAll (whole (sheetOf bytes) .records)) ≤ 65536
+  pub fair : Fair [] (whole (sheetOf bytes) .records)
+  pub meets : let s = sheetOf bytes in Meeting (whole s .after .consts) (block (whole s .records)) (s .mode) (s .instructions) (startState (s .places) (s .constants))
 
 pub sound : (bytes : List ℕ) (room : ℕ) → Accepted bytes room → Sound bytes room
-unfolding decoded lowerSheet
+unfolding decoded lowerSheet tally
 sound bytes room a =
     let u = setup bytes in
     let s = sheetOf bytes in
     let rest = drop (u .start) bytes in
-    let w = wrote (s .mode) room (s .instructions) (instructions (u .count) rest .fault) rest 0 [] (startState (s .places) (s .constants)) (omega arith) (a .number) in
+    let w = wrote (s .mode) room (s .instructions) (instructions (u .count) rest .fault) rest noneStanding 0 [] (startState (s .places) (s .constants)) (omega arith) (a .number) in
+    let r = reads (u .count) rest (w .sound) in
     let n = length-constants bytes (u .count) 0 in
     record {
       same = λ j. record { sheet = s; listing = w .listing j; constants = w .last j .consts; last = w .last j .real };
@@ -115,4 +124,6 @@ sound bytes room a =
       few = omega (arith, n, right bytes (a .right) .few);
       within = w .fits;
       fits = omega (arith, w .fits, ap length (w .listing), a .slice);
+      fair = fair (s .mode) (u .count) (s .instructions) rest [] noneStanding (startState (s .places) (s .constants)) r (w .accepts) (λ l q. refl);
+      meets = each-meets (whole s .after .consts) (block (whole s .records)) (s .mode) (u .count) (s .instructions) rest noneStanding (startState (s .places) (s .constants)) r (w .accepts);
     }

@@ -136,6 +136,9 @@ IsDestination (Instruction.Fused op d a b c) r = r ≡ d
 IsDestination (Instruction.IfElse d a b p) r = r ≡ d
 IsDestination (Instruction.LoadMath op d a p) r = r ≡ d
 IsDestination (Instruction.LoadConstMath op d a idx) r = r ≡ d
+IsDestination (Instruction.Label l) r = ⊥
+IsDestination (Instruction.Branch l) r = ⊥
+IsDestination (Instruction.BranchIf c l e) r = ⊥
 
 abbrev pub IsOperand : Instruction → ℕ → Type 0
 IsOperand Instruction.Nop r = ⊥
@@ -149,6 +152,9 @@ IsOperand (Instruction.Fused op d a b c) r = (r ≡ a) ⊎ (r ≡ b) ⊎ (r ≡ 
 IsOperand (Instruction.IfElse d a b p) r = (r ≡ a) ⊎ (r ≡ b)
 IsOperand (Instruction.LoadMath op d a p) r = r ≡ a
 IsOperand (Instruction.LoadConstMath op d a idx) r = r ≡ a
+IsOperand (Instruction.Label l) r = ⊥
+IsOperand (Instruction.Branch l) r = ⊥
+IsOperand (Instruction.BranchIf c l e) r = r ≡ c
 
 -- from α to β it does not "change the pair of a general register that is not its destination, save to clear the imaginary half of an
 -- operand recorded as real", by the realness before it
@@ -181,8 +187,8 @@ pub record EndAlike (l : Lowered) (i : ℕ) (σ τ : Store) : Type 0 where
   pub played : playOn l i σ .played ≡ playOn l i τ .played
   pub stores : Alike (l .last) (playOn l i σ .store) (playOn l i τ .store)
 
--- The player accepts the play from record 0 on σ₀ and playing on with σ and with τ; if no Half stands in the way, playing on ends alike; and
--- in none of the three does an instruction change another's pair.
+-- The player accepts the play from record 0 on σ₀ and playing on with σ and with τ; if no Half stands in the way, playing on ends alike;
+-- and in none of the three does an instruction change another's pair.
 pub record Claim (l : Lowered) (σ₀ : Store) (i : ℕ) (σ τ : Store) : Type 0 where
   pub accepted : playOn l 0 σ₀ .number ≡ 0
   pub acceptedOn : playOn l i σ .number ≡ 0

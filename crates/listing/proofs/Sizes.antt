@@ -66,10 +66,11 @@ module _ (count : ℕ) (s : List ℕ) where
       (chosen 11 kind (named 65 (byte 4 ∷ byte 5 ∷ []) (after (placeAt s 6) (λ loc. made (Record.Work (Work.LoadComplex (byte 4) (byte 5) loc)) refl)))
       (chosen 12 kind (named 65 (byte 4 ∷ byte 5 ∷ []) (after (savePlace s 6) (λ loc. made (Record.Work (Work.SaveComplex (byte 4) (byte 5) loc)) refl)))
       (chosen 13 kind (after (taken takesArith arithOps (byte 4)) (λ op. named 65 (byte 5 ∷ byte 6 ∷ byte 7 ∷ byte 8 ∷ byte 9 ∷ byte 10 ∷ []) (made (Record.Work (Work.ComplexBi op (byte 5) (byte 6) (byte 7) (byte 8) (byte 9) (byte 10))) refl)))
-      (chosen 14 kind (tested (ltb 2 (byte 4)) 2 (made (Record.Label (byte 4)) refl))
-      (chosen 15 kind (tested (ltb 2 (byte 4)) 2 (made (Record.Branch (byte 4)) refl))
-      (chosen 16 kind (tested (ltb 2 (byte 4)) 2 (made (Record.Call (byte 4)) refl))
-      (nothing 2))))))))))))))
+      (chosen 14 kind (made (Record.Label (byte 4)) refl)
+      (chosen 15 kind (made (Record.Branch (byte 4)) refl)
+      (chosen 16 kind (made (Record.Call (byte 4)) refl)
+      (chosen 17 kind (tested (ltb 1 (byte 6)) 2 (named 65 (byte 4 ∷ []) (made (Record.BranchIf (byte 4) (byte 5) (eqb (byte 6) 1)) refl)))
+      (nothing 2)))))))))))))))
 
 -- a record at a position reaches to the next
 pub sized : (count : ℕ) (s : List ℕ) (at : ℕ) (r : Record) (next : ℕ) → recordAt count s at ≡ got (record { item = r; next = next })

@@ -1,1 +1,3 @@
 mod Bits
+pub mod Ahead
+pub mod Same

@@ -42,6 +42,19 @@ then o f = record { records = o .records ++ f (o .after) .records; after = f (o 
 unfoldable pub unlisted : State → Out
 unlisted s = record { records = []; after = s }
 
+-- one record that directs the play: `set_label`, `branch`, `branch_if`; nothing is recorded
+unfoldable pub directed : Record → State → Out
+directed r s = record { records = r ∷ []; after = s }
+
+abbrev pub setLabel : ℕ → State → Out
+setLabel l s = directed (Record.Label l) s
+
+abbrev pub branch : ℕ → State → Out
+branch l s = directed (Record.Branch l) s
+
+abbrev pub branchIf : ℕ → ℕ → Bool → State → Out
+branchIf c l e s = directed (Record.BranchIf (re c) l e) s
+
 -- lines listed, and register d recorded as real or complex
 unfoldable pub emit : State → List Work → ℕ → Bool → Out
 emit s lines d f = record { records = map Record.Work lines; after = withReal s (setReg (s .real) d f) }
@@ -202,9 +215,9 @@ unfolding stableConst
 blockConsts true k = threeConsts FLOOR_FINITE EXP_MASK_FINITE INFINITY k
 blockConsts false k = k
 
--- "The first Root, or RealRoot of a complex register, appends the root block after its call and moves; later ones only call it." The block's
--- `ret` begins with `ensure_complex` of Ret, which here lists nothing and records nothing: the call recorded Ret as complex, and the move of
--- it to the destination, be that Ret itself, left it so.
+-- "The first Root, or RealRoot of a complex register, appends the root block after its call and moves; later ones only call it." The
+-- block's `ret` begins with `ensure_complex` of Ret, which here lists nothing and records nothing: the call recorded Ret as complex, and
+-- the move of it to the destination, be that Ret itself, left it so.
 unfoldable pub defineRoot : Bool → Bool → State → Out
 unfolding blockOf blockConsts unlisted
 defineRoot true stable s = unlisted s

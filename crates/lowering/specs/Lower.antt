@@ -1,4 +1,5 @@
--- The whole of lowering (document 01, "What the two entries give back" and Lowering), from a sheet's decoded instructions and from its bytes.
+-- The whole of lowering (document 01, "What the two entries give back" and Lowering), from a sheet's decoded instructions and from its
+-- bytes.
 use Prim.Native.Nat.{ℕ, suc, _+_}
 use mathlib.Core.Bool.{Bool, true, false, not, cond, _&&_}
 use mathlib.Core.List.{List, [], _∷_, _++_}
@@ -20,6 +21,7 @@ use Rattle.lowering.specs.declared.realness.Realness.{Realness}
 use Rattle.lowering.specs.Realness.{isRealReg, isRealLoc, fresh}
 use Rattle.lowering.specs.Complexifier.{State}
 use Rattle.lowering.specs.Rerun.{rerun}
+use Rattle.lowering.specs.Labels.{role, Standing, noneStanding, misplaced, unequal, passed}
 
 -- 6, "barred operand: where the Rust asserts": "in stable mode, Divide by a complex register with either operand Ret or Temp"
 abbrev pub isGeneral : ℕ → Bool
@@ -58,6 +60,9 @@ barred stable (Instruction.Fused op d a b k) ρ = eqb k Ret
 barred stable (Instruction.IfElse d a b p) ρ = false
 barred stable (Instruction.LoadMath op d a p) ρ = isDivide op && barredDivide stable a Temp (isRealLoc (ρ .places) p)
 barred stable (Instruction.LoadConstMath op d a idx) ρ = false
+barred stable (Instruction.Label l) ρ = false
+barred stable (Instruction.Branch l) ρ = false
+barred stable (Instruction.BranchIf c l e) ρ = false
 
 -- where lowering ends: the number, the index, the bytes of the finished instructions, and the state after them
 pub record Ended : Type 0 where
@@ -69,16 +74,19 @@ pub record Ended : Type 0 where
 abbrev pub ended : ℕ → ℕ → List ℕ → State → Ended
 ended number index bytes s = record { number = number; index = index; bytes = bytes; state = s }
 
--- what refuses a decoded instruction, in document 01's order, each test with its number: 7 is "the instruction's whole listing exceeds the
--- bytes left"; `behind` are the sheet's bytes behind the instruction
-abbrev pub tests : Mode → ℕ → Instruction → List ℕ → List ℕ → State → List (Bool × ℕ)
-tests mode room i behind bytes s =
-    (barred (isStable mode) i (s .real), 6)
-    ∷ (ltb room (length bytes + length (encodeAll (rerun mode i s .records))), 7)
+-- what refuses a decoded instruction, in document 01's and 02's order, each test with its number: 10 is "tested after 4", 11 "tested after
+-- 6", 7 is "the instruction's whole listing exceeds the bytes left"; b are the labels and branches before the instruction, `behind` the
+-- sheet's bytes behind it, `written` the bytes of the finished ones
+abbrev pub tests : Mode → ℕ → Instruction → Standing → List ℕ → ℕ → State → List (Bool × ℕ)
+tests mode room i b behind written s =
+    (misplaced (role i) b behind, 10)
+    ∷ (barred (isStable mode) i (s .real), 6)
+    ∷ (unequal (role i) b (s .real), 11)
+    ∷ (ltb room (written + length (encodeAll (rerun mode i s .records))), 7)
     ∷ []
 
 -- the first test that holds gives the number; where none holds the work goes on
-abbrev pub byFirst : List (Bool × ℕ) → (ℕ → Ended) → Ended → Ended
+abbrev pub byFirst : {A : Type 0} → List (Bool × ℕ) → (ℕ → A) → A → A
 byFirst [] refused on = on
 byFirst (t ∷ ts) refused on = cond (t .0) (refused (t .1)) (byFirst ts refused on)
 
@@ -86,14 +94,16 @@ byFirst (t ∷ ts) refused on = cond (t .0) (refused (t .1)) (byFirst ts refused
 abbrev pub past : List ℕ → List ℕ
 past rest = drop (wordAt rest 0) rest
 
--- "The first refused record ends the work." `rest` are the sheet's bytes from the first instruction on, and `fault` refuses what stands
--- behind the decoded ones (0: nothing does). A refused instruction leaves nothing: "the counts and realness are those before it".
-unfoldable pub lowerFrom : Mode → ℕ → List Instruction → ℕ → List ℕ → ℕ → List ℕ → State → Ended
-unfolding barred
-lowerFrom mode room [] fault rest index bytes s = ended fault index bytes s
-lowerFrom mode room (i ∷ is) fault rest index bytes s =
-    byFirst (tests mode room i (past rest) bytes s) (λ number. ended number index bytes s)
-    (lowerFrom mode room is fault (past rest) (suc index) (bytes ++ encodeAll (rerun mode i s .records)) (rerun mode i s .after))
+-- "The first refused record ends the work." `rest` are the sheet's bytes from the first instruction on, b the labels and branches before
+-- it, and `fault` refuses what stands behind the decoded ones (0: nothing does). A refused instruction leaves nothing: "the counts and
+-- realness are those before it".
+unfoldable pub lowerFrom : Mode → ℕ → List Instruction → ℕ → List ℕ → Standing → ℕ → List ℕ → State → Ended
+unfolding role misplaced barred unequal passed
+lowerFrom mode room [] fault rest b index bytes s = ended fault index bytes s
+lowerFrom mode room (i ∷ is) fault rest b index bytes s =
+    byFirst (tests mode room i b (past rest) (length bytes) s) (λ number. ended number index bytes s)
+    (lowerFrom mode room is fault (past rest) (passed (role i) (s .real) b) (suc index) (bytes ++ encodeAll (rerun mode i s .records))
+    (rerun mode i s .after))
 
 -- "`complexify` on a fresh `Complexifier`": the constants are the sheet's, "Every register starts recorded as complex"
 abbrev pub startState : List ℕ → List ℕ → State
@@ -106,4 +116,4 @@ lowerSheet sheet room =
     let s = setup sheet in
     let rest = drop (s .start) sheet in
     let d = instructions (s .count) rest in
-    lowerFrom (s .mode) room (d .items) (d .fault) rest 0 [] (startState (s .places) (constantsOf sheet (s .count)))
+    lowerFrom (s .mode) room (d .items) (d .fault) rest noneStanding 0 [] (startState (s .places) (constantsOf sheet (s .count)))

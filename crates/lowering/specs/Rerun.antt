@@ -88,6 +88,9 @@ rerun m (Instruction.Fused op d a b k) s = rerunFused op d a b k s
 rerun m (Instruction.IfElse d a b p) s = c.ifelse d a b p s
 rerun m (Instruction.LoadMath op d a p) s = then (c.loadFrom Temp p s) (rerunArith m op d a Temp)
 rerun m (Instruction.LoadConstMath op d a idx) s = then (c.loadConst Temp idx s) (rerunArith m op d a Temp)
+rerun m (Instruction.Label l) s = c.setLabel l s
+rerun m (Instruction.Branch l) s = c.branch l s
+rerun m (Instruction.BranchIf k l e) s = c.branchIf k l e s
 
 -- `complexify`: all turns, one after the other
 unfoldable pub complexify : Mode → List Instruction → State → Out

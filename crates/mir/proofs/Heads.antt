@@ -17,9 +17,9 @@ use Rattle.mir.proofs.Puts.{longest}
 pub at-most : (kind : ℕ) → lengthOf kind ≤ 11
 unfolding lengthOf lengths
 at-most kind =
-    either (ltb kind 17)
-    (λ t. longest kind (ltb-true kind 17 t))
-    (λ f. let h = ltb-false kind 17 f in let e = List·getD-eq-default lengths 0 {n = kind} h in omega arith)
+    either (ltb kind 18)
+    (λ t. longest kind (ltb-true kind 18 t))
+    (λ f. let h = ltb-false kind 18 f in let e = List·getD-eq-default lengths 0 {n = kind} h in omega arith)
 
 -- the length of a record that is read
 pub record Sized (s : List ℕ) : Type 0 where

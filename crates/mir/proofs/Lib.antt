@@ -5,6 +5,7 @@ pub mod Placing
 mod Puts
 pub mod Parts
 pub mod Passing
+pub mod Refusals
 pub mod Heads
 pub mod Decoding
 pub mod Numbering

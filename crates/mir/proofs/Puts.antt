@@ -12,11 +12,11 @@ use Rattle.mir.proofs.Placing.{placed-fits, placed-full}
 use Rattle.mir.proofs.Tables.{holds}
 
 -- a record has 4 to 11 bytes, by the table
-pub shortest : (k : ℕ) → k < 17 → 4 ≤ lengthOf k
+pub shortest : (k : ℕ) → k < 18 → 4 ≤ lengthOf k
 unfolding lengthOf
 shortest k h = leb→le 4 (getD lengths k 0) (holds (λ n. leb 4 n) lengths tt k 0 h)
 
-pub longest : (k : ℕ) → k < 17 → lengthOf k ≤ 11
+pub longest : (k : ℕ) → k < 18 → lengthOf k ≤ 11
 unfolding lengthOf
 longest k h = leb→le (getD lengths k 0) 11 (holds (λ n. leb n 11) lengths tt k 0 h)
 
@@ -33,7 +33,7 @@ seven (a ∷ b ∷ c ∷ d ∷ e ∷ g ∷ []) h = absurd (omega arith)
 seven (a ∷ b ∷ c ∷ d ∷ e ∷ g ∷ i ∷ []) h = refl
 seven (a ∷ b ∷ c ∷ d ∷ e ∷ g ∷ i ∷ j ∷ f) h = absurd (omega arith)
 
-head : (n k : ℕ) (f : List ℕ) → 4 ≤ n → n ≤ 11 → k < 17
+head : (n k : ℕ) (f : List ℕ) → 4 ≤ n → n ≤ 11 → k < 18
     → take n (n ∷ 0 ∷ k ∷ 0 ∷ f) ≡ twoBytes n ++ (twoBytes k ++ take (n - 4) f)
 head n k f lo hi h =
     let e : n ≡ suc (suc (suc (suc (n - 4)))) = omega arith in
@@ -43,7 +43,7 @@ head n k f lo hi h =
     let d : k / 256 ≡ 0 = omega arith in
     ap (λ m. take m (n ∷ 0 ∷ k ∷ 0 ∷ f)) e ∙ rw (a, b, c, d)
 
-pub put-bytes : (k : ℕ) (f : List ℕ) → k < 17 → length f ≡ 7
+pub put-bytes : (k : ℕ) (f : List ℕ) → k < 18 → length f ≡ 7
     → take (lengthOf k)
     (lengthOf k ∷ 0 ∷ k ∷ 0 ∷ getD f 0 0 ∷ getD f 1 0 ∷ getD f 2 0 ∷ getD f 3 0 ∷ getD f 4 0 ∷ getD f 5 0 ∷ getD f 6 0 ∷ [])
     ≡ recordOf k (take (lengthOf k - 4) f)
@@ -52,7 +52,7 @@ put-bytes k f h s =
     ap (λ l. take (lengthOf k) (lengthOf k ∷ 0 ∷ k ∷ 0 ∷ l)) (seven f s)
     ∙ head (lengthOf k) k f (shortest k h) (longest k h) h
 
-pub put-length : (k : ℕ) (f : List ℕ) → k < 17 → length f ≡ 7 → length (recordOf k (take (lengthOf k - 4) f)) ≡ lengthOf k
+pub put-length : (k : ℕ) (f : List ℕ) → k < 18 → length f ≡ 7 → length (recordOf k (take (lengthOf k - 4) f)) ≡ lengthOf k
 unfolding recordOf
 put-length k f h s =
     let lo = shortest k h in
@@ -61,13 +61,13 @@ put-length k f h s =
     omega arith
 
 -- what `put` leaves where there is no room, and where there is
-pub put-full : (l : List ℕ) (at k : ℕ) (f : List ℕ) → k < 17 → length f ≡ 7 → length l < at + lengthOf k
+pub put-full : (l : List ℕ) (at k : ℕ) (f : List ℕ) → k < 18 → length f ≡ 7 → length l < at + lengthOf k
     → buf l at ≡ placed (buf l at) (recordOf k (take (lengthOf k - 4) f))
 put-full l at k f h s full =
     let e = put-length k f h s in
     sym (placed-full l at (recordOf k (take (lengthOf k - 4) f)) (omega arith))
 
-pub put-fits : (l m : List ℕ) (at k : ℕ) (f : List ℕ) → k < 17 → length f ≡ 7 → at + lengthOf k ≤ length l
+pub put-fits : (l m : List ℕ) (at k : ℕ) (f : List ℕ) → k < 18 → length f ≡ 7 → at + lengthOf k ≤ length l
     → m ≡ sets l at (take (lengthOf k)
     (lengthOf k ∷ 0 ∷ k ∷ 0 ∷ getD f 0 0 ∷ getD f 1 0 ∷ getD f 2 0 ∷ getD f 3 0 ∷ getD f 4 0 ∷ getD f 5 0 ∷ getD f 6 0 ∷ []))
     → buf m (at + lengthOf k) ≡ placed (buf l at) (recordOf k (take (lengthOf k - 4) f))

@@ -1,6 +1,6 @@
 -- The bytes of a listing's records, and records written to a lent slice (document 01, Sheet).
 use Prim.Native.Nat.{ℕ, _+_, _/_, _%_}
-use mathlib.Core.Bool.{cond}
+use mathlib.Core.Bool.{Bool, cond}
 use mathlib.Core.List.{List, [], _∷_, _++_}
 use lib.ListN.{length}
 use lib.Seq.{sets}
@@ -18,6 +18,10 @@ twoBytes n = n % 256 ∷ n / 256 ∷ []
 
 abbrev pub placeBytes : Loc → List ℕ
 placeBytes p = class p ∷ twoBytes (index p)
+
+-- document 02, d): "a byte 0 or 1 that is `is_else`"
+abbrev pub flagByte : Bool → ℕ
+flagByte e = cond e 1 0
 
 -- "A record is a two-byte length of the whole record, a two-byte kind, then fields"
 unfoldable pub recordOf : ℕ → List ℕ → List ℕ
@@ -43,6 +47,7 @@ encode (Record.Work w) = encodeWork w
 encode (Record.Label l) = recordOf 14 (l ∷ [])
 encode (Record.Branch l) = recordOf 15 (l ∷ [])
 encode (Record.Call l) = recordOf 16 (l ∷ [])
+encode (Record.BranchIf c l e) = recordOf 17 (c ∷ l ∷ flagByte e ∷ [])
 
 abbrev pub encodeAll : List Record → List ℕ
 encodeAll [] = []

@@ -22,14 +22,15 @@ bytesAt s i (suc n) = byteAt s i ∷ bytesAt s (suc i) n
 unfoldable pub wordAt : List ℕ → ℕ → ℕ
 wordAt s i = getD s i 0 + 256 * getD s (i + 1) 0
 
--- "Sheets take kinds 0 to 10"; "Listings take kinds 1 to 8 and 11 to 16"
+-- "Sheets take kinds 0 to 10"; "Listings take kinds 1 to 8 and 11 to 16"; with document 02, d) "Sheets take Label, Branch [..] and a new
+-- kind 17", which listings take too
 unfoldable pub among : ℕ → ℕ → ℕ → Bool
 among first last kind = leb first kind && leb kind last
 
 unfoldable pub takesKind : Bool → ℕ → Bool
 unfolding among
-takesKind false kind = among 0 10 kind
-takesKind true kind = among 1 8 kind || among 11 16 kind
+takesKind false kind = among 0 10 kind || among 14 15 kind || among 17 17 kind
+takesKind true kind = among 1 8 kind || among 11 17 kind
 
 -- "Within a record the order is: readable length (1), kind (2), kind's length (1)"; a readable length: not "fewer than 4 bytes
 -- left, length under 4 or past the end". What is read is the kind.

@@ -1,4 +1,5 @@
--- The kinds and their lengths (document 01, the table of Sheet).
+-- The kinds and their lengths (document 01, the table of Sheet; document 02, d: "a new kind 17, BranchIf: condition register, label, and a
+-- byte 0 or 1 that is `is_else`; length 7").
 use Prim.Native.Nat.{ℕ, _+_}
 use mathlib.Core.Path.{_≡_, refl}
 use mathlib.Core.List.{List, [], _∷_, map}
@@ -6,7 +7,7 @@ use lib.ListN.{getD}
 
 -- The column Length, by kind from 0.
 unfoldable pub lengths : List ℕ
-lengths = 4 ∷ 7 ∷ 8 ∷ 6 ∷ 8 ∷ 8 ∷ 7 ∷ 9 ∷ 10 ∷ 10 ∷ 9 ∷ 9 ∷ 9 ∷ 11 ∷ 5 ∷ 5 ∷ 5 ∷ []
+lengths = 4 ∷ 7 ∷ 8 ∷ 6 ∷ 8 ∷ 8 ∷ 7 ∷ 9 ∷ 10 ∷ 10 ∷ 9 ∷ 9 ∷ 9 ∷ 11 ∷ 5 ∷ 5 ∷ 5 ∷ 7 ∷ []
 
 unfoldable pub lengthOf : ℕ → ℕ
 unfolding lengths
@@ -14,7 +15,7 @@ lengthOf kind = getD lengths kind 0
 
 -- The column Fields, by kind from 0.
 pub data Field : Type 0 where
-  op register place constant label : Field
+  op register place constant label flag : Field
 
 abbrev pub fields : List (List Field)
 fields =
@@ -35,6 +36,7 @@ fields =
     ∷ (label ∷ [])
     ∷ (label ∷ [])
     ∷ (label ∷ [])
+    ∷ (register ∷ label ∷ flag ∷ [])
     ∷ []
 
 -- "A place is a class byte and a two-byte index; a constant index has two bytes; other fields one."
@@ -44,6 +46,7 @@ bytesOf register = 1
 bytesOf place = 3
 bytesOf constant = 2
 bytesOf label = 1
+bytesOf flag = 1
 
 abbrev pub bytesOfAll : List Field → ℕ
 bytesOfAll [] = 0

@@ -54,9 +54,15 @@ pub fn takes_kind(in_listing: bool, kind: u16) -> bool
         if between(1, 8, kind) {
             return true;
         }
-        return between(11, 16, kind);
+        return between(11, 17, kind);
     }
-    between(0, 10, kind)
+    if between(0, 10, kind) {
+        return true;
+    }
+    if between(14, 15, kind) {
+        return true;
+    }
+    between(17, 17, kind)
 }
 
 // A record's kind, or the number that refuses the record.

@@ -35,7 +35,7 @@ pub fn loc_index(loc: Loc) -> u16
     }
 }
 
-// What a sheet holds: kinds 0 to 10, over a sheet's registers.
+// What a sheet holds: kinds 0 to 10, 14, 15 and 17, over a sheet's registers.
 pub enum Instruction {
     Nop,
     Uni {
@@ -89,6 +89,13 @@ pub enum Instruction {
         dst: u8,
         s1: u8,
         idx: u16,
+    },
+    Label(u8),
+    Branch(u8),
+    BranchIf {
+        cond: u8,
+        label: u8,
+        is_else: bool,
     },
 }
 
@@ -161,4 +168,5 @@ pub enum Record {
     Label(u8),
     Branch(u8),
     Call(u8),
+    BranchIf { cond: u8, label: u8, is_else: bool },
 }

@@ -5,7 +5,7 @@ ghost use Prim.Native.Nat.{_+_, _-_, _/_, _%_, _<_, _≤_};
 ghost use lib.ListN.{take, length};
 ghost use lib.Seq.{sets};
 ghost use Rattle.mir.specs.Length.{lengthOf};
-ghost use Rattle.mir.specs.Encode.{buf, placed, pushed, recordOf};
+ghost use Rattle.mir.specs.Encode.{buf, placed, pushed, recordOf, flagByte};
 ghost use Rattle.mir.specs.declared.records.Work.{Work};
 ghost use Rattle.mir.specs.declared.records.Record.{Record};
 use super::lengths::LENGTHS;
@@ -48,7 +48,7 @@ fn store(out: &mut [u8], at: usize, bytes: [u8; 11], n: usize)
 
 // A record of a kind: its length by the table, the kind, and as many of the fields as the length leaves.
 fn put(out: &mut [u8], at: usize, kind: u8, f: [u8; 7]) -> usize
-    requires { ⌜ kind < 17 ⌝ }
+    requires { ⌜ kind < 18 ⌝ }
     ensures { λ r. ⌜ buf (now (out .exit)) r ≡ placed (buf (now (out .entry)) at) (recordOf kind (take (lengthOf kind - 4) f)) ⌝ }
 {
     let k = kind as usize;
@@ -190,6 +190,20 @@ pub fn push_call(out: &mut [u8], at: usize, label: u8) -> usize
     ensures { λ r. ⌜ buf (now (out .exit)) r ≡ pushed (buf (now (out .entry)) at) (Record.Call label) ⌝ }
 {
     put(out, at, 16, [label, 0, 0, 0, 0, 0, 0])
+}
+
+// The byte of a flag.
+pub fn flag_byte(flag: bool) -> u8
+    ensures { λ r. ⌜ r ≡ flagByte flag ⌝ }
+{
+    if flag { 1 } else { 0 }
+}
+
+pub fn push_branch_if(out: &mut [u8], at: usize, cond: u8, label: u8, is_else: bool) -> usize
+    ensures { λ r. ⌜ buf (now (out .exit)) r ≡ pushed (buf (now (out .entry)) at) (Record.BranchIf cond label «is_else») ⌝ }
+{
+    let e = flag_byte(is_else);
+    put(out, at, 17, [cond, label, e, 0, 0, 0, 0])
 }
 
 // A record that works on words.

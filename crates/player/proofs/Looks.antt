@@ -31,12 +31,14 @@ label-seen l (Record.Work w) = refl
 label-seen l (Record.Label m) = refl
 label-seen l (Record.Branch m) = refl
 label-seen l (Record.Call m) = refl
+label-seen l (Record.BranchIf c m e) = refl
 
 pub jump-seen : (r : Record) → jumpSeen (sightOf (got r)) ≡ isJump r
 jump-seen (Record.Work w) = refl
 jump-seen (Record.Label m) = refl
 jump-seen (Record.Branch m) = refl
 jump-seen (Record.Call m) = refl
+jump-seen (Record.BranchIf c m e) = refl
 
 -- the record that a sight is of, and n bytes long
 pub record Sighted (count : ℕ) (s : List ℕ) (at n : ℕ) (q : Sight) : Type 0 where
@@ -67,6 +69,7 @@ module _ (count : ℕ) (s : List ℕ) (at : ℕ) (q : Sight) (e : q ≡ sightOf 
       zero-number (Record.Label m) = refl
       zero-number (Record.Branch m) = refl
       zero-number (Record.Call m) = refl
+      zero-number (Record.BranchIf c m e) = refl
   unseen (refused k) f n h =
       subst (λ k. Done (recordFrom count) s at k) (sym (ap (λ q. q .number) (whole-sight ∙ ap sightOf f))) (torn-read count s at k f h)
 
@@ -124,6 +127,7 @@ module _ (constants s : List ℕ) (at : ℕ) {w : Bool} {σ τ : Store} (f : Fou
   by-work k (Record.Label l) e h = absurd (true≢false (sym h ∙ t .went ∙ ap hasWork (spells ∙ ap workIn e)))
   by-work k (Record.Branch l) e h = absurd (true≢false (sym h ∙ t .went ∙ ap hasWork (spells ∙ ap workIn e)))
   by-work k (Record.Call l) e h = absurd (true≢false (sym h ∙ t .went ∙ ap hasWork (spells ∙ ap workIn e)))
+  by-work k (Record.BranchIf c l x) e h = absurd (true≢false (sym h ∙ t .went ∙ ap hasWork (spells ∙ ap workIn e)))
 
   pub did : {n : ℕ} → n ≡ wordAt (take (length s - at) (drop at s)) 0 → w ≡ true → Did constants s at n σ τ
   did k h = by-work k (f .rec) refl h
@@ -133,6 +137,7 @@ module _ (constants s : List ℕ) (at : ℕ) {w : Bool} {σ τ : Store} (f : Fou
   by-jump (Record.Label l) e h = record { rec = Record.Label l; here = f .is ∙ ap got e; jump = refl }
   by-jump (Record.Branch l) e h = record { rec = Record.Branch l; here = f .is ∙ ap got e; jump = refl }
   by-jump (Record.Call l) e h = record { rec = Record.Call l; here = f .is ∙ ap got e; jump = refl }
+  by-jump (Record.BranchIf c l x) e h = record { rec = Record.BranchIf c l x; here = f .is ∙ ap got e; jump = refl }
 
   -- no work: a jump stands there, and the store is as it was
   pub jumps : w ≡ false → Jumps (length constants) s at
@@ -143,6 +148,7 @@ module _ (constants s : List ℕ) (at : ℕ) {w : Bool} {σ τ : Store} (f : Fou
   by-kept (Record.Label l) e h = t .after ∙ ap (λ o. worked constants o σ) (spells ∙ ap workIn e)
   by-kept (Record.Branch l) e h = t .after ∙ ap (λ o. worked constants o σ) (spells ∙ ap workIn e)
   by-kept (Record.Call l) e h = t .after ∙ ap (λ o. worked constants o σ) (spells ∙ ap workIn e)
+  by-kept (Record.BranchIf c l x) e h = t .after ∙ ap (λ o. worked constants o σ) (spells ∙ ap workIn e)
 
   pub kept : w ≡ false → τ ≡ σ
   kept h = by-kept (f .rec) refl h

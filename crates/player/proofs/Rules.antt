@@ -19,7 +19,7 @@ use Rattle.player_machine.specs.Machine.{isLabel}
 use Rattle.player_machine.specs.Jumps.{bit, tally, has, isReturn, inBlock, breaks, breachFrom, breach}
 use Rattle.player.specs.Spelled.{jumpSpelled, jumpIn, such}
 use Rattle.player.specs.Positions.{left, fault, Counted, AllCounted, Tables, BreaksRule}
-use Rattle.player.proofs.Spelling.{label-of, a-jump, such-label, such-return}
+use Rattle.player.proofs.Spelling.{label-of, a-jump, a-branch-if, such-label, such-return}
 use Rattle.player.proofs.Walks.{bit-small, tally-on, tally-none}
 use Rattle.player.proofs.Looks.{Stands}
 
@@ -41,7 +41,7 @@ counted-one s t l k e h =
           counted-at t l m (eqb l m) refl h
           ∙ ap (λ x. getD t m 0 + bit (eqb x m)) e
           ∙ ap (λ b. getD t m 0 + bit (cond b (eqb (byteAt s 4) m) false)) (sym (eq-eqb _ _ k))
-          ∙ ap (λ b. getD t m 0 + bit b) (sym (label-of (wordAt s 2) (byteAt s 4) m));
+          ∙ ap (λ b. getD t m 0 + bit b) (sym (label-of (wordAt s 2) s m));
     }
 
 pub counted-none : (s t : List ℕ) → (wordAt s 2 ≡ 14 → ⊥) → Counted s t t
@@ -51,7 +51,7 @@ counted-none s t k =
       each = λ m.
           sym (add-zero (getD t m 0))
           ∙ ap (λ b. getD t m 0 + bit (cond b (eqb (byteAt s 4) m) false)) (sym (ne-eqb _ _ k))
-          ∙ ap (λ b. getD t m 0 + bit b) (sym (label-of (wordAt s 2) (byteAt s 4) m));
+          ∙ ap (λ b. getD t m 0 + bit b) (sym (label-of (wordAt s 2) s m));
     }
 
 pub counted-few : {s t u : List ℕ} → Counted s t u → (m : ℕ) → getD u m 0 ≤ getD t m 0 + 1
@@ -116,9 +116,20 @@ pub or-true : (b : Bool) → (b || true) ≡ true
 or-true true = refl
 or-true false = refl
 
+pub or-or-true : (a b : Bool) → true ≡ (a || (b || true))
+or-or-true true b = refl
+or-or-true false b = sym (or-true b)
+
 pub or-false : (b : Bool) → (b || false) ≡ b
 or-false true = refl
 or-false false = refl
+
+-- the tests of a Branch, and those of the other jumps among them
+branch-tests : (a b c d : Bool) → (a || (b || (c || d))) ≡ (a || false || (b || false || (c || false || false || (d || false))))
+branch-tests true b c d = refl
+branch-tests false true c d = refl
+branch-tests false false true d = refl
+branch-tests false false false d = sym (or-false d)
 
 module _ {before behind : List Record} {t u : List ℕ} {b : Bool} {m n : ℕ} where
   told-label : (l : ℕ) → Tables before (Record.Label l ∷ behind) t u b m n
@@ -133,18 +144,37 @@ module _ {before behind : List Record} {t u : List ℕ} {b : Bool} {m n : ℕ} w
       ∙ ap (λ x. eqb l 0 || has (isLabel l) before || (inBlock before || (eqb l 1 && not x))) e
       ∙ ap (λ x. eqb l 0 || has (isLabel l) before || (inBlock before || x)) (sym (or-false (eqb l 1 && not (has isReturn behind))))
 
+  -- what the tables tell of the label of a branch
+  later : {r : Record} (l : ℕ) → isLabel l r ≡ false → Tables before (r ∷ behind) t u b m n
+      → ltb (getD u l 0) (getD t l 0) ≡ has (isLabel l) behind
+  unfolding tally
+  later {r} l f k =
+      let x = tally (isLabel l) before in
+      let y = tally (isLabel l) behind in
+      ap (λ n. ltb n (getD t l 0)) (k .stood l)
+      ∙ ap (ltb x) (k .all l ∙ ap (λ p. x + (bit p + y)) f ∙ ap (_+_ x) (zero-add y))
+      ∙ ltb-step x y
+
   told-branch : (l : ℕ) → Tables before (Record.Branch l ∷ behind) t u b m n
-      → (ltb 1 l && not (ltb (getD u l 0) (getD t l 0)) || (eqb l 1 || (not (eqb l 0) && b))) ≡ breaks before (Record.Branch l) behind
+      → (ltb 1 l && not (ltb (getD u l 0) (getD t l 0)) || (ltb 2 l && ltb 0 (getD u l 0) || (eqb l 1 || (not (eqb l 0) && b))))
+      ≡ breaks before (Record.Branch l) behind
   unfolding breaks
   told-branch l k =
-      let e : ltb (getD u l 0) (getD t l 0) ≡ has (isLabel l) behind =
-      ap (λ n. ltb n (getD t l 0)) (k .stood l)
-      ∙ ap (ltb (tally (isLabel l) before)) (k .all l ∙ ap (_+_ (tally (isLabel l) before)) (zero-add _))
-      ∙ ltb-step (tally (isLabel l) before) (tally (isLabel l) behind) in
-      ap (λ x. ltb 1 l && not x || (eqb l 1 || (not (eqb l 0) && b))) e
-      ∙ ap (λ x. ltb 1 l && not (has (isLabel l) behind) || (eqb l 1 || (not (eqb l 0) && x))) (k .inside)
-      ∙ ap (λ x. ltb 1 l && not (has (isLabel l) behind) || (x || (not (eqb l 0) && inBlock before))) (sym (or-false (eqb l 1)))
-      ∙ ap (λ x. ltb 1 l && not (has (isLabel l) behind) || (eqb l 1 || false || x)) (sym (or-false (not (eqb l 0) && inBlock before)))
+      ap (λ x. ltb 1 l && not x || (ltb 2 l && ltb 0 (getD u l 0) || (eqb l 1 || (not (eqb l 0) && b)))) (later l refl k)
+      ∙ ap (λ x. ltb 1 l && not (has (isLabel l) behind) || (ltb 2 l && ltb 0 x || (eqb l 1 || (not (eqb l 0) && b)))) (k .stood l)
+      ∙ ap (λ x. ltb 1 l && not (has (isLabel l) behind) || (ltb 2 l && has (isLabel l) before || (eqb l 1 || (not (eqb l 0) && x)))) (k .inside)
+      ∙ branch-tests (ltb 1 l && not (has (isLabel l) behind)) (ltb 2 l && has (isLabel l) before) (eqb l 1) (not (eqb l 0) && inBlock before)
+
+  told-branch-if : (c l : ℕ) (x : Bool) → Tables before (Record.BranchIf c l x ∷ behind) t u b m n
+      → (ltb 1 l && not (ltb (getD u l 0) (getD t l 0)) || (ltb 2 l && ltb 0 (getD u l 0) || (ltb l 3 || b)))
+      ≡ breaks before (Record.BranchIf c l x) behind
+  unfolding breaks
+  told-branch-if c l x k =
+      ap (λ x. ltb 1 l && not x || (ltb 2 l && ltb 0 (getD u l 0) || (ltb l 3 || b))) (later l refl k)
+      ∙ ap (λ x. ltb 1 l && not (has (isLabel l) behind) || (ltb 2 l && ltb 0 x || (ltb l 3 || b))) (k .stood l)
+      ∙ ap (λ x. ltb 1 l && not (has (isLabel l) behind) || (ltb 2 l && has (isLabel l) before || (ltb l 3 || x))) (k .inside)
+      ∙ ap (λ x. ltb 1 l && not (has (isLabel l) behind) || (ltb 2 l && has (isLabel l) before || (ltb l 3 || x))) (sym (or-false (inBlock before)))
+      ∙ ap (λ x. ltb 1 l && not (has (isLabel l) behind) || (ltb 2 l && has (isLabel l) before || (x || (inBlock before || false)))) (sym (or-false (ltb l 3)))
 
   told-call : (l : ℕ) → Tables before (Record.Call l ∷ behind) t u b m n
       → (not (eqb l 1) || (b || not (ltb 0 (getD t 1 0)))) ≡ breaks before (Record.Call l) behind
@@ -163,34 +193,43 @@ told-work before behind (Record.Work w) e = refl
 told-work before behind (Record.Label l) e = cc
 told-work before behind (Record.Branch l) e = cc
 told-work before behind (Record.Call l) e = cc
+told-work before behind (Record.BranchIf c l x) e = cc
 
 -- by the kind and the label of the bytes
-module _ (part : List ℕ) {before behind : List Record} {t u : List ℕ} {b : Bool} {m n : ℕ} (l : ℕ) (rec : Record) (label : l ≡ byteAt part 4)
+module _ (part : List ℕ) {before behind : List Record} {t u : List ℕ} {b : Bool} {m n : ℕ} (l : ℕ) (rec : Record)
     (k : Tables before (rec ∷ behind) t u b m n) (e : jumpSpelled part ≡ jumpIn rec) where
   known : {r : Record} → rec ≡ r → Tables before (r ∷ behind) t u b m n
   known f = subst (λ r. Tables before (r ∷ behind) t u b m n) f k
 
-  pub told-of-label : wordAt part 2 ≡ 14
+  pub told-of-label : l ≡ byteAt part 4 → wordAt part 2 ≡ 14
       → (eqb l 0 || ltb 0 (getD u l 0) || (b || (eqb l 1 && not (ltb n m)))) ≡ breaks before rec behind
-  told-of-label h =
+  told-of-label label h =
       let f = a-jump part rec e 14 h (ap (λ l. some (Record.Label l)) (sym label)) in
       told-label l (known f) ∙ ap (λ r. breaks before r behind) (sym f)
 
-  pub told-of-branch : wordAt part 2 ≡ 15
-      → (ltb 1 l && not (ltb (getD u l 0) (getD t l 0)) || (eqb l 1 || (not (eqb l 0) && b))) ≡ breaks before rec behind
-  told-of-branch h =
+  pub told-of-branch : l ≡ byteAt part 4 → wordAt part 2 ≡ 15
+      → (ltb 1 l && not (ltb (getD u l 0) (getD t l 0)) || (ltb 2 l && ltb 0 (getD u l 0) || (eqb l 1 || (not (eqb l 0) && b))))
+      ≡ breaks before rec behind
+  told-of-branch label h =
       let f = a-jump part rec e 15 h (ap (λ l. some (Record.Branch l)) (sym label)) in
       told-branch l (known f) ∙ ap (λ r. breaks before r behind) (sym f)
 
-  pub told-of-call : wordAt part 2 ≡ 16 → (not (eqb l 1) || (b || not (ltb 0 (getD t 1 0)))) ≡ breaks before rec behind
-  told-of-call h =
+  pub told-of-call : l ≡ byteAt part 4 → wordAt part 2 ≡ 16
+      → (not (eqb l 1) || (b || not (ltb 0 (getD t 1 0)))) ≡ breaks before rec behind
+  told-of-call label h =
       let f = a-jump part rec e 16 h (ap (λ l. some (Record.Call l)) (sym label)) in
       told-call l (known f) ∙ ap (λ r. breaks before r behind) (sym f)
 
-pub told-of-work : (part : List ℕ) → (wordAt part 2 ≡ 14 → ⊥) → (wordAt part 2 ≡ 15 → ⊥) → (wordAt part 2 ≡ 16 → ⊥)
+  pub told-of-branch-if : l ≡ byteAt part 5 → wordAt part 2 ≡ 17
+      → (ltb 1 l && not (ltb (getD u l 0) (getD t l 0)) || (ltb 2 l && ltb 0 (getD u l 0) || (ltb l 3 || b))) ≡ breaks before rec behind
+  told-of-branch-if label h =
+      let f = a-branch-if part rec e h label in
+      told-branch-if (byteAt part 4) l (eqb (byteAt part 6) 1) (known f) ∙ ap (λ r. breaks before r behind) (sym f)
+
+pub told-of-work : (part : List ℕ) → (wordAt part 2 ≡ 14 → ⊥) → (wordAt part 2 ≡ 15 → ⊥) → (wordAt part 2 ≡ 16 → ⊥) → (wordAt part 2 ≡ 17 → ⊥)
     → (before : List Record) (rec : Record) (behind : List Record) → jumpSpelled part ≡ jumpIn rec → false ≡ breaks before rec behind
-told-of-work part x y z before rec behind e =
-    told-work before behind rec (sym (simp (ne-eqb _ _ x, ne-eqb _ _ y, ne-eqb _ _ z)) ∙ e)
+told-of-work part x y z w before rec behind e =
+    told-work before behind rec (sym (simp (ne-eqb _ _ x, ne-eqb _ _ y, ne-eqb _ _ z, ne-eqb _ _ w)) ∙ e)
 
 -- ---- the walk
 

@@ -3,7 +3,7 @@ use Prim.Native.Nat.{ℕ}
 use mathlib.Core.Path.{_≡_, refl, sym, ap, _∙_}
 use mathlib.Core.Bool.{Bool, true, false, cond, true≢false}
 use mathlib.Core.List.{List, [], _∷_}
-use mathlib.Core.Option.{Option, none, some}
+use mathlib.Core.Option.{none, some}
 use lib.Dec.{ltb, leb, eqb}
 use borrow.Author.Tests.{eqb-true, ne-eqb}
 use Rattle.mir.specs.declared.records.Work.{Work}
@@ -19,13 +19,13 @@ use Rattle.player_machine.specs.Machine.{isLabel}
 use Rattle.player_machine.specs.Jumps.{isJump, isReturn}
 use Rattle.player.specs.Spelled.{jumpOf, jumpSpelled, jumpIn, such}
 
-module _ (kind label : ℕ) where
-  -- what was read is what a kind and a label spell
+module _ (kind : ℕ) (s : List ℕ) where
+  -- what was read is what a kind and the fields spell
   data Spells : Read Record → Type 0 where
-    read : {r : Record} → jumpOf kind label ≡ jumpIn r → Spells (got r)
+    read : {r : Record} → jumpOf kind s ≡ jumpIn r → Spells (got r)
     told : {n : ℕ} → Spells (refused n)
 
-  spelt : {x : Read Record} {r : Record} → Spells x → x ≡ got r → jumpOf kind label ≡ jumpIn r
+  spelt : {x : Read Record} {r : Record} → Spells x → x ≡ got r → jumpOf kind s ≡ jumpIn r
   spelt (read e) f = e ∙ ap jumpIn (got-same _ _ f)
   spelt (told {n}) f = absurd (clash n _ f)
 
@@ -49,14 +49,14 @@ module _ (kind label : ℕ) where
       go true f = f refl
       go false f = h
 
-  works : {w : Work} (n : ℕ) → none ≡ jumpOf n label → kind ≡ n → Spells (got (Record.Work w))
-  works n e k = read (ap (λ k. jumpOf k label) k ∙ sym e)
+  works : {w : Work} (n : ℕ) → none ≡ jumpOf n s → kind ≡ n → Spells (got (Record.Work w))
+  works n e k = read (ap (λ k. jumpOf k s) k ∙ sym e)
 
-  jumps : {r : Record} (n : ℕ) → jumpOf n label ≡ jumpIn r → kind ≡ n → Spells (got r)
-  jumps n e k = read (ap (λ k. jumpOf k label) k ∙ e)
+  jumps : {r : Record} (n : ℕ) → jumpOf n s ≡ jumpIn r → kind ≡ n → Spells (got r)
+  jumps n e k = read (ap (λ k. jumpOf k s) k ∙ e)
 
 -- kind by kind
-fields : (count : ℕ) (s : List ℕ) → Spells (wordAt s 2) (byteAt s 4) (fieldsFrom count (wordAt s 2) s)
+fields : (count : ℕ) (s : List ℕ) → Spells (wordAt s 2) s (fieldsFrom count (wordAt s 2) s)
 unfolding fieldsFrom
 fields count s =
     let b = byteAt s in
@@ -75,10 +75,11 @@ fields count s =
     (λ k.
     parted _ _ (taken takesArith arithOps (b 4))
     (λ op. limited _ _ (b 5 ∷ b 6 ∷ b 7 ∷ b 8 ∷ b 9 ∷ b 10 ∷ []) (works _ _ 13 refl k)))
-    (chosen _ _ 14 (λ k. tested _ _ (ltb 2 (b 4)) 2 (jumps _ _ 14 refl k))
-    (chosen _ _ 15 (λ k. tested _ _ (ltb 2 (b 4)) 2 (jumps _ _ 15 refl k))
-    (chosen _ _ 16 (λ k. tested _ _ (ltb 2 (b 4)) 2 (jumps _ _ 16 refl k))
-    told)))))))))))))
+    (chosen _ _ 14 (λ k. jumps _ _ 14 refl k)
+    (chosen _ _ 15 (λ k. jumps _ _ 15 refl k)
+    (chosen _ _ 16 (λ k. jumps _ _ 16 refl k)
+    (chosen _ _ 17 (λ k. tested _ _ (ltb 1 (b 6)) 2 (limited _ _ (b 4 ∷ []) (jumps _ _ 17 refl k)))
+    told))))))))))))))
 
 pub spelling : (count : ℕ) (s : List ℕ) (rec : Record) → recordFrom count s ≡ got rec → jumpSpelled s ≡ jumpIn rec
 unfolding recordFrom
@@ -93,27 +94,28 @@ jump-by (Record.Work w) r e = cc
 jump-by (Record.Label l) r e = cc
 jump-by (Record.Branch l) r e = cc
 jump-by (Record.Call l) r e = cc
+jump-by (Record.BranchIf c l x) r e = cc
 
 none-jumps : (rec r : Record) → isJump rec ≡ true → none ≡ jumpIn rec → rec ≡ r
 none-jumps (Record.Work w) r j e = absurd (true≢false (sym j))
 none-jumps (Record.Label l) r j e = cc
 none-jumps (Record.Branch l) r j e = cc
 none-jumps (Record.Call l) r j e = cc
+none-jumps (Record.BranchIf c l x) r j e = cc
 
 module _ (s : List ℕ) (rec : Record) (e : jumpSpelled s ≡ jumpIn rec) where
-  pub a-jump : (n : ℕ) {r : Record} → wordAt s 2 ≡ n → jumpOf n (byteAt s 4) ≡ some r → rec ≡ r
-  a-jump n k f = jump-by rec _ (sym e ∙ ap (λ k. jumpOf k (byteAt s 4)) k ∙ f)
+  pub a-jump : (n : ℕ) {r : Record} → wordAt s 2 ≡ n → jumpOf n s ≡ some r → rec ≡ r
+  a-jump n k f = jump-by rec _ (sym e ∙ ap (λ k. jumpOf k s) k ∙ f)
 
-  -- a jump of the third kind
-  pub a-call : isJump rec ≡ true → (wordAt s 2 ≡ 14 → ⊥) → (wordAt s 2 ≡ 15 → ⊥) → rec ≡ Record.Call (byteAt s 4)
-  a-call j x y =
+  pub a-branch-if : {l : ℕ} → wordAt s 2 ≡ 17 → l ≡ byteAt s 5 → rec ≡ Record.BranchIf (byteAt s 4) l (eqb (byteAt s 6) 1)
+  a-branch-if k f = a-jump 17 k (ap (λ l. some (Record.BranchIf (byteAt s 4) l (eqb (byteAt s 6) 1))) (sym f))
+
+  -- a jump of no other kind
+  pub a-call : isJump rec ≡ true → (wordAt s 2 ≡ 14 → ⊥) → (wordAt s 2 ≡ 15 → ⊥) → (wordAt s 2 ≡ 17 → ⊥) → rec ≡ Record.Call (byteAt s 4)
+  a-call j x y z =
       go (eqb (wordAt s 2) 16)
-      (sym (jump-rest (eqb (wordAt s 2) 14) (eqb (wordAt s 2) 15) (ne-eqb _ _ x) (ne-eqb _ _ y)) ∙ e)
+      (sym (simp (ne-eqb _ _ x, ne-eqb _ _ y, ne-eqb _ _ z)) ∙ e)
     where
-      jump-rest : {o : Option Record} (a b : Bool) → a ≡ false → b ≡ false
-          → cond a (some (Record.Label (byteAt s 4))) (cond b (some (Record.Branch (byteAt s 4))) o) ≡ o
-      jump-rest a b f g = simp (f, g)
-
       go : (b : Bool) → cond b (some (Record.Call (byteAt s 4))) none ≡ jumpIn rec → rec ≡ Record.Call (byteAt s 4)
       go true f = jump-by rec _ (sym f)
       go false f = none-jumps rec _ j f
@@ -127,6 +129,7 @@ module _ (s : List ℕ) (rec : Record) (e : jumpSpelled s ≡ jumpIn rec) where
       go (Record.Label m) = refl
       go (Record.Branch m) = refl
       go (Record.Call m) = refl
+      go (Record.BranchIf c m x) = refl
 
   pub such-label : (l : ℕ) → such (isLabel l) (jumpSpelled s) ≡ isLabel l rec
   unfolding isLabel
@@ -137,30 +140,41 @@ module _ (s : List ℕ) (rec : Record) (e : jumpSpelled s ≡ jumpIn rec) where
   such-return = such-in isReturn (λ w. refl)
 
 -- what each kind spells
-pub label-of : (kind label l : ℕ) → such (isLabel l) (jumpOf kind label) ≡ cond (eqb kind 14) (eqb label l) false
+pub label-of : (kind : ℕ) (s : List ℕ) (l : ℕ) → such (isLabel l) (jumpOf kind s) ≡ cond (eqb kind 14) (eqb (byteAt s 4) l) false
 unfolding isLabel
-label-of kind label l = go (eqb kind 14) (eqb kind 15) (eqb kind 16)
+label-of kind s l = go (eqb kind 14) (eqb kind 15) (eqb kind 16) (eqb kind 17)
   where
-    go : (a b c : Bool)
-        → such (isLabel l) (cond a (some (Record.Label label)) (cond b (some (Record.Branch label)) (cond c (some (Record.Call label)) none)))
-        ≡ cond a (eqb label l) false
-    go true b c = refl
-    go false true c = refl
-    go false false true = refl
-    go false false false = refl
+    go : (a b c d : Bool)
+        → such (isLabel l)
+        (cond a (some (Record.Label (byteAt s 4)))
+        (cond b (some (Record.Branch (byteAt s 4)))
+        (cond c (some (Record.Call (byteAt s 4)))
+        (cond d (some (Record.BranchIf (byteAt s 4) (byteAt s 5) (eqb (byteAt s 6) 1))) none))))
+        ≡ cond a (eqb (byteAt s 4) l) false
+    go true b c d = refl
+    go false true c d = refl
+    go false false true d = refl
+    go false false false true = refl
+    go false false false false = refl
 
-pub return-at : (kind label : ℕ) → kind ≡ 15 → such isReturn (jumpOf kind label) ≡ eqb label 0
+pub return-at : (s : List ℕ) → wordAt s 2 ≡ 15 → such isReturn (jumpSpelled s) ≡ eqb (byteAt s 4) 0
 unfolding isReturn
-return-at kind label e = ap (λ k. such isReturn (jumpOf k label)) e
+return-at s e = ap (λ k. such isReturn (jumpOf k s)) e
 
-pub return-of : (kind label : ℕ) → (kind ≡ 15 → ⊥) → such isReturn (jumpOf kind label) ≡ false
+pub return-of : (s : List ℕ) → (wordAt s 2 ≡ 15 → ⊥) → such isReturn (jumpSpelled s) ≡ false
 unfolding isReturn
-return-of kind label n = go (eqb kind 14) (eqb kind 15) (eqb kind 16) (λ e. n (eqb-true kind 15 e))
+return-of s n =
+    go (eqb (wordAt s 2) 14) (eqb (wordAt s 2) 15) (eqb (wordAt s 2) 16) (eqb (wordAt s 2) 17) (λ e. n (eqb-true (wordAt s 2) 15 e))
   where
-    go : (a b c : Bool) → (b ≡ true → ⊥)
-        → such isReturn (cond a (some (Record.Label label)) (cond b (some (Record.Branch label)) (cond c (some (Record.Call label)) none)))
+    go : (a b c d : Bool) → (b ≡ true → ⊥)
+        → such isReturn
+        (cond a (some (Record.Label (byteAt s 4)))
+        (cond b (some (Record.Branch (byteAt s 4)))
+        (cond c (some (Record.Call (byteAt s 4)))
+        (cond d (some (Record.BranchIf (byteAt s 4) (byteAt s 5) (eqb (byteAt s 6) 1))) none))))
         ≡ false
-    go true b c n = refl
-    go false true c n = absurd (n refl)
-    go false false true n = refl
-    go false false false n = refl
+    go true b c d n = refl
+    go false true c d n = absurd (n refl)
+    go false false true d n = refl
+    go false false false true n = refl
+    go false false false false n = refl

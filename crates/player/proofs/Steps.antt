@@ -13,7 +13,8 @@ use Rattle.mir.specs.Read.{Read}
 use Rattle.mir.proofs.Decoding.{items, Here, Done}
 use Rattle.records.specs.Record.{recordFrom}
 use Rattle.records.proofs.Reading.{here-read}
-use Rattle.player_machine.specs.Machine.{Store, exec, execs, works, isLabel, seek, going, End, ticks, play}
+use Rattle.player_machine.specs.Machine.{Store, exec, execs, works, isLabel, seek, branches, going, seeking, End, ticks, play}
+use Rattle.player_machine.specs.Machine as Machine
 use Rattle.player_machine.specs.Jumps.{isJump}
 use Rattle.player_machine.proofs.Seeking.{seek-play}
 use Rattle.player.specs.declared.run.Progress.{Progress}
@@ -59,6 +60,7 @@ works-stopped (Record.Work w) rs e = no (sym e)
 works-stopped (Record.Label l) rs e = refl
 works-stopped (Record.Branch l) rs e = refl
 works-stopped (Record.Call l) rs e = refl
+works-stopped (Record.BranchIf c l x) rs e = refl
 
 -- a record that jumps is no working record
 pub works-jump : {count : ℕ} {s : List ℕ} {at : ℕ} → Jumps count s at → works (left count s at) ≡ []
@@ -94,10 +96,40 @@ module _ {constants s : List ℕ} {body at : ℕ} (z : fault (length constants) 
         small = omega arith;
       }
 
+  -- what goes on behind the record at hand
+  passes-on : {next : ℕ} {r : Record} {σ : Store} → Here (recordFrom (length constants)) s at r next
+      → from constants s body (r ∷ left (length constants) s next) σ ≡ ticks 1 (onFrom constants s body next σ)
+      → RecordPlayed constants s body at σ σ (record { done = false; at = next; played = 1 })
+  passes-on {next} {r} {σ} e f =
+      record {
+        same = ap (λ l. from constants s body l σ) (e .same) ∙ f;
+        on = λ x. e .on;
+        sound = λ x. sym (e .sound) ∙ z;
+        small = omega arith;
+      }
+
+  -- what goes on at the Label that is found behind it
+  leads-to : {next l to : ℕ} {r : Record} {σ : Store} → Here (recordFrom (length constants)) s at r next → AtLabel s next l to
+      → from constants s body (r ∷ left (length constants) s next) σ
+      ≡ ticks 1 (play constants (blockAt constants s body) (seeking l) (left (length constants) s next) σ)
+      → RecordPlayed constants s body at σ σ (record { done = false; at = to; played = 1 })
+  leads-to {next} {l} {to} {r} {σ} e w f =
+      let h = w .on in
+      let g = e .on in
+      record {
+        same = ap (λ l. from constants s body l σ) (e .same)
+            ∙ f
+            ∙ ap (ticks 1) (seek-play constants (blockAt constants s body) l (left (length constants) s next) σ)
+            ∙ ap (λ l. ticks 1 (from constants s body l σ)) (sym (w .same (length constants) (sym (e .sound) ∙ z)));
+        on = λ x. omega (arith, g, h);
+        sound = λ x. w .sound (length constants) (sym (e .sound) ∙ z);
+        small = omega arith;
+      }
+
   pub play-label : {next l : ℕ} {σ : Store} → Here (recordFrom (length constants)) s at (Record.Label l) next
       → RecordPlayed constants s body at σ σ (record { done = false; at = next; played = 1 })
   unfolding play
-  play-label {next} {l} {σ} e = record { same = ap (λ l. from constants s body l σ) (e .same); on = λ x. e .on; sound = λ x. sym (e .sound) ∙ z; small = omega arith }
+  play-label e = passes-on e refl
 
   pub play-end : {next l : ℕ} {σ : Store} → Here (recordFrom (length constants)) s at (Record.Branch l) next → l ≡ 0
       → RecordPlayed constants s body at σ σ (record { done = true; at = next; played = 1 })
@@ -108,17 +140,18 @@ module _ {constants s : List ℕ} {body at : ℕ} (z : fault (length constants) 
   pub play-branch : {next l to : ℕ} {σ : Store} → Here (recordFrom (length constants)) s at (Record.Branch l) next → (l ≡ 0 → ⊥)
       → AtLabel s next l to → RecordPlayed constants s body at σ σ (record { done = false; at = to; played = 1 })
   unfolding play
-  play-branch {next} {l} {to} {σ} e n w =
-      let h = w .on in
-      let g = e .on in
-      record {
-        same = ap (λ l. from constants s body l σ) (e .same)
-            ∙ simp (ne-eqb _ _ n)
-            (ap (ticks 1) (seek-play constants (blockAt constants s body) l (left (length constants) s next) σ ∙ ap (λ l. from constants s body l σ) (sym (w .same (length constants) (sym (e .sound) ∙ z)))));
-        on = λ x. omega (arith, g, h);
-        sound = λ x. w .sound (length constants) (sym (e .sound) ∙ z);
-        small = omega arith;
-      }
+  play-branch e n w = leads-to e w (simp (ne-eqb _ _ n))
+
+  pub play-taken : {next c l to : ℕ} {x : Bool} {σ : Store} → Here (recordFrom (length constants)) s at (Record.BranchIf c l x) next
+      → branches x (Machine.at σ c) ≡ true → AtLabel s next l to
+      → RecordPlayed constants s body at σ σ (record { done = false; at = to; played = 1 })
+  unfolding play
+  play-taken e b w = leads-to e w (simp b)
+
+  pub play-untaken : {next c l : ℕ} {x : Bool} {σ : Store} → Here (recordFrom (length constants)) s at (Record.BranchIf c l x) next
+      → branches x (Machine.at σ c) ≡ false → RecordPlayed constants s body at σ σ (record { done = false; at = next; played = 1 })
+  unfolding play
+  play-untaken e b = passes-on e (simp b)
 
   pub play-call : {next l k : ℕ} {σ τ : Store} → Here (recordFrom (length constants)) s at (Record.Call l) next
       → BlockPlayed constants s body σ τ k → RecordPlayed constants s body at σ τ (record { done = false; at = next; played = 2 + k })
@@ -141,6 +174,11 @@ module _ {constants s : List ℕ} {body at : ℕ} (z : fault (length constants) 
 pub play-from : {constants s : List ℕ} {body at : ℕ} {σ τ υ : Store} {p : Progress} → τ ≡ σ → RecordPlayed constants s body at τ υ p
     → RecordPlayed constants s body at σ υ p
 play-from {constants} {s} {body} {at} {σ} {τ} {υ} {p} e w = subst (λ u. RecordPlayed constants s body at u υ p) e w
+
+-- the progress that the code returns
+pub play-as : {constants s : List ℕ} {body at : ℕ} {σ τ : Store} {p q : Progress} → p ≡ q → RecordPlayed constants s body at σ τ q
+    → RecordPlayed constants s body at σ τ p
+play-as {constants} {s} {body} {at} {σ} {τ} e w = subst (λ p. RecordPlayed constants s body at σ τ p) (sym e) w
 
 -- the whole run: what is left to do from here is the whole answer
 pub run-start : (e : End) → ticks 0 e ≡ e

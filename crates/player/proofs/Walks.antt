@@ -103,6 +103,7 @@ no-breach-from before (Record.Work w ∷ rs) e = ap suc (no-breach-from (Record.
 no-breach-from before (Record.Label l ∷ rs) e = absurd (omega arith)
 no-breach-from before (Record.Branch l ∷ rs) e = absurd (omega arith)
 no-breach-from before (Record.Call l ∷ rs) e = absurd (omega arith)
+no-breach-from before (Record.BranchIf c l x ∷ rs) e = absurd (omega arith)
 
 pub no-breach : (rs : List Record) → tally isJump rs ≡ 0 → breach rs ≡ length rs
 unfolding breach

@@ -1,5 +1,5 @@
--- The jump that bytes spell (document 01, Sheet). Every record of a listing is tested by the first pass; what follows reads the length, the
--- kind and the label alone, and tests nothing again.
+-- The jump that bytes spell (document 01, Sheet; document 02, d). Every record of a listing is tested by the first pass; what follows reads
+-- the length, the kind and the fields alone, and tests nothing again.
 use Prim.Native.Nat.{ℕ}
 use mathlib.Core.Bool.{Bool, false, cond}
 use mathlib.Core.List.{List}
@@ -8,16 +8,17 @@ use lib.Dec.{eqb}
 use Rattle.mir.specs.declared.records.Record.{Record}
 use Rattle.mir.specs.Field.{byteAt, wordAt}
 
--- 14 Label, 15 Branch, 16 Call: label; any other kind spells no jump
-abbrev pub jumpOf : ℕ → ℕ → Option Record
-jumpOf kind label =
-    cond (eqb kind 14) (some (Record.Label label))
-    (cond (eqb kind 15) (some (Record.Branch label))
-    (cond (eqb kind 16) (some (Record.Call label))
-    none))
+-- 14 Label, 15 Branch, 16 Call: label; 17 BranchIf: condition register, label, is_else; any other kind spells no jump
+abbrev pub jumpOf : ℕ → List ℕ → Option Record
+jumpOf kind s =
+    cond (eqb kind 14) (some (Record.Label (byteAt s 4)))
+    (cond (eqb kind 15) (some (Record.Branch (byteAt s 4)))
+    (cond (eqb kind 16) (some (Record.Call (byteAt s 4)))
+    (cond (eqb kind 17) (some (Record.BranchIf (byteAt s 4) (byteAt s 5) (eqb (byteAt s 6) 1)))
+    none)))
 
 abbrev pub jumpSpelled : List ℕ → Option Record
-jumpSpelled s = jumpOf (wordAt s 2) (byteAt s 4)
+jumpSpelled s = jumpOf (wordAt s 2) s
 
 -- the jump of a record that was read
 abbrev pub jumpIn : Record → Option Record
@@ -25,6 +26,7 @@ jumpIn (Record.Work w) = none
 jumpIn (Record.Label l) = some (Record.Label l)
 jumpIn (Record.Branch l) = some (Record.Branch l)
 jumpIn (Record.Call l) = some (Record.Call l)
+jumpIn (Record.BranchIf c l e) = some (Record.BranchIf c l e)
 
 -- is there such a jump?
 abbrev pub such : (Record → Bool) → Option Record → Bool

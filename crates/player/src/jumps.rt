@@ -61,9 +61,9 @@ fn label_breaks(l: u8, stood: bool, inside: bool, end: bool) -> bool
     if l == 1 { !end } else { false }
 }
 
-// Does a Branch? `later`: a Label of its number stands behind it.
-fn branch_breaks(l: u8, inside: bool, later: bool) -> bool
-    ensures { λ r. ⌜ r ≡ (ltb 1 l && not later || (eqb l 1 || (not (eqb l 0) && inside))) ⌝ }
+// Does a Branch? `stood`: a Label of its number stands before it; `later`: one stands behind it.
+fn branch_breaks(l: u8, stood: bool, inside: bool, later: bool) -> bool
+    ensures { λ r. ⌜ r ≡ (ltb 1 l && not later || (ltb 2 l && stood || (eqb l 1 || (not (eqb l 0) && inside)))) ⌝ }
 {
     if l == 0 {
         return false;
@@ -71,7 +71,27 @@ fn branch_breaks(l: u8, inside: bool, later: bool) -> bool
     if l == 1 {
         return true;
     }
-    if inside { true } else { !later }
+    if inside {
+        return true;
+    }
+    if later {
+        if l == 2 { false } else { stood }
+    } else {
+        true
+    }
+}
+
+// Does a BranchIf?
+fn branch_if_breaks(l: u8, stood: bool, inside: bool, later: bool) -> bool
+    ensures { λ r. ⌜ r ≡ (ltb 1 l && not later || (ltb 2 l && stood || (ltb l 3 || inside))) ⌝ }
+{
+    if l < 3 {
+        return true;
+    }
+    if inside {
+        return true;
+    }
+    if stood { true } else { !later }
 }
 
 // Does a Call? `one`: a Label 1 stands anywhere.
@@ -103,10 +123,15 @@ fn breaks_rule(
         return label_breaks(label, 0 < stood[l], inside, returned < returns);
     }
     if kind == 15 {
-        return branch_breaks(label, inside, stood[l] < all[l]);
+        return branch_breaks(label, 0 < stood[l], inside, stood[l] < all[l]);
     }
     if kind == 16 {
         return call_breaks(label, inside, 0 < all[1]);
+    }
+    if kind == 17 {
+        let to = byte(s, 5);
+        let t = to as usize;
+        return branch_if_breaks(to, 0 < stood[t], inside, stood[t] < all[t]);
     }
     false
 }

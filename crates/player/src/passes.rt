@@ -1,5 +1,5 @@
-// Walks over the records of a listing, by position. The position of a record stands for the records from it on. The first pass examines each
-// record; the others read the length, the kind and the label of records that were examined.
+// Walks over the records of a listing, by position. The position of a record stands for the records from it on. The first pass examines
+// each record; the others read the length, the kind and the fields of records that were examined.
 ghost use mathlib.Core.Path.{_≡_};
 ghost use Rattle.player_machine.specs.Machine.{isLabel};
 ghost use Rattle.player_machine.specs.Jumps.{bit, isReturn};
@@ -76,7 +76,7 @@ pub(crate) fn skip(listing: &[u8], from: usize, k: usize) -> usize
     at
 }
 
-// A Label, a Branch or a Call, by its sight.
+// A Label, a Branch, a Call or a BranchIf, by its sight.
 fn jump_seen(q: Sight) -> bool
     ensures { λ r. ⌜ r ≡ jumpSeen q ⌝ }
 {

@@ -1,12 +1,16 @@
 // The play, by positions. It goes forward only; a Call plays the whole block.
 ghost use mathlib.Core.Path.{_≡_};
 ghost use Prim.Native.Nat.{_≤_, _<_};
+ghost use lib.Dec.{eqb};
 ghost use lib.ListN.{length};
+ghost use Rattle.mir.specs.Field.{byteAt};
+ghost use Rattle.player_machine.specs.Machine.{at, branches};
 ghost use Rattle.player.specs.Positions.{fault, Jumps, BlockPlayed, RecordPlayed, Played};
 use super::passes::find;
 use mir::fields::byte;
 use mir::fields::word;
 use player_work::exec;
+use player_work::words::get_register;
 
 // Where a play stands after a record: whether it ended, the position of the next record, and how many records were reached.
 pub struct Progress {
@@ -36,7 +40,25 @@ fn run_block(listing: &[u8], constants: &[u64], body: usize, store: &mut [u64]) 
     n
 }
 
-// Plays a record that is no working record, with the whole block where it is a Call.
+fn reached(done: bool, at: usize, played: usize) -> Progress
+    ensures { λ r. ⌜ r ≡ record { done = done; at = at; played = played } ⌝ }
+{
+    Progress {
+        done: done,
+        at: at,
+        played: played,
+    }
+}
+
+// Whether the BranchIf that bytes begin with branches: the condition word against zero, by `is_else`.
+fn branches_on(store: &[u64], s: &[u8]) -> bool
+    ensures { λ r. ⌜ r ≡ branches (eqb (byteAt (now (s .entry)) 6) 1) (at (now (store .entry)) (byteAt (now (s .entry)) 4)) ⌝ }
+{
+    let w = get_register(store, byte(s, 4));
+    if byte(s, 6) == 1 { w == 0 } else { w != 0 }
+}
+
+// Plays a record that is no working record, with the whole block where it is a Call. A branch seeks its Label behind it.
 fn run_jump(
     listing: &[u8],
     constants: &[u64],
@@ -57,33 +79,22 @@ fn run_jump(
     let n = word(s, 0);
     let next = at + n as usize;
     if kind == 14 {
-        return Progress {
-            done: false,
-            at: next,
-            played: 1,
-        };
+        return reached(false, next, 1);
     }
     if kind == 15 {
         if label == 0 {
-            return Progress {
-                done: true,
-                at: next,
-                played: 1,
-            };
+            return reached(true, next, 1);
         }
-        let to = find(listing, next, label);
-        return Progress {
-            done: false,
-            at: to,
-            played: 1,
-        };
+        return reached(false, find(listing, next, label), 1);
+    }
+    if kind == 17 {
+        if branches_on(store, s) {
+            return reached(false, find(listing, next, byte(s, 5)), 1);
+        }
+        return reached(false, next, 1);
     }
     let k = run_block(listing, constants, body, store);
-    Progress {
-        done: false,
-        at: next,
-        played: 2 + k,
-    }
+    reached(false, next, 2 + k)
 }
 
 // Plays one record outside a call, with the whole block where it is a Call.

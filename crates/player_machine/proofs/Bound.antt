@@ -10,7 +10,7 @@ use lib.Dec.{ltb, eqb}
 use Rattle.mir.specs.declared.records.Work.{Work}
 use Rattle.mir.specs.declared.records.Record.{Record}
 use Rattle.records.specs.Record.{records}
-use Rattle.player_machine.specs.Machine.{Store, exec, execs, block, Way, going, seeking, End, ticks, play}
+use Rattle.player_machine.specs.Machine.{Store, at, exec, execs, block, branches, Way, going, seeking, End, ticks, play}
 use Rattle.player_machine.specs.Jumps.{bit, tally, breach}
 use Rattle.player_machine.specs.Count.{isCall, blockRecords, most, Bounds}
 use Rattle.player_machine.specs.Answer.{Answer, refuse, accept, answer}
@@ -34,6 +34,12 @@ module _ (constants : List ℕ) (b : List Work) where
       let h = bound going rs (execs constants b σ) in
       let e = once (tally isCall rs) (blockRecords b) in
       omega (arith, h, e)
+  bound going (Record.BranchIf c l e ∷ rs) σ =
+      let h = bound (seeking l) rs σ in
+      let k = bound going rs σ in
+      let n = length rs + tally isCall rs * blockRecords b in
+      let m = either (branches e (at σ c)) (play constants b (seeking l) rs σ) (play constants b going rs σ) n h k in
+      omega (arith, m)
   bound (seeking l) [] σ = omega arith
   bound (seeking l) (Record.Work a ∷ rs) σ = let h = bound (seeking l) rs σ in omega (arith, h)
   bound (seeking l) (Record.Label m ∷ rs) σ =
@@ -44,6 +50,7 @@ module _ (constants : List ℕ) (b : List Work) where
   bound (seeking l) (Record.Call m ∷ rs) σ = let h = bound (seeking l) rs σ in
       let e = once (tally isCall rs) (blockRecords b) in
       omega (arith, h, e)
+  bound (seeking l) (Record.BranchIf c m e ∷ rs) σ = let h = bound (seeking l) rs σ in omega (arith, h)
 
   -- for a play that starts at any record
   pub bound-drop : (n : ℕ) (rs : List Record) (σ : Store)

@@ -2,7 +2,7 @@
 use Prim.Native.Nat.{ℕ, zero, suc, _+_, _<_}
 use native.Mathlib.Omega.{arith}
 use mathlib.Core.Path.{_≡_, refl, sym, ap, _∙_, subst}
-use mathlib.Core.Bool.{Bool, true, false, not, _&&_, _||_}
+use mathlib.Core.Bool.{Bool, true, false, not, _||_}
 use mathlib.Core.List.{List, [], _∷_}
 use lib.ListN.{length, drop}
 use lib.Dec.{ltb, eqb}
@@ -10,7 +10,7 @@ use borrow.Author.Tests.{eqb-true, ltb-true, not-false}
 use Rattle.mir.specs.declared.records.Work.{Work}
 use Rattle.mir.specs.declared.records.Record.{Record}
 use Rattle.player_machine.specs.Machine.{works, isLabel, seek, block}
-use Rattle.player_machine.specs.Jumps.{isReturn, bit, tally, has, inBlock, breaks, breachFrom}
+use Rattle.player_machine.specs.Jumps.{isReturn, bit, tally, inBlock, twiceOrZero, noLabelLater, labelBefore, barred, jumpInBlock, noLabelToCall, blockWithoutReturn, breaks, breachFrom}
 
 -- tests that do not hold
 first-off : (a b : Bool) → (a || b) ≡ false → a ≡ false
@@ -24,6 +24,27 @@ second-off false b e = e
 never : {X : Type 0} {b : Bool} → b ≡ true → b ≡ false → X
 never t f = let z : _≡_ {A = ℕ} 0 1 = cc in absurd (omega arith)
 
+-- what a record that breaks no rule keeps
+record Obeys (before : List Record) (r : Record) (rs : List Record) : Type 0 where
+  pub allowed : barred before r rs ≡ false
+  pub outside : jumpInBlock before r rs ≡ false
+  pub called : noLabelToCall before r rs ≡ false
+  pub closed : blockWithoutReturn before r rs ≡ false
+
+obeys : (before : List Record) (r : Record) (rs : List Record) → breaks before r rs ≡ false → Obeys before r rs
+unfolding breaks
+obeys before r rs e =
+    let a = second-off (twiceOrZero before r rs) _ e in
+    let b = second-off (labelBefore before r rs) _ (second-off (noLabelLater before r rs) _ a) in
+    let c = second-off (barred before r rs) _ b in
+    let d = second-off (jumpInBlock before r rs) _ c in
+    record {
+      allowed = first-off (barred before r rs) _ b;
+      outside = first-off (jumpInBlock before r rs) _ c;
+      called = first-off (noLabelToCall before r rs) _ d;
+      closed = first-off (blockWithoutReturn before r rs) _ (second-off (noLabelToCall before r rs) _ d);
+    }
+
 -- the rules are kept from some record on, with the records that stand before it; n Labels 1 stand in the listing
 pub record Kept (n : ℕ) (rs : List Record) : Type 0 where
   pub before : List Record
@@ -31,7 +52,7 @@ pub record Kept (n : ℕ) (rs : List Record) : Type 0 where
   pub ones : tally (isLabel 1) before + tally (isLabel 1) rs ≡ n
 
 record First (before : List Record) (r : Record) (rs : List Record) : Type 0 where
-  pub test : breaks before r rs ≡ false
+  pub test : Obeys before r rs
   pub rest : breachFrom (r ∷ before) rs ≡ length rs
 
 first-by : (before : List Record) (r : Record) (rs : List Record) (b : Bool)
@@ -42,7 +63,7 @@ first-by before r rs true t e =
     absurd (omega (arith, z))
 first-by before r rs false t e =
     let z : suc (breachFrom (r ∷ before) rs) ≡ suc (length rs) = sym (simp t) ∙ e in
-    record { test = t; rest = omega (arith, z) }
+    record { test = obeys before r rs t; rest = omega (arith, z) }
 
 first : (before : List Record) (r : Record) (rs : List Record) → breachFrom before (r ∷ rs) ≡ suc (length rs) → First before r rs
 first before r rs e = first-by before r rs _ refl e
@@ -80,14 +101,13 @@ somewhere zero (suc b) n e h = omega (arith, e)
 somewhere (suc a) b n e h = omega (arith, e)
 
 pub kept-call : {n l : ℕ} {rs : List Record} → Kept n (Record.Call l ∷ rs) → Callable n l
-unfolding breaks tally isLabel
+unfolding barred noLabelToCall tally isLabel
 kept-call {n} {l} {rs} k =
     let t = first (k .before) (Record.Call l) rs (k .none) .test in
-    let u = second-off (inBlock (k .before)) _ (second-off (not (eqb l 1)) _ t) in
     let e = k .ones in
     record {
-      some = somewhere (tally (isLabel 1) (k .before)) (tally (isLabel 1) rs) n (omega (arith, e)) (first-off _ _ u);
-      label = eqb-true l 1 (not-false (eqb l 1) (first-off (not (eqb l 1)) _ t));
+      some = somewhere (tally (isLabel 1) (k .before)) (tally (isLabel 1) rs) n (omega (arith, e)) (t .called);
+      label = eqb-true l 1 (not-false (eqb l 1) (t .allowed));
     }
 
 -- working records, and what stands behind them
@@ -101,26 +121,22 @@ record Ends (rs : List Record) : Type 0 where
   pub same : rs ≡ worked (works rs) (Record.Branch 0 ∷ rest)
 
 ends-branch : (before : List Record) (l : ℕ) (rs : List Record) (x : Bool) → eqb l 0 ≡ x → inBlock before ≡ true
-    → breaks before (Record.Branch l) rs ≡ false → Ends (Record.Branch l ∷ rs)
-unfolding works breaks
+    → jumpInBlock before (Record.Branch l) rs ≡ false → Ends (Record.Branch l ∷ rs)
+unfolding works jumpInBlock isReturn
 ends-branch before l rs true e i t = record { rest = rs; same = ap (λ m. Record.Branch m ∷ rs) (eqb-true l 0 e) }
-ends-branch before l rs false e i t =
-    let u : (not (eqb l 0) && inBlock before || false) ≡ false =
-    second-off (eqb l 1 || false) _ (second-off (ltb 1 l && not (has (isLabel l) rs)) _ t) in
-    never i (first-off _ _ (simp e at u))
+ends-branch before l rs false e i t = never i (simp e at t)
 
 ends : (before rs : List Record) → inBlock before ≡ true → breachFrom before rs ≡ length rs → 0 < tally isReturn rs → Ends rs
-unfolding works tally isReturn isLabel breaks inBlock
+unfolding works tally isReturn isLabel jumpInBlock inBlock
 ends before [] i e h = absurd (omega (arith, h))
 ends before (Record.Work w ∷ rs) i e h =
     let t = first before (Record.Work w) rs e in
     let r = ends (Record.Work w ∷ before) rs i (t .rest) (omega (arith, h)) in
     record { rest = r .rest; same = ap (λ l. Record.Work w ∷ l) (r .same) }
-ends before (Record.Label l ∷ rs) i e h =
-    never i (first-off (inBlock before) _ (second-off (eqb l 0 || has (isLabel l) before) _ (first before (Record.Label l) rs e .test)))
-ends before (Record.Branch l ∷ rs) i e h = ends-branch before l rs _ refl i (first before (Record.Branch l) rs e .test)
-ends before (Record.Call l ∷ rs) i e h =
-    never i (first-off (inBlock before) _ (second-off (not (eqb l 1)) _ (first before (Record.Call l) rs e .test)))
+ends before (Record.Label l ∷ rs) i e h = never i (first before (Record.Label l) rs e .test .outside)
+ends before (Record.Branch l ∷ rs) i e h = ends-branch before l rs _ refl i (first before (Record.Branch l) rs e .test .outside)
+ends before (Record.Call l ∷ rs) i e h = never i (first before (Record.Call l) rs e .test .outside)
+ends before (Record.BranchIf c l x ∷ rs) i e h = never i (first before (Record.BranchIf c l x) rs e .test .outside)
 
 -- the block stands behind the first Label 1, and Branch 0 behind it
 pub record Shaped (rs : List Record) : Type 0 where
@@ -132,10 +148,10 @@ returns-there n e = ltb-true 0 n (not-false _ e)
 
 shaped-one : (before rs : List Record) → breachFrom before (Record.Label 1 ∷ rs) ≡ suc (length rs)
     → Shaped (Record.Label 1 ∷ rs)
-unfolding seek isLabel block breaks inBlock
+unfolding seek isLabel block blockWithoutReturn inBlock
 shaped-one before rs e =
     let t = first before (Record.Label 1) rs e in
-    let h = returns-there _ (first-off _ _ (second-off (inBlock before) _ (second-off (has (isLabel 1) before) _ (t .test)))) in
+    let h = returns-there _ (t .test .closed) in
     let r = ends (Record.Label 1 ∷ before) rs refl (t .rest) h in
     record { rest = r .rest; same = ap (λ l. Record.Label 1 ∷ l) (r .same) }
 
@@ -170,3 +186,6 @@ shaped before (Record.Branch l ∷ rs) e h =
 shaped before (Record.Call l ∷ rs) e h =
     shaped-on (Record.Call l) rs refl
     (shaped _ rs (first before (Record.Call l) rs e .rest) (tally-on (isLabel 1) (Record.Call l) rs refl h))
+shaped before (Record.BranchIf c l x ∷ rs) e h =
+    shaped-on (Record.BranchIf c l x) rs refl
+    (shaped _ rs (first before (Record.BranchIf c l x) rs e .rest) (tally-on (isLabel 1) (Record.BranchIf c l x) rs refl h))

@@ -23,3 +23,4 @@ module _ (constants : List ℕ) (b : List Work) (l : ℕ) where
   seek-play (Record.Label m ∷ rs) σ = seek-at m rs σ (eqb m l) refl (seek-play rs σ)
   seek-play (Record.Branch m ∷ rs) σ = seek-play rs σ
   seek-play (Record.Call m ∷ rs) σ = seek-play rs σ
+  seek-play (Record.BranchIf c m e ∷ rs) σ = seek-play rs σ

@@ -11,7 +11,7 @@ use lib.Seq.{drop-drop}
 use lib.Dec.{eqb}
 use Rattle.mir.specs.declared.records.Work.{Work}
 use Rattle.mir.specs.declared.records.Record.{Record}
-use Rattle.player_machine.specs.Machine.{Store, put, exec, execs, isLabel, seek, block, End, ticks, going, seeking, play}
+use Rattle.player_machine.specs.Machine.{Store, at, put, exec, execs, isLabel, seek, block, branches, End, ticks, going, seeking, play}
 use Rattle.player_machine.specs.Jumps.{tally, breach}
 use Rattle.player_machine.specs.Count.{most}
 use Rattle.player_machine.specs.Step.{PlayState, before, labelFrom, then, end, follows, written, step, after, reached, steps, PlaysBySteps}
@@ -74,7 +74,7 @@ module _ (constants : List ℕ) (rs : List Record) where
 
   stands : (n i : ℕ) (back : Option ℕ) (σ : Store) {r : Record} {rest : List Record} → drop i rs ≡ r ∷ rest
       → from (suc n) i back σ
-      ≡ after (λ t. steps constants rs n t) (put (written constants σ r) σ) (follows rs i back r)
+      ≡ after (λ t. steps constants rs n t) (put (written constants σ r) σ) (follows rs (record { at = i; back = back; store = σ }) r)
   unfolding steps step
   stands n i back σ e =
       ap (reached constants rs (λ t. steps constants rs n t) (record { at = i; back = back; store = σ })) (at-head rs i ∙ ap head? e)
@@ -112,22 +112,47 @@ module _ (constants : List ℕ) (rs : List Record) where
   abbrev left : List Record → Store → End
   left rest σ = play constants (block rs) going rest σ
 
+  -- a record reached, with what it leaves and what follows it outside a call
+  one : (i x j : ℕ) {r : Record} {rest : List Record} (σ τ : Store) (u : End) → drop i rs ≡ r ∷ rest
+      → put (written constants σ r) σ ≡ τ → follows rs (record { at = i; back = none; store = σ }) r ≡ then j none
+      → from (x + u .played) j none τ ≡ u → from (x + ticks 1 u .played) i none σ ≡ ticks 1 u
+  unfolding ticks
+  one i x j {r} σ τ u e w f h =
+      let q : x + (1 + u .played) ≡ suc (x + u .played) = omega arith in
+      ap (λ n. from n i none σ) q
+      ∙ stands (x + u .played) i none σ e
+      ∙ ap (after (λ t. steps constants rs (x + u .played) t) (put (written constants σ r) σ)) f
+      ∙ ap (λ υ. ticks 1 (from (x + u .played) j none υ)) w
+      ∙ ap (ticks 1) h
+
+  -- a Label that is sought behind an index
+  sought : (i x l : ℕ) (rest : List Record) (σ : Store)
+      → from (x + left (seek l rest) σ .played) (labelFrom rs (suc i) l) none σ ≡ left (seek l rest) σ
+      → from (x + play constants (block rs) (seeking l) rest σ .played) (labelFrom rs (suc i) l) none σ
+      ≡ play constants (block rs) (seeking l) rest σ
+  sought i x l rest σ h =
+      let p = seek-play constants (block rs) l rest σ in
+      ap (λ (u : End). from (x + u .played) (labelFrom rs (suc i) l) none σ) p ∙ h ∙ sym p
+
   same-branch : (i x l : ℕ) (rest : List Record) (σ : Store) (t : Bool) → eqb l 0 ≡ t → drop i rs ≡ Record.Branch l ∷ rest
       → from (x + left (seek l rest) σ .played) (labelFrom rs (suc i) l) none σ ≡ left (seek l rest) σ
       → from (x + left (Record.Branch l ∷ rest) σ .played) i none σ ≡ left (Record.Branch l ∷ rest) σ
-  unfolding play written follows put ticks
+  unfolding play written follows put
   same-branch i x l rest σ true t e h =
       let q : x + 1 ≡ suc x = omega arith in
       simp t (ap (λ n. from n i none σ) q ∙ stands x i none σ e ∙ simp t)
   same-branch i x l rest σ false t e h =
-      let p = seek-play constants (block rs) l rest σ in
-      let q : x + (1 + left (seek l rest) σ .played) ≡ suc (x + left (seek l rest) σ .played) = omega arith in
-      simp t
-      (ap (λ (u : End). from (x + (1 + u .played)) i none σ) p
-      ∙ ap (λ n. from n i none σ) q
-      ∙ stands (x + left (seek l rest) σ .played) i none σ e
-      ∙ simp t (ap (ticks 1) h)
-      ∙ ap (ticks 1) (sym p))
+      simp t (one i x (labelFrom rs (suc i) l) σ σ (play constants (block rs) (seeking l) rest σ) e refl (simp t) (sought i x l rest σ h))
+
+  same-branch-if : (i x c l : ℕ) (b : Bool) (rest : List Record) (σ : Store) (t : Bool) → branches b (at σ c) ≡ t
+      → drop i rs ≡ Record.BranchIf c l b ∷ rest
+      → from (x + left (seek l rest) σ .played) (labelFrom rs (suc i) l) none σ ≡ left (seek l rest) σ
+      → from (x + left rest σ .played) (suc i) none σ ≡ left rest σ
+      → from (x + left (Record.BranchIf c l b ∷ rest) σ .played) i none σ ≡ left (Record.BranchIf c l b ∷ rest) σ
+  unfolding play written follows put
+  same-branch-if i x c l b rest σ true t e h k =
+      simp t (one i x (labelFrom rs (suc i) l) σ σ (play constants (block rs) (seeking l) rest σ) e refl (simp t) (sought i x l rest σ h))
+  same-branch-if i x c l b rest σ false t e h k = simp t (one i x (suc i) σ σ (left rest σ) e refl (simp t) k)
 
   seek-length : (l : ℕ) (rest : List Record) → length (seek l rest) ≤ length rest
   unfolding seek
@@ -146,17 +171,10 @@ module _ (constants : List ℕ) (rs : List Record) where
     same zero i x (r ∷ rest) σ h e k = absurd (omega (arith, h))
     same (suc g) i x [] σ h e k = stands-end _ i none σ e
     same (suc g) i x (Record.Work w ∷ rest) σ h e k =
-        let p = left rest (exec constants w σ) .played in
-        let q : x + (1 + p) ≡ suc (x + p) = omega arith in
-        ap (λ n. from n i none σ) q
-        ∙ stands (x + p) i none σ e
-        ∙ ap (ticks 1) (same g (suc i) x rest (exec constants w σ) (omega (arith, h)) (behind-it rs i e) (kept-tail k))
+        let τ = exec constants w σ in
+        one i x (suc i) σ τ (left rest τ) e refl refl (same g (suc i) x rest τ (omega (arith, h)) (behind-it rs i e) (kept-tail k))
     same (suc g) i x (Record.Label l ∷ rest) σ h e k =
-        let p = left rest σ .played in
-        let q : x + (1 + p) ≡ suc (x + p) = omega arith in
-        ap (λ n. from n i none σ) q
-        ∙ stands (x + p) i none σ e
-        ∙ ap (ticks 1) (same g (suc i) x rest σ (omega (arith, h)) (behind-it rs i e) (kept-tail k))
+        one i x (suc i) σ σ (left rest σ) e refl refl (same g (suc i) x rest σ (omega (arith, h)) (behind-it rs i e) (kept-tail k))
     same (suc g) i x (Record.Branch l ∷ rest) σ h e k =
         let m = seek-length l rest in
         same-branch i x l rest σ (eqb l 0) refl e
@@ -176,6 +194,12 @@ module _ (constants : List ℕ) (rs : List Record) where
         ∙ ticks-ticks 1 (2 + b) _
         ∙ ap (ticks (1 + (2 + b))) (same g (suc i) x rest τ (omega (arith, h)) (behind-it rs i e) (kept-tail k))
         ∙ ap (λ n. ticks n (left rest τ)) (omega arith)
+    same (suc g) i x (Record.BranchIf c l b ∷ rest) σ h e k =
+        let m = seek-length l rest in
+        same-branch-if i x c l b rest σ (branches b (at σ c)) refl e
+        (same g (labelFrom rs (suc i) l) x (seek l rest) σ (omega (arith, h, m))
+        (label-seek rs (suc i) l ∙ ap (seek l) (behind-it rs i e)) (kept-seek ones l rest (kept-tail k)))
+        (same g (suc i) x rest σ (omega (arith, h)) (behind-it rs i e) (kept-tail k))
 
 -- both renderings give the same play
 pub by-steps : PlaysBySteps most

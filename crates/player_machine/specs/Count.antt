@@ -16,6 +16,7 @@ isCall (Record.Work w) = false
 isCall (Record.Label l) = false
 isCall (Record.Branch l) = false
 isCall (Record.Call l) = true
+isCall (Record.BranchIf c l e) = false
 
 -- the records of a block: Label 1, the working records and Branch 0
 abbrev pub blockRecords : List Work → ℕ

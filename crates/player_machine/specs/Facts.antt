@@ -1,6 +1,7 @@
--- Short listings played, computed: what `answer` gives, and what document 01 says that it gives.
+-- Short listings played, computed: what `answer` gives, and what documents 01 and 02, d) say that it gives.
 use Prim.Native.Nat.{ℕ}
 use mathlib.Core.Path.{_≡_, refl}
+use mathlib.Core.Bool.{Bool, true, false}
 use mathlib.Core.List.{List, [], _∷_, _++_}
 use lib.ListN.{replicate}
 use lib.Ieee.{ofBits, toBits, add, sub, mul}
@@ -17,7 +18,7 @@ use Rattle.mir.specs.Operation.{uniOps, binOps, arithOps, fusedOps}
 use Rattle.mir.specs.Field.{wordAt, among, takesKind, headFrom, placeAt, savePlace, condPlace}
 use Rattle.mir.specs.Encode.{recordOf, encodeAll}
 use Rattle.mir.specs.Decode.{decodedFrom, decoded}
-use Rattle.records.specs.Record.{uniFrom, biFrom, movFrom, loadFrom, saveFrom, loadConstFrom, fusedFrom, ifElseFrom, loadComplexFrom, saveComplexFrom, complexBiFrom, labelFrom, branchFrom, callFrom, fieldsFrom, recordFrom}
+use Rattle.records.specs.Record.{uniFrom, biFrom, movFrom, loadFrom, saveFrom, loadConstFrom, fusedFrom, ifElseFrom, loadComplexFrom, saveComplexFrom, complexBiFrom, labelFrom, branchFrom, callFrom, branchIfFrom, fieldsFrom, recordFrom}
 use Rattle.player_machine.specs.Machine.{Store, at, uniWord, binWord, fusedWord, complexWords, writes, put, exec, execs, works, isLabel, seek, block, ticks, play}
 use Rattle.player_machine.specs.Jumps.{breach}
 use Rattle.player_machine.specs.Answer.{Answer, answer}
@@ -47,7 +48,7 @@ const dst idx = Record.Work (Work.LoadConst dst idx)
 abbrev neg : ℕ → ℕ → Record
 neg dst s1 = Record.Work (Work.Uni UniOp.Neg dst s1)
 
--- 1, 2, 3 and -3
+-- 1, 2, 3, -3 and -0
 abbrev one : ℕ
 one = 0x3ff0_0000_0000_0000
 
@@ -59,6 +60,9 @@ three = 0x4008_0000_0000_0000
 
 abbrev minusThree : ℕ
 minusThree = 0xc008_0000_0000_0000
+
+abbrev minusZero : ℕ
+minusZero = 0x8000_0000_0000_0000
 
 -- the root block, cut short: it negates G4; the play jumps over it
 abbrev called : List Record
@@ -73,6 +77,15 @@ called =
     ∷ Record.Call 1
     ∷ Record.Call 1
     ∷ []
+
+-- on the word of G4
+abbrev branchIf : ℕ → Record
+branchIf l = Record.BranchIf 4 l false
+
+-- one formula or another, by that word
+abbrev swept : Bool → List Record
+swept isElse =
+    const 4 0 ∷ Record.BranchIf 4 3 isElse ∷ const 5 1 ∷ Record.Branch 4 ∷ Record.Label 3 ∷ const 5 2 ∷ Record.Label 4 ∷ []
 
 abbrev pub table : List (List ℕ × List ℕ)
 table =
@@ -124,16 +137,28 @@ table =
     -- a start at the count of records plays nothing, one above it is refused by 9
     ∷ (played called (one ∷ []) 9 (4 ∷ []), 0 ∷ 9 ∷ 0 ∷ 0 ∷ [])
     ∷ (played called (one ∷ []) 10 (4 ∷ []), 9 ∷ 10 ∷ 0 ∷ 0 ∷ [])
+    -- a Branch passes over a part; a Label alone is reached
+    ∷ (played (Record.Branch 255 ∷ neg 4 4 ∷ Record.Label 255 ∷ []) [] 0 (4 ∷ []), 0 ∷ 3 ∷ 2 ∷ 0 ∷ [])
+    ∷ (played (Record.Label 3 ∷ []) [] 0 [], 0 ∷ 1 ∷ 1 ∷ [])
+    -- BranchIf: on a word that is not all zero, -0 among them, to the formula behind Label 3; else the other one, and over that
+    ∷ (played (swept false) (0 ∷ one ∷ two ∷ []) 0 (5 ∷ []), 0 ∷ 7 ∷ 5 ∷ one ∷ [])
+    ∷ (played (swept false) (three ∷ one ∷ two ∷ []) 0 (5 ∷ []), 0 ∷ 7 ∷ 5 ∷ two ∷ [])
+    ∷ (played (swept false) (minusZero ∷ one ∷ two ∷ []) 0 (5 ∷ []), 0 ∷ 7 ∷ 5 ∷ two ∷ [])
+    -- `is_else`: on a word that is all zero
+    ∷ (played (swept true) (0 ∷ one ∷ two ∷ []) 0 (5 ∷ []), 0 ∷ 7 ∷ 5 ∷ two ∷ [])
+    ∷ (played (swept true) (three ∷ one ∷ two ∷ []) 0 (5 ∷ []), 0 ∷ 7 ∷ 5 ∷ one ∷ [])
+    ∷ (played (swept true) (minusZero ∷ one ∷ two ∷ []) 0 (5 ∷ []), 0 ∷ 7 ∷ 5 ∷ one ∷ [])
     -- 1: three bytes are left behind a Mov; the length runs past the end; a Mov of 7 bytes
     ∷ (refused (6 ∷ 0 ∷ 3 ∷ 0 ∷ 1 ∷ 2 ∷ 6 ∷ 0 ∷ 3 ∷ []), 1 ∷ 1 ∷ 0 ∷ [])
     ∷ (refused (6 ∷ 0 ∷ 3 ∷ 0 ∷ 1 ∷ []), 1 ∷ 0 ∷ 0 ∷ [])
     ∷ (refused (7 ∷ 0 ∷ 3 ∷ 0 ∷ 1 ∷ 2 ∷ 3 ∷ []), 1 ∷ 0 ∷ 0 ∷ [])
-    -- 2: Nop is no record of a listing, nor is Uni RealRoot, nor a Label 3
+    -- 2: Nop is no record of a listing, nor is Uni RealRoot, nor a BranchIf whose third byte is 2
     ∷ (refused (4 ∷ 0 ∷ 0 ∷ 0 ∷ []), 2 ∷ 0 ∷ 0 ∷ [])
     ∷ (refused (7 ∷ 0 ∷ 1 ∷ 0 ∷ 4 ∷ 0 ∷ 0 ∷ []), 2 ∷ 0 ∷ 0 ∷ [])
-    ∷ (refused (5 ∷ 0 ∷ 14 ∷ 0 ∷ 3 ∷ []), 2 ∷ 0 ∷ 0 ∷ [])
+    ∷ (refused (7 ∷ 0 ∷ 17 ∷ 0 ∷ 66 ∷ 3 ∷ 2 ∷ []), 2 ∷ 0 ∷ 0 ∷ [])
     -- 3: register 66
     ∷ (refused (6 ∷ 0 ∷ 3 ∷ 0 ∷ 66 ∷ 0 ∷ []), 3 ∷ 0 ∷ 0 ∷ [])
+    ∷ (refused (7 ∷ 0 ∷ 17 ∷ 0 ∷ 66 ∷ 3 ∷ 1 ∷ []), 3 ∷ 0 ∷ 0 ∷ [])
     -- 4: a save to Param, behind a Mov
     ∷ (refused (6 ∷ 0 ∷ 3 ∷ 0 ∷ 65 ∷ 0 ∷ 8 ∷ 0 ∷ 5 ∷ 0 ∷ 4 ∷ 2 ∷ 0 ∷ 0 ∷ []), 4 ∷ 1 ∷ 0 ∷ [])
     -- 5: constant 1 of one constant
@@ -152,6 +177,21 @@ table =
     ∷ (played (neg 4 4 ∷ Record.Label 1 ∷ neg 4 4 ∷ []) [] 0 (4 ∷ []), 9 ∷ 1 ∷ 0 ∷ 0 ∷ [])
     ∷ (played (Record.Label 1 ∷ Record.Call 1 ∷ []) [] 0 [], 9 ∷ 0 ∷ 0 ∷ [])
     ∷ (played (Record.Label 1 ∷ Record.Call 1 ∷ Record.Branch 0 ∷ []) [] 0 [], 9 ∷ 1 ∷ 0 ∷ [])
+    -- 9: of labels 3 to 255, at a second standing; at a branch with no such label later, or one before it; at a Call
+    ∷ (played (Record.Label 3 ∷ Record.Label 3 ∷ []) [] 0 [], 9 ∷ 1 ∷ 0 ∷ [])
+    ∷ (played (Record.Branch 3 ∷ Record.Label 4 ∷ []) [] 0 [], 9 ∷ 0 ∷ 0 ∷ [])
+    ∷ (played (Record.Label 3 ∷ branchIf 3 ∷ []) [] 0 [], 9 ∷ 1 ∷ 0 ∷ [])
+    ∷ (played (Record.Label 3 ∷ Record.Branch 3 ∷ Record.Label 3 ∷ []) [] 0 [], 9 ∷ 1 ∷ 0 ∷ [])
+    ∷ (played (Record.Label 3 ∷ branchIf 3 ∷ Record.Label 3 ∷ []) [] 0 [], 9 ∷ 1 ∷ 0 ∷ [])
+    ∷ (played (Record.Call 3 ∷ Record.Label 3 ∷ []) [] 0 [], 9 ∷ 0 ∷ 0 ∷ [])
+    -- 9: a BranchIf to 0, 1 or 2
+    ∷ (played (branchIf 0 ∷ []) [] 0 [], 9 ∷ 0 ∷ 0 ∷ [])
+    ∷ (played (branchIf 1 ∷ Record.Label 1 ∷ Record.Branch 0 ∷ []) [] 0 [], 9 ∷ 0 ∷ 0 ∷ [])
+    ∷ (played (branchIf 2 ∷ Record.Label 2 ∷ []) [] 0 [], 9 ∷ 0 ∷ 0 ∷ [])
+    -- 9: a Label, Branch or BranchIf inside the block
+    ∷ (played (Record.Label 1 ∷ neg 4 4 ∷ Record.Label 3 ∷ Record.Branch 0 ∷ []) [] 0 [], 9 ∷ 2 ∷ 0 ∷ [])
+    ∷ (played (Record.Label 1 ∷ neg 4 4 ∷ Record.Branch 3 ∷ Record.Branch 0 ∷ Record.Label 3 ∷ []) [] 0 [], 9 ∷ 2 ∷ 0 ∷ [])
+    ∷ (played (Record.Label 1 ∷ neg 4 4 ∷ branchIf 3 ∷ Record.Branch 0 ∷ Record.Label 3 ∷ []) [] 0 [], 9 ∷ 2 ∷ 0 ∷ [])
     ∷ []
 
 abbrev given : List (List ℕ × List ℕ) → List (List ℕ)
@@ -163,5 +203,5 @@ wanted [] = []
 wanted (row ∷ rows) = row .1 ∷ wanted rows
 
 pub holds : given table ≡ wanted table
-unfolding ofBits toBits add sub mul fusedMultiplyAdd lengths lengthOf uniOps binOps arithOps fusedOps wordAt among takesKind headFrom placeAt savePlace condPlace recordOf decodedFrom decoded uniFrom biFrom movFrom loadFrom saveFrom loadConstFrom fusedFrom ifElseFrom loadComplexFrom saveComplexFrom complexBiFrom labelFrom branchFrom callFrom fieldsFrom recordFrom uniWord binWord fusedWord complexWords writes put exec execs works isLabel seek block ticks play breach answer
+unfolding ofBits toBits add sub mul fusedMultiplyAdd lengths lengthOf uniOps binOps arithOps fusedOps wordAt among takesKind headFrom placeAt savePlace condPlace recordOf decodedFrom decoded uniFrom biFrom movFrom loadFrom saveFrom loadConstFrom fusedFrom ifElseFrom loadComplexFrom saveComplexFrom complexBiFrom labelFrom branchFrom callFrom branchIfFrom fieldsFrom recordFrom uniWord binWord fusedWord complexWords writes put exec execs works isLabel seek block ticks play breach answer
 holds = refl

@@ -1,6 +1,6 @@
--- The player's machine (document 01, Player), over a listing's decoded records.
+-- The player's machine (document 01, Player; document 02, d), over a listing's decoded records.
 use Prim.Native.Nat.{ℕ, zero, suc, _+_, _*_}
-use mathlib.Core.Bool.{Bool, true, false, cond}
+use mathlib.Core.Bool.{Bool, true, false, not, cond}
 use mathlib.Core.List.{List, [], _∷_}
 use mathlib.Core.Option.{Option, none, some}
 use lib.ListN.{length, drop, getD, set}
@@ -123,6 +123,7 @@ works (Record.Work w ∷ rs) = w ∷ works rs
 works (Record.Label l ∷ rs) = []
 works (Record.Branch l ∷ rs) = []
 works (Record.Call l ∷ rs) = []
+works (Record.BranchIf c l e ∷ rs) = []
 
 -- is a record Label l?
 unfoldable pub isLabel : ℕ → Record → Bool
@@ -130,6 +131,7 @@ isLabel l (Record.Work w) = false
 isLabel l (Record.Label m) = eqb m l
 isLabel l (Record.Branch m) = false
 isLabel l (Record.Call m) = false
+isLabel l (Record.BranchIf c m e) = false
 
 -- the records from the first Label l on
 unfoldable pub seek : ℕ → List Record → List Record
@@ -149,6 +151,11 @@ pub record End : Type 0 where
 unfoldable pub ticks : ℕ → End → End
 ticks n e = record { store = e .store; played = n + e .played }
 
+-- document 02, d): "The player branches when the condition word is not all zero, or when it is zero if the byte is 1"
+abbrev pub branches : Bool → ℕ → Bool
+branches true w = eqb w 0
+branches false w = not (eqb w 0)
+
 -- A play goes on with the next record, or seeks the Label of a Branch.
 pub data Way : Type 0 where
   going : Way
@@ -164,12 +171,15 @@ play constants b going (Record.Label l ∷ rs) σ = ticks 1 (play constants b go
 play constants b going (Record.Branch l ∷ rs) σ =
     cond (eqb l 0) (record { store = σ; played = 1 }) (ticks 1 (play constants b (seeking l) rs σ))
 play constants b going (Record.Call l ∷ rs) σ = ticks (3 + length b) (play constants b going rs (execs constants b σ))
+play constants b going (Record.BranchIf c l e ∷ rs) σ =
+    ticks 1 (cond (branches e (at σ c)) (play constants b (seeking l) rs σ) (play constants b going rs σ))
 play constants b (seeking l) [] σ = record { store = σ; played = 0 }
 play constants b (seeking l) (Record.Work w ∷ rs) σ = play constants b (seeking l) rs σ
 play constants b (seeking l) (Record.Label m ∷ rs) σ =
     cond (eqb m l) (ticks 1 (play constants b going rs σ)) (play constants b (seeking l) rs σ)
 play constants b (seeking l) (Record.Branch m ∷ rs) σ = play constants b (seeking l) rs σ
 play constants b (seeking l) (Record.Call m ∷ rs) σ = play constants b (seeking l) rs σ
+play constants b (seeking l) (Record.BranchIf c m e ∷ rs) σ = play constants b (seeking l) rs σ
 
 -- The store with which a play of these records stands at record n outside a call; none where a jump passes over n or the play ends before.
 unfoldable pub reach : List ℕ → List Work → Way → ℕ → List Record → Store → Option Store
@@ -179,6 +189,8 @@ reach constants b going (suc n) (Record.Work w ∷ rs) σ = reach constants b go
 reach constants b going (suc n) (Record.Label l ∷ rs) σ = reach constants b going n rs σ
 reach constants b going (suc n) (Record.Branch l ∷ rs) σ = cond (eqb l 0) none (reach constants b (seeking l) n rs σ)
 reach constants b going (suc n) (Record.Call l ∷ rs) σ = reach constants b going n rs (execs constants b σ)
+reach constants b going (suc n) (Record.BranchIf c l e ∷ rs) σ =
+    cond (branches e (at σ c)) (reach constants b (seeking l) n rs σ) (reach constants b going n rs σ)
 reach constants b (seeking l) zero [] σ = none
 reach constants b (seeking l) zero (r ∷ rs) σ = cond (isLabel l r) (some σ) none
 reach constants b (seeking l) (suc n) [] σ = none
@@ -187,3 +199,4 @@ reach constants b (seeking l) (suc n) (Record.Label m ∷ rs) σ =
     cond (eqb m l) (reach constants b going n rs σ) (reach constants b (seeking l) n rs σ)
 reach constants b (seeking l) (suc n) (Record.Branch m ∷ rs) σ = reach constants b (seeking l) n rs σ
 reach constants b (seeking l) (suc n) (Record.Call m ∷ rs) σ = reach constants b (seeking l) n rs σ
+reach constants b (seeking l) (suc n) (Record.BranchIf c m e ∷ rs) σ = reach constants b (seeking l) n rs σ

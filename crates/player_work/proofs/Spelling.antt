@@ -9,12 +9,12 @@ use Rattle.mir.specs.declared.records.Loc.{Loc}
 use Rattle.mir.specs.declared.records.Work.{Work}
 use Rattle.mir.specs.declared.records.Record.{Record}
 use Rattle.mir.specs.Operation.{uniOps, binOps, arithOps, fusedOps, taken}
-use Rattle.mir.specs.Read.{Read, got, refused, refuse, andThen, above, registers}
+use Rattle.mir.specs.Read.{Read, got, refused, andThen, above, registers}
 use Rattle.mir.specs.Field.{byteAt, wordAt, takesKind, headFrom, placeAt, savedTo, savePlace, onStack, condPlace}
 use Rattle.mir.proofs.Passing.{passed, then, got-same, clash}
 use Rattle.mir.proofs.Heads.{headed}
 use Rattle.mir.specs.Takes.{takesUni, takesBin, takesArith, takesFused}
-use Rattle.records.specs.Record.{uniFrom, biFrom, movFrom, loadFrom, saveFrom, loadConstFrom, fusedFrom, ifElseFrom, loadComplexFrom, saveComplexFrom, complexBiFrom, labelFrom, branchFrom, callFrom, fieldsFrom, recordFrom}
+use Rattle.records.specs.Record.{uniFrom, biFrom, movFrom, loadFrom, saveFrom, loadConstFrom, fusedFrom, ifElseFrom, loadComplexFrom, saveComplexFrom, complexBiFrom, labelFrom, branchFrom, callFrom, branchIfFrom, fieldsFrom, recordFrom}
 use Rattle.player_work.specs.Spelled.{ofPart, workIn, uniSpelled, biSpelled, movSpelled, loadSpelled, saveSpelled, loadConstSpelled, fusedSpelled, ifElseSpelled, loadComplexSpelled, saveComplexSpelled, complexBiSpelled, spelled}
 
 -- registers that were not refused
@@ -63,8 +63,8 @@ by true x y r e f g = f e
 by false x y r e f g = g e
 
 -- a record of a label has no work
-jump : (b : Bool) (j r : Record) → none ≡ workIn j → refuse b 2 (got j) ≡ got r → none ≡ workIn r
-jump b j r n e = n ∙ ap workIn (got-same j r (passed b 2 (got j) r e .rest))
+jump : (j r : Record) → none ≡ workIn j → got j ≡ got r → none ≡ workIn r
+jump j r n e = n ∙ ap workIn (got-same j r e)
 
 module _ (count : ℕ) (s : List ℕ) (r : Record) where
   uni : uniFrom s ≡ got r → uniSpelled s ≡ workIn r
@@ -111,15 +111,23 @@ module _ (count : ℕ) (s : List ℕ) (r : Record) where
   unfolding complexBiFrom complexBiSpelled
   complex-bi e = with-operation (taken takesArith arithOps (byteAt s 4)) (byteAt s 5 ∷ byteAt s 6 ∷ byteAt s 7 ∷ byteAt s 8 ∷ byteAt s 9 ∷ byteAt s 10 ∷ []) _ r e
 
+  branch-if : branchIfFrom s ≡ got r → none ≡ workIn r
+  unfolding branchIfFrom
+  branch-if e =
+      jump (Record.BranchIf (byteAt s 4) (byteAt s 5) (eqb (byteAt s 6) 1)) r refl
+      (low (byteAt s 4 ∷ []) _ r (passed (ltb 1 (byteAt s 6)) 2 _ r e .rest))
+
   jumps : (kind : ℕ)
-      → cond (eqb kind 14) (labelFrom s) (cond (eqb kind 15) (branchFrom s) (cond (eqb kind 16) (callFrom s) (refused 2))) ≡ got r
+      → cond (eqb kind 14) (labelFrom s)
+      (cond (eqb kind 15) (branchFrom s) (cond (eqb kind 16) (callFrom s) (cond (eqb kind 17) (branchIfFrom s) (refused 2)))) ≡ got r
       → none ≡ workIn r
   unfolding labelFrom branchFrom callFrom
   jumps kind e =
-      by (eqb kind 14) (labelFrom s) _ r e (jump (ltb 2 (byteAt s 4)) (Record.Label (byteAt s 4)) r refl) (λ e.
-      by (eqb kind 15) (branchFrom s) _ r e (jump (ltb 2 (byteAt s 4)) (Record.Branch (byteAt s 4)) r refl) (λ e.
-      by (eqb kind 16) (callFrom s) _ r e (jump (ltb 2 (byteAt s 4)) (Record.Call (byteAt s 4)) r refl) (λ e.
-      absurd (clash 2 r e))))
+      by (eqb kind 14) (labelFrom s) _ r e (jump (Record.Label (byteAt s 4)) r refl) (λ e.
+      by (eqb kind 15) (branchFrom s) _ r e (jump (Record.Branch (byteAt s 4)) r refl) (λ e.
+      by (eqb kind 16) (callFrom s) _ r e (jump (Record.Call (byteAt s 4)) r refl) (λ e.
+      by (eqb kind 17) (branchIfFrom s) _ r e branch-if (λ e.
+      absurd (clash 2 r e)))))
 
   fields : fieldsFrom count (wordAt s 2) s ≡ got r → spelled s ≡ workIn r
   unfolding fieldsFrom spelled

@@ -1,5 +1,6 @@
 -- The working record that bytes spell (document 01, Sheet). Every record of a listing is tested before the first is
--- played; it is then played from its bytes, and here registers, constants, and the class of a place that is saved to or is a condition, are not tested again.
+-- played; it is then played from its bytes, and here registers, constants, and the class of a place that is saved to or is a condition, are
+-- not tested again.
 use Prim.Native.Nat.{ℕ}
 use mathlib.Core.Bool.{Bool, true, false, cond}
 use mathlib.Core.List.{List}
@@ -67,7 +68,7 @@ complexBiSpelled s =
     ofPart (taken takesArith arithOps (byteAt s 4))
     (λ op. Work.ComplexBi op (byteAt s 5) (byteAt s 6) (byteAt s 7) (byteAt s 8) (byteAt s 9) (byteAt s 10))
 
--- by kind; Label, Branch and Call spell no work
+-- by kind; Label, Branch, Call and BranchIf spell no work
 unfoldable pub spelled : List ℕ → Option Work
 unfolding uniSpelled biSpelled movSpelled loadSpelled saveSpelled loadConstSpelled fusedSpelled ifElseSpelled loadComplexSpelled saveComplexSpelled complexBiSpelled
 spelled s =
@@ -90,6 +91,7 @@ workIn (Record.Work w) = some w
 workIn (Record.Label l) = none
 workIn (Record.Branch l) = none
 workIn (Record.Call l) = none
+workIn (Record.BranchIf c l e) = none
 
 -- whether there is work
 abbrev pub hasWork : Option Work → Bool

@@ -17,7 +17,7 @@ use mir::fields::word;
 mod bytes;
 mod kinds;
 mod operations;
-mod words;
+pub mod words;
 
 // Whether the bytes spell work; the store is then what the work makes of it.
 pub fn exec(store: &mut [u64], constants: &[u64], s: &[u8]) -> bool

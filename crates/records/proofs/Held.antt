@@ -17,7 +17,7 @@ use Rattle.mir.specs.Field.{byteAt, wordAt, takesKind, headFrom, classed, place
 use Rattle.mir.proofs.Passing.{passed, then, got-same, clash, or-left, or-right}
 use Rattle.mir.proofs.Decoding.{Bytes, items, each}
 use Rattle.mir.specs.Takes.{takesUni, takesBin, takesArith, takesFused}
-use Rattle.records.specs.Record.{uniFrom, biFrom, movFrom, loadFrom, saveFrom, loadConstFrom, fusedFrom, ifElseFrom, loadComplexFrom, saveComplexFrom, complexBiFrom, labelFrom, branchFrom, callFrom, fieldsFrom, recordFrom}
+use Rattle.records.specs.Record.{uniFrom, biFrom, movFrom, loadFrom, saveFrom, loadConstFrom, fusedFrom, ifElseFrom, loadComplexFrom, saveComplexFrom, complexBiFrom, labelFrom, branchFrom, callFrom, branchIfFrom, fieldsFrom, recordFrom}
 use Rattle.records.proofs.Holding.{Saved, Stacked, Holds, AllHold}
 
 -- registers that were not refused
@@ -169,21 +169,22 @@ module _ (count : ℕ) (s : List ℕ) (r : Record) where
 
   held-label : labelFrom s ≡ got r → Holds count r
   unfolding labelFrom
-  held-label e =
-      let p = passed (ltb 2 (byteAt s 4)) 2 _ r e in
-      subst (Holds count) (got-same _ r (p .rest)) (ltb-false 2 (byteAt s 4) (p .test))
+  held-label e = subst (Holds count) (got-same _ r e) tt
 
   held-branch : branchFrom s ≡ got r → Holds count r
   unfolding branchFrom
-  held-branch e =
-      let p = passed (ltb 2 (byteAt s 4)) 2 _ r e in
-      subst (Holds count) (got-same _ r (p .rest)) (ltb-false 2 (byteAt s 4) (p .test))
+  held-branch e = subst (Holds count) (got-same _ r e) tt
 
   held-call : callFrom s ≡ got r → Holds count r
   unfolding callFrom
-  held-call e =
-      let p = passed (ltb 2 (byteAt s 4)) 2 _ r e in
-      subst (Holds count) (got-same _ r (p .rest)) (ltb-false 2 (byteAt s 4) (p .test))
+  held-call e = subst (Holds count) (got-same _ r e) tt
+
+  held-branch-if : branchIfFrom s ≡ got r → Holds count r
+  unfolding branchIfFrom
+  held-branch-if e =
+      let p = passed (ltb 1 (byteAt s 6)) 2 _ r e in
+      let l = lows 65 (byteAt s 4 ∷ []) _ r (p .rest) in
+      subst (Holds count) (got-same _ r (l .rest)) (l .low 0 (omega arith))
 
   held-fields : Bytes s → (kind : ℕ) → fieldsFrom count kind s ≡ got r → Holds count r
   unfolding fieldsFrom
@@ -202,7 +203,8 @@ module _ (count : ℕ) (s : List ℕ) (r : Record) where
       by (eqb kind 14) (labelFrom s) _ r e held-label (λ e.
       by (eqb kind 15) (branchFrom s) _ r e held-branch (λ e.
       by (eqb kind 16) (callFrom s) _ r e held-call (λ e.
-      absurd (clash 2 r e)))))))))))))))
+      by (eqb kind 17) (branchIfFrom s) _ r e held-branch-if (λ e.
+      absurd (clash 2 r e))))))))))))))))
 
   pub held : Bytes s → recordFrom count s ≡ got r → Holds count r
   unfolding recordFrom

@@ -1,4 +1,4 @@
--- Which records a listing can hold, as document 01 limits them.
+-- Which records a listing can hold, as documents 01 and 02 limit them.
 use Prim.Native.Nat.{ℕ, _≤_, _<_}
 use mathlib.Core.Path.{_≡_}
 use mathlib.Core.Bool.{true}
@@ -22,7 +22,7 @@ Stacked (Loc.Stack i) = i ≤ 255
 Stacked (Loc.Mem i) = ⊥
 Stacked (Loc.Param i) = ⊥
 
--- operations that are taken, registers to 65, places to 255, constants below the count of the lent table, labels to 2
+-- operations that are taken, registers to 65, places to 255, constants below the count of the lent table; any label
 abbrev pub Holds : ℕ → Record → Type 0
 Holds count (Record.Work (Work.Uni op dst s1)) = (takesUni true op ≡ true) × (dst ≤ 65) × (s1 ≤ 65)
 Holds count (Record.Work (Work.Bi op dst s1 s2)) = (takesBin true op ≡ true) × (dst ≤ 65) × (s1 ≤ 65) × (s2 ≤ 65)
@@ -36,9 +36,10 @@ Holds count (Record.Work (Work.LoadComplex xd yd loc)) = (xd ≤ 65) × (yd ≤ 
 Holds count (Record.Work (Work.SaveComplex xs ys loc)) = (xs ≤ 65) × (ys ≤ 65) × Saved loc
 Holds count (Record.Work (Work.ComplexBi op xd yd x1 y1 x2 y2)) =
     (xd ≤ 65) × (yd ≤ 65) × (x1 ≤ 65) × (y1 ≤ 65) × (x2 ≤ 65) × (y2 ≤ 65)
-Holds count (Record.Label l) = l ≤ 2
-Holds count (Record.Branch l) = l ≤ 2
-Holds count (Record.Call l) = l ≤ 2
+Holds count (Record.Label l) = Unit {0}
+Holds count (Record.Branch l) = Unit {0}
+Holds count (Record.Call l) = Unit {0}
+Holds count (Record.BranchIf c l e) = c ≤ 65
 
 abbrev pub AllHold : ℕ → List Record → Type 0
 AllHold count rs = Each (Holds count) rs

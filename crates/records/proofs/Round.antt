@@ -1,7 +1,7 @@
 -- What is written is read: the records of the bytes of records are these records.
 use Prim.Native.Nat.{ℕ, _+_, _≤_}
 use mathlib.Core.Path.{_≡_, refl, sym, ap, _∙_}
-use mathlib.Core.Bool.{Bool, true, not}
+use mathlib.Core.Bool.{Bool, true, false, not}
 use mathlib.Core.List.{List, [], _∷_, _++_, append-assoc, append-nil}
 use lib.ListN.{length}
 use lib.Seq.{drop-at}
@@ -16,7 +16,7 @@ use Rattle.mir.specs.Takes.{takesUni, takesBin, takesArith, takesFused}
 use Rattle.mir.specs.Read.{Read, got, refuse, andThen}
 use Rattle.mir.specs.Field.{wordAt, among, takesKind, headFrom, savedTo, onStack}
 use Rattle.mir.specs.Decode.{Decoded, ahead, decoded}
-use Rattle.mir.specs.Encode.{twoBytes, placeBytes, recordOf, encode, encodeAll}
+use Rattle.mir.specs.Encode.{twoBytes, placeBytes, flagByte, recordOf, encode, encodeAll}
 use Rattle.mir.proofs.Numbering.{uni-at, bin-at, arith-at, fused-at}
 use Rattle.mir.proofs.Written.{two, length-back, length-of, head-back, place-back, save-back, cond-back}
 use Rattle.mir.proofs.Decoding.{none, and, decoded-got, decoded-none}
@@ -51,6 +51,7 @@ formed (Record.Work (Work.ComplexBi op xd yd x1 y1 x2 y2)) = form 13 (arithNumbe
 formed (Record.Label l) = form 14 (l ∷ []) refl refl
 formed (Record.Branch l) = form 15 (l ∷ []) refl refl
 formed (Record.Call l) = form 16 (l ∷ []) refl refl
+formed (Record.BranchIf c l e) = form 17 (c ∷ l ∷ flagByte e ∷ []) refl refl
 
 -- the length of a record's bytes is what stands first in them
 pub encoded-length : (r : Record) (rest : List ℕ) → wordAt (encode r ++ rest) 0 ≡ length (encode r)
@@ -117,9 +118,11 @@ module _ (count : ℕ) where
       simp (le-ltb 65 xs (h .0), le-ltb 65 ys (h .1), save-back s 6 loc p (saved loc (h .2)))
   fields-back (Record.Work (Work.ComplexBi op xd yd x1 y1 x2 y2)) rest h =
       simp (arith-at takesArith op, le-ltb 65 xd (h .0), le-ltb 65 yd (h .1), le-ltb 65 x1 (h .2), le-ltb 65 y1 (h .3), le-ltb 65 x2 (h .4), le-ltb 65 y2 (h .5))
-  fields-back (Record.Label l) rest h = simp (le-ltb 2 l h)
-  fields-back (Record.Branch l) rest h = simp (le-ltb 2 l h)
-  fields-back (Record.Call l) rest h = simp (le-ltb 2 l h)
+  fields-back (Record.Label l) rest h = refl
+  fields-back (Record.Branch l) rest h = refl
+  fields-back (Record.Call l) rest h = refl
+  fields-back (Record.BranchIf c l true) rest h = simp (le-ltb 65 c h)
+  fields-back (Record.BranchIf c l false) rest h = simp (le-ltb 65 c h)
 
   -- a record is read from its bytes, whatever follows them
   pub read-back : (r : Record) (rest : List ℕ) → Holds count r → recordFrom count (encode r ++ rest) ≡ got r

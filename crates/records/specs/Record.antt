@@ -81,23 +81,26 @@ complexBiFrom s =
     registers 65 (bytesAt s 5 6)
     (got (Record.Work (Work.ComplexBi op (byteAt s 5) (byteAt s 6) (byteAt s 7) (byteAt s 8) (byteAt s 9) (byteAt s 10)))))
 
--- "Labels: 0 `.ret`, 1 `@complex_root`, 2 `@jump_over_complex_root`; another is refused by 2."
-abbrev pub label : ℕ → Read Record → Read Record
-label l r = refuse (ltb 2 l) 2 r
-
--- 14 Label, 15 Branch, 16 Call: label
+-- 14 Label, 15 Branch, 16 Call: label; "Labels: 0 `.ret`, 1 `@complex_root`, 2 `@jump_over_complex_root`", and with document 02, d) "labels
+-- 3 to 255 are no longer refused by 2"
 unfoldable pub labelFrom : List ℕ → Read Record
-labelFrom s = label (byteAt s 4) (got (Record.Label (byteAt s 4)))
+labelFrom s = got (Record.Label (byteAt s 4))
 
 unfoldable pub branchFrom : List ℕ → Read Record
-branchFrom s = label (byteAt s 4) (got (Record.Branch (byteAt s 4)))
+branchFrom s = got (Record.Branch (byteAt s 4))
 
 unfoldable pub callFrom : List ℕ → Read Record
-callFrom s = label (byteAt s 4) (got (Record.Call (byteAt s 4)))
+callFrom s = got (Record.Call (byteAt s 4))
+
+-- 17 BranchIf: condition register, label, is_else; "2 for a third byte above 1", where an operation is tested
+unfoldable pub branchIfFrom : List ℕ → Read Record
+branchIfFrom s =
+    refuse (ltb 1 (byteAt s 6)) 2
+    (registers 65 (bytesAt s 4 1) (got (Record.BranchIf (byteAt s 4) (byteAt s 5) (eqb (byteAt s 6) 1))))
 
 -- by kind
 unfoldable pub fieldsFrom : ℕ → ℕ → List ℕ → Read Record
-unfolding uniFrom biFrom movFrom loadFrom saveFrom loadConstFrom fusedFrom ifElseFrom loadComplexFrom saveComplexFrom complexBiFrom labelFrom branchFrom callFrom
+unfolding uniFrom biFrom movFrom loadFrom saveFrom loadConstFrom fusedFrom ifElseFrom loadComplexFrom saveComplexFrom complexBiFrom labelFrom branchFrom callFrom branchIfFrom
 fieldsFrom count kind s =
     cond (eqb kind 1) (uniFrom s)
     (cond (eqb kind 2) (biFrom s)
@@ -113,7 +116,8 @@ fieldsFrom count kind s =
     (cond (eqb kind 14) (labelFrom s)
     (cond (eqb kind 15) (branchFrom s)
     (cond (eqb kind 16) (callFrom s)
-    (refused 2))))))))))))))
+    (cond (eqb kind 17) (branchIfFrom s)
+    (refused 2)))))))))))))))
 
 -- "readable length (1), kind (2), kind's length (1), operation (2), then 3, 4, 5"
 unfoldable pub recordFrom : ℕ → List ℕ → Read Record

@@ -1,6 +1,6 @@
 // A listing's record, read at a position.
 ghost use mathlib.Core.Path.{_≡_};
-ghost use Rattle.records.specs.Record.{uniFrom, biFrom, movFrom, loadFrom, saveFrom, loadConstFrom, fusedFrom, ifElseFrom, loadComplexFrom, saveComplexFrom, complexBiFrom, labelFrom, branchFrom, callFrom, fieldsFrom, recordFrom, recordAt, asRead, asNext};
+ghost use Rattle.records.specs.Record.{uniFrom, biFrom, movFrom, loadFrom, saveFrom, loadConstFrom, fusedFrom, ifElseFrom, loadComplexFrom, saveComplexFrom, complexBiFrom, labelFrom, branchFrom, callFrom, branchIfFrom, fieldsFrom, recordFrom, recordAt, asRead, asNext};
 ghost use Rattle.records.specs.Sight.{sightOf};
 use mir::fields::Head;
 use mir::fields::Place;
@@ -25,9 +25,6 @@ use mir::records::Work;
 // The last of a listing's registers, Temp.
 const LAST: u8 = 65;
 
-// The last label, `@jump_over_complex_root`.
-const LAST_LABEL: u8 = 2;
-
 // A record, or the number that refuses it.
 pub enum ReadRecord {
     Got(Record),
@@ -41,7 +38,7 @@ pub enum NextRecord {
 }
 
 // What a pass over a listing needs of a record: the number that refuses it (0: none), what it is (0 a working record, 1 a Label, 2 a
-// Branch, 3 a Call) and its label.
+// Branch, 3 a Call, 4 a BranchIf) and its label.
 pub struct Sight {
     pub number: u8,
     pub what: u8,
@@ -237,31 +234,36 @@ fn read_complex_bi(s: &[u8]) -> ReadRecord
 fn read_label(s: &[u8]) -> ReadRecord
     ensures { λ r. ⌜ asRead r ≡ labelFrom (now (s .entry)) ⌝ }
 {
-    let label = byte(s, 4);
-    if LAST_LABEL < label {
-        return ReadRecord::Refused(2);
-    }
-    ReadRecord::Got(Record::Label(label))
+    ReadRecord::Got(Record::Label(byte(s, 4)))
 }
 
 fn read_branch(s: &[u8]) -> ReadRecord
     ensures { λ r. ⌜ asRead r ≡ branchFrom (now (s .entry)) ⌝ }
 {
-    let label = byte(s, 4);
-    if LAST_LABEL < label {
-        return ReadRecord::Refused(2);
-    }
-    ReadRecord::Got(Record::Branch(label))
+    ReadRecord::Got(Record::Branch(byte(s, 4)))
 }
 
 fn read_call(s: &[u8]) -> ReadRecord
     ensures { λ r. ⌜ asRead r ≡ callFrom (now (s .entry)) ⌝ }
 {
-    let label = byte(s, 4);
-    if LAST_LABEL < label {
+    ReadRecord::Got(Record::Call(byte(s, 4)))
+}
+
+fn read_branch_if(s: &[u8]) -> ReadRecord
+    ensures { λ r. ⌜ asRead r ≡ branchIfFrom (now (s .entry)) ⌝ }
+{
+    let flag = byte(s, 6);
+    if 1 < flag {
         return ReadRecord::Refused(2);
     }
-    ReadRecord::Got(Record::Call(label))
+    if above(s, 4, 1, LAST) {
+        return ReadRecord::Refused(3);
+    }
+    ReadRecord::Got(Record::BranchIf {
+        cond: byte(s, 4),
+        label: byte(s, 5),
+        is_else: flag == 1,
+    })
 }
 
 // The fields of a kind.
@@ -283,6 +285,7 @@ fn read_fields(s: &[u8], kind: u16, count: usize) -> ReadRecord
         14 => read_label(s),
         15 => read_branch(s),
         16 => read_call(s),
+        17 => read_branch_if(s),
         _ => ReadRecord::Refused(2),
     }
 }
@@ -335,6 +338,11 @@ fn look_at(q: ReadRecord) -> Sight
             Record::Label(l) => sighted(0, 1, l),
             Record::Branch(l) => sighted(0, 2, l),
             Record::Call(l) => sighted(0, 3, l),
+            Record::BranchIf {
+                cond,
+                label,
+                is_else,
+            } => sighted(0, 4, label),
         },
         ReadRecord::Refused(n) => sighted(n, 0, 0),
     }
@@ -359,6 +367,7 @@ fn look_fields(s: &[u8], kind: u16, count: usize) -> Sight
         14 => look_at(read_label(s)),
         15 => look_at(read_branch(s)),
         16 => look_at(read_call(s)),
+        17 => look_at(read_branch_if(s)),
         _ => sighted(2, 0, 0),
     }
 }

@@ -225,6 +225,13 @@ fn rerun_within(
             let listed = low.load_const(out, at, TEMP, idx);
             rerun_arith(listed, constants, mode, out, op, dst, s1)
         }
+        Instruction::Label(label) => no_constants(low.set_label(out, at, label)),
+        Instruction::Branch(label) => no_constants(low.branch(out, at, label)),
+        Instruction::BranchIf {
+            cond,
+            label,
+            is_else,
+        } => no_constants(low.branch_if(out, at, cond, label, is_else)),
     }
 }
 

@@ -1,4 +1,5 @@
 pub mod Counting
 pub mod Heading
+pub mod Refusals
 pub mod Reading
 pub mod Setting

@@ -1,13 +1,13 @@
--- A sheet's instruction, from the bytes that begin with it (document 01, Sheet, and the numbers 1 to 5 of its table). `count` is the
--- count of the sheet's own constants. Registers are tested before the place, and the place before the constant.
+-- A sheet's instruction, from the bytes that begin with it (document 01, Sheet, and the numbers 1 to 5 of its table; document 02, d).
+-- `count` is the count of the sheet's own constants. Registers are tested before the place, and the place before the constant.
 use Prim.Native.Nat.{ℕ}
 use mathlib.Core.Bool.{cond, false}
 use mathlib.Core.List.{List}
-use lib.Dec.{eqb}
+use lib.Dec.{ltb, eqb}
 use Rattle.mir.specs.declared.records.Instruction.{Instruction}
 use Rattle.mir.specs.Operation.{uniOps, binOps, arithOps, fusedOps, taken}
 use Rattle.mir.specs.Takes.{takesUni, takesBin, takesArith, takesFused}
-use Rattle.mir.specs.Read.{Read, got, refused, andThen, registers, constant}
+use Rattle.mir.specs.Read.{Read, got, refused, refuse, andThen, registers, constant}
 use Rattle.mir.specs.Field.{byteAt, bytesAt, wordAt, takesKind, headFrom, placeAt, savePlace, condPlace}
 use Rattle.mir.specs.Decode.{Item, readAt, Decoded, decoded}
 use Rattle.sheet.specs.declared.reader.ReadInstruction.{ReadInstruction}
@@ -74,9 +74,27 @@ loadConstMathFrom count s =
     registers 31 (bytesAt s 5 2)
     (constant count (wordAt s 7) (got (Instruction.LoadConstMath op (byteAt s 5) (byteAt s 6) (wordAt s 7)))))
 
+-- document 02, d): "10 [..] for a label outside 3 to 255, or a third byte above 1"
+abbrev pub ownLabel : ℕ → Read Instruction → Read Instruction
+ownLabel l r = refuse (ltb l 3) 10 r
+
+-- 14 Label, 15 Branch: label
+unfoldable pub labelFrom : List ℕ → Read Instruction
+labelFrom s = ownLabel (byteAt s 4) (got (Instruction.Label (byteAt s 4)))
+
+unfoldable pub branchFrom : List ℕ → Read Instruction
+branchFrom s = ownLabel (byteAt s 4) (got (Instruction.Branch (byteAt s 4)))
+
+-- 17 BranchIf: condition register, label, is_else
+unfoldable pub branchIfFrom : List ℕ → Read Instruction
+branchIfFrom s =
+    registers 31 (bytesAt s 4 1)
+    (ownLabel (byteAt s 5)
+    (refuse (ltb 1 (byteAt s 6)) 10 (got (Instruction.BranchIf (byteAt s 4) (byteAt s 5) (eqb (byteAt s 6) 1)))))
+
 -- by kind
 unfoldable pub fieldsFrom : ℕ → ℕ → List ℕ → Read Instruction
-unfolding uniFrom biFrom movFrom loadFrom saveFrom loadConstFrom fusedFrom ifElseFrom loadMathFrom loadConstMathFrom
+unfolding uniFrom biFrom movFrom loadFrom saveFrom loadConstFrom fusedFrom ifElseFrom loadMathFrom loadConstMathFrom labelFrom branchFrom branchIfFrom
 fieldsFrom count kind s =
     cond (eqb kind 0) (got Instruction.Nop)
     (cond (eqb kind 1) (uniFrom s)
@@ -89,9 +107,13 @@ fieldsFrom count kind s =
     (cond (eqb kind 8) (ifElseFrom s)
     (cond (eqb kind 9) (loadMathFrom s)
     (cond (eqb kind 10) (loadConstMathFrom count s)
-    (refused 2)))))))))))
+    (cond (eqb kind 14) (labelFrom s)
+    (cond (eqb kind 15) (branchFrom s)
+    (cond (eqb kind 17) (branchIfFrom s)
+    (refused 2))))))))))))))
 
--- "readable length (1), kind (2), kind's length (1), operation (2), then 3, 4, 5"
+-- "readable length (1), kind (2), kind's length (1), operation (2), then 3, 4, 5"; 10 is "tested after 4", and no instruction earns both 10
+-- and 5
 unfoldable pub instructionFrom : ℕ → List ℕ → Read Instruction
 unfolding headFrom fieldsFrom
 instructionFrom count s = andThen (headFrom (takesKind false) s) (λ kind. fieldsFrom count kind s)

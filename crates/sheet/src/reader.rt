@@ -1,6 +1,6 @@
 // A sheet's instruction, read at a position.
 ghost use mathlib.Core.Path.{_≡_};
-ghost use Rattle.sheet.specs.Instruction.{uniFrom, biFrom, movFrom, loadFrom, saveFrom, loadConstFrom, fusedFrom, ifElseFrom, loadMathFrom, loadConstMathFrom, fieldsFrom, instructionFrom, instructionAt, asRead, asNext};
+ghost use Rattle.sheet.specs.Instruction.{uniFrom, biFrom, movFrom, loadFrom, saveFrom, loadConstFrom, fusedFrom, ifElseFrom, loadMathFrom, loadConstMathFrom, labelFrom, branchFrom, branchIfFrom, fieldsFrom, instructionFrom, instructionAt, asRead, asNext};
 use mir::fields::Head;
 use mir::fields::Place;
 use mir::fields::above;
@@ -22,6 +22,9 @@ use mir::records::Instruction;
 
 // The last of a sheet's registers, Temp.
 const LAST: u8 = 31;
+
+// The first label of a sheet's own.
+const FIRST_LABEL: u8 = 3;
 
 // An instruction, or the number that refuses it.
 pub enum ReadInstruction {
@@ -212,6 +215,47 @@ fn read_load_const_math(s: &[u8], count: usize) -> ReadInstruction
     }
 }
 
+fn read_label(s: &[u8]) -> ReadInstruction
+    ensures { λ r. ⌜ asRead r ≡ labelFrom (now (s .entry)) ⌝ }
+{
+    let label = byte(s, 4);
+    if label < FIRST_LABEL {
+        return ReadInstruction::Refused(10);
+    }
+    ReadInstruction::Got(Instruction::Label(label))
+}
+
+fn read_branch(s: &[u8]) -> ReadInstruction
+    ensures { λ r. ⌜ asRead r ≡ branchFrom (now (s .entry)) ⌝ }
+{
+    let label = byte(s, 4);
+    if label < FIRST_LABEL {
+        return ReadInstruction::Refused(10);
+    }
+    ReadInstruction::Got(Instruction::Branch(label))
+}
+
+fn read_branch_if(s: &[u8]) -> ReadInstruction
+    ensures { λ r. ⌜ asRead r ≡ branchIfFrom (now (s .entry)) ⌝ }
+{
+    if above(s, 4, 1, LAST) {
+        return ReadInstruction::Refused(3);
+    }
+    let label = byte(s, 5);
+    if label < FIRST_LABEL {
+        return ReadInstruction::Refused(10);
+    }
+    let flag = byte(s, 6);
+    if 1 < flag {
+        return ReadInstruction::Refused(10);
+    }
+    ReadInstruction::Got(Instruction::BranchIf {
+        cond: byte(s, 4),
+        label: label,
+        is_else: flag == 1,
+    })
+}
+
 // The fields of a kind.
 fn read_fields(s: &[u8], kind: u16, count: usize) -> ReadInstruction
     ensures { λ r. ⌜ asRead r ≡ fieldsFrom count kind (now (s .entry)) ⌝ }
@@ -228,6 +272,9 @@ fn read_fields(s: &[u8], kind: u16, count: usize) -> ReadInstruction
         8 => read_if_else(s),
         9 => read_load_math(s),
         10 => read_load_const_math(s, count),
+        14 => read_label(s),
+        15 => read_branch(s),
+        17 => read_branch_if(s),
         _ => ReadInstruction::Refused(2),
     }
 }

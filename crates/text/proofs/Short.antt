@@ -17,7 +17,7 @@ use Rattle.mir.specs.declared.records.Loc.{Loc}
 use Rattle.mir.specs.declared.records.Work.{Work}
 use Rattle.mir.specs.declared.records.Record.{Record}
 use Rattle.mir.specs.Operation.{uniNumber, binNumber, arithNumber, fusedNumber}
-use Rattle.mir.specs.Encode.{recordOf, encodeWork, encode}
+use Rattle.mir.specs.Encode.{flagByte, recordOf, encodeWork, encode}
 use Rattle.mir.proofs.Tables.{and-left, and-right}
 use Rattle.text.specs.Sized.{SizedPlace, SizedWork, Sized}
 use Rattle.text.specs.Text.{ascii, decimalIn, decimal, hexIn, register, place, uniNames, uniName, binNames, binName, fusedNames, fusedName, complexNames, complexName, workText, recordText, recordLine, constantsHeading, constantLine, listingHeading, refusedLine}
@@ -162,12 +162,21 @@ work-short (Work.ComplexBi op xd yd x1 y1 x2 y2) h =
     let r5 = register-short y2 (h .5) in
     simp length-append (omega arith)
 
+flag-small : (e : Bool) → flagByte e < 256
+flag-small true = lit≤ tt
+flag-small false = lit≤ tt
+
 text-short : (r : Record) → Sized r → length (recordText r) + 1 ≤ 5 * length (encode r)
 unfolding ascii recordText recordOf
 text-short (Record.Work w) h = work-short w h
 text-short (Record.Label l) h = let d = byte-short l h in omega arith
 text-short (Record.Branch l) h = let d = byte-short l h in omega arith
 text-short (Record.Call l) h = let d = byte-short l h in omega arith
+text-short (Record.BranchIf c l e) h =
+    let r = register-short c (h .0) in
+    let d = byte-short l (h .1) in
+    let f = byte-short (flagByte e) (flag-small e) in
+    simp length-append (omega arith)
 
 pub record-line-short : (r : Record) → Sized r → length (recordLine r) ≤ 5 * length (encode r)
 unfolding recordLine
@@ -193,6 +202,7 @@ record-length (Record.Work w) = work-length w
 record-length (Record.Label l) = lit≤ tt
 record-length (Record.Branch l) = lit≤ tt
 record-length (Record.Call l) = lit≤ tt
+record-length (Record.BranchIf c l e) = lit≤ tt
 
 pub record-short : (r : Record) → Sized r → length (recordLine r) ≤ 80
 record-short r h = let i = record-line-short r h in let k = record-length r in omega (arith, i, k)

@@ -26,3 +26,4 @@ Sized (Record.Work w) = SizedWork w
 Sized (Record.Label l) = l < 256
 Sized (Record.Branch l) = l < 256
 Sized (Record.Call l) = l < 256
+Sized (Record.BranchIf c l e) = (c < 256) × (l < 256)

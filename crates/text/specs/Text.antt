@@ -14,6 +14,7 @@ use Rattle.mir.specs.Operation.{uniNumber, binNumber, arithNumber, fusedNumber}
 use Rattle.mir.specs.declared.records.Loc.{Loc}
 use Rattle.mir.specs.declared.records.Work.{Work}
 use Rattle.mir.specs.declared.records.Record.{Record}
+use Rattle.mir.specs.Encode.{flagByte}
 
 -- the bytes of a quoted text
 unfoldable pub ascii : String → List ℕ
@@ -113,6 +114,7 @@ recordText (Record.Work w) = workText w
 recordText (Record.Label l) = ascii "Label" ++ space (decimal l)
 recordText (Record.Branch l) = ascii "Branch" ++ space (decimal l)
 recordText (Record.Call l) = ascii "Call" ++ space (decimal l)
+recordText (Record.BranchIf c l e) = ascii "BranchIf" ++ registers (c ∷ []) ++ space (decimal l) ++ space (decimal (flagByte e))
 
 -- a line ends with a line feed
 abbrev pub line : List ℕ → List ℕ

@@ -9,6 +9,7 @@ use super::line::Line;
 use super::line::empty_line;
 use mir::records::Record;
 use mir::records::Work;
+use mir::writer::flag_byte;
 
 impl Line {
     fn work(self, work: Work) -> Line
@@ -58,6 +59,14 @@ impl Line {
             Record::Label(label) => self.text(b"Label").number(label as u64),
             Record::Branch(label) => self.text(b"Branch").number(label as u64),
             Record::Call(label) => self.text(b"Call").number(label as u64),
+            Record::BranchIf {
+                cond,
+                label,
+                is_else,
+            } => self.text(b"BranchIf")
+                .registers(&[cond])
+                .number(label as u64)
+                .number(flag_byte(is_else) as u64),
         }
     }
 }

@@ -1,5 +1,5 @@
--- What is proved of the definitions, beside the promises of the functions. Each statement is a type in the specs/ of the crate that it speaks
--- of.
+-- What is proved of the definitions, beside the promises of the functions. Each statement is a type in the specs/ of the crate that it
+-- speaks of.
 use lib.Ieee.{binary64}
 use Rattle.float.specs.Root.{squareRoot}
 use Rattle.float.specs.Fused.{fusedMultiplyAdd}
@@ -12,7 +12,7 @@ use Rattle.player_machine.specs.Draws.{draws, fills, Confined}
 use Rattle.lowering.specs.declared.realness.Realness.{Realness}
 use Rattle.leftovers.specs.Leftovers.{Leftover}
 use Rattle.leftovers.specs.Kept.{Kept, Parted}
-use Rattle.leftovers.specs.Examples.{mixing, clean, Needed, Met}
+use Rattle.leftovers.specs.Examples.{mixing, clean, jumping, Needed, Met, JumpedOver}
 use Rattle.entries.specs.Entries.{EntriesDemand3}
 use Rattle.figures.specs.Shelf.{shelf}
 use Rattle.figures.specs.Told.{FiguresReported}
@@ -24,6 +24,8 @@ pub record Theorems : Type 0 where
   -- its condition about Half is needed, and can be met
   pub needed : Needed mixing 1
   pub met : Met clean 2
+  -- a Half that the play jumps over does not stand in the way
+  pub jumpedOver : JumpedOver jumping 1 2
   -- every word of the store is a leftover or must be the same in both endings
   pub parted : (ρ : Realness) → Parted (Kept ρ) (Leftover ρ)
   -- "Records played are at most all records plus calls times block records."

@@ -1,5 +1,6 @@
 //! Runs the program `listing` on sheets, and prints every difference between what it writes and the reference's page or refusal.
-//! The sheets are every third of those at limits, and random ones. Usage: compare-listing PROGRAM [COUNT] [SEED].
+//! The sheets are every third of those at limits, those of labels and branches spread thinner, and random ones with branches and without.
+//! Usage: compare-listing PROGRAM [COUNT] [SEED].
 
 use std::io::Write;
 use std::process::{Command, ExitCode, Stdio};
@@ -8,7 +9,7 @@ use oracle::format::{LISTING_LIMIT, TABLE};
 use oracle::machine::{Machine, Reference};
 use oracle::names::bi;
 use oracle::random::{self, Rng};
-use oracle::{boundary, make, print};
+use oracle::{boundary, branches, make, print};
 
 /// The reference's number for a sheet, and what the program is to write.
 fn expected(sheet: &[u8]) -> (u32, String) {
@@ -43,7 +44,10 @@ fn main() -> ExitCode {
     let mut sheets: Vec<Vec<u8>> = boundary::sheets().into_iter().step_by(3).map(|case| case.sheet).collect();
     sheets.extend([496, 497].map(nearly_full));
     sheets.extend((0..count).map(|_| random::to_lower(&mut rng).sheet));
-    let (mut numbers, mut differences) = ([0u64; 9], 0u64);
+    sheets.extend(branches::sheet_examples().into_iter().map(|(case, _, _)| case.sheet));
+    sheets.extend(branches::sheets().into_iter().step_by(29).map(|case| case.sheet));
+    sheets.extend((0..count).map(|_| random::branching_to_lower(&mut rng).sheet));
+    let (mut numbers, mut differences) = ([0u64; 12], 0u64);
     for sheet in &sheets {
         let (number, text) = expected(sheet);
         numbers[number as usize] += 1;
@@ -53,7 +57,7 @@ fn main() -> ExitCode {
             println!("sheet {sheet:?}\n  expected {text}\n  found {}", String::from_utf8_lossy(&found));
         }
     }
-    println!("listing: {} sheets, answers 0 to 8: {numbers:?}, {differences} differences", sheets.len());
+    println!("listing: {} sheets, answers 0 to 11: {numbers:?}, {differences} differences", sheets.len());
     if differences == 0 {
         ExitCode::SUCCESS
     } else {

@@ -1,6 +1,6 @@
-//! Every operation of a listing through `tulipcricket_play` and through the independent player, on lost readings: every combination of special
-//! words, and COUNT random cases of each operation, a NaN among their operands in most. Prints the cases and differences of each operation,
-//! and the first that differs. Usage: compare-marks [COUNT] [SEED] [NAME..].
+//! Every operation of a listing through `tulipcricket_play` and through the independent player, on lost readings: every combination of
+//! special words, and COUNT random cases of each operation, a NaN among their operands in most. Prints the cases and differences of each
+//! operation, and the first that differs. Usage: compare-marks [COUNT] [SEED] [NAME..].
 //!
 //! A play takes 256 cases: their operands stand in Param and Mem, the third of them in Stack too, where an IfElse looks for it, and the
 //! results go to Stack.

@@ -1,19 +1,34 @@
-//! Shelf figures of sheets through the C function, against what lowering with 65,536 bytes and playing from record 0 report, both through the
-//! C functions and by the Rust with the independent player; prints every difference. Usage: compare-shelf [COUNT] [SEED].
+//! Shelf figures of sheets through the C function, against what lowering with 65,536 bytes and playing from record 0 report, both through
+//! the C functions and by the Rust with the independent player; of a sheet with a Branch or BranchIf against the bound on the records
+//! played. Prints every difference. Usage: compare-shelf [COUNT] [SEED].
 
 use std::process::ExitCode;
 
-use oracle::boundary;
 use oracle::ffi::{self, Linked};
-use oracle::format::{word, LISTING_LIMIT, STORE, TABLE};
+use oracle::format::*;
 use oracle::lists::LENT;
 use oracle::machine::{Machine, Reference};
 use oracle::random::{self, Rng};
+use oracle::{boundary, branches, make};
 
 const ANSWER: usize = 40;
 
 /// Number, index, bytes, constants, records.
 type Figures = [u64; 5];
+
+/// Whether an accepted sheet has a Branch or a BranchIf.
+fn has_branch(sheet: &[u8]) -> bool {
+    records(&sheet[HEADER_LENGTH..]).iter().any(|r| matches!(two(r, 2), BRANCH | BRANCH_IF))
+}
+
+/// "all records plus calls times block records", the block counted from Label 1 to the first Branch 0 after it, both included.
+fn bound(listing: &[u8]) -> u64 {
+    let found = records(listing);
+    let calls = found.iter().filter(|r| two(r, 2) == CALL).count();
+    let from = found.iter().position(|r| **r == make::label(1));
+    let block = from.map_or(0, |from| 1 + found[from..].iter().position(|r| **r == make::branch(0)).expect("an end"));
+    (found.len() + calls * block) as u64
+}
 
 /// What a machine reports of a sheet, on a store with one word everywhere; figures 0 where it refuses.
 fn reported(machine: &impl Machine, sheet: &[u8], fill: u64) -> Figures {
@@ -23,9 +38,12 @@ fn reported(machine: &impl Machine, sheet: &[u8], fill: u64) -> Figures {
         return [answer.number as u64, answer.index, 0, 0, 0];
     }
     let (bytes, count) = (answer.written, answer.count);
-    let played = machine.play(&listing[..bytes as usize], &constants[..count as usize], &mut vec![fill; STORE], 0);
+    let listing = &listing[..bytes as usize];
+    let played = machine.play(listing, &constants[..count as usize], &mut vec![fill; STORE], 0);
     assert_eq!(played.number, 0, "a lowered listing is played");
-    [0, answer.index, bytes, count, played.played]
+    assert!(played.played <= bound(listing), "the bound holds");
+    let most = if has_branch(sheet) { bound(listing) } else { played.played };
+    [0, answer.index, bytes, count, most]
 }
 
 /// What the C function says, and whether its number is the answer's.
@@ -46,7 +64,7 @@ fn wrong_length(sheet: &[u8], length: usize) -> bool {
 /// Cases by their number, and differences.
 #[derive(Default)]
 struct Tally {
-    numbers: [u64; 10],
+    numbers: [u64; 12],
     roots: u64,
     differences: u64,
 }
@@ -65,7 +83,7 @@ impl Tally {
 
     fn report(&self, what: &str) {
         println!(
-            "{what}: {} cases, numbers 0 to 9: {:?}, {} surely with calls, {} differences",
+            "{what}: {} cases, numbers 0 to 11: {:?}, {} surely with calls, {} differences",
             self.numbers.iter().sum::<u64>(),
             self.numbers,
             self.roots,
@@ -84,9 +102,14 @@ fn main() -> ExitCode {
     let mut some = Tally::default();
     (0..count).for_each(|_| some.compare(&random::to_lower(&mut rng).sheet, rng.bits()));
     some.report("random sheets");
+    let mut branching = Tally::default();
+    branches::sheets().iter().for_each(|case| branching.compare(&case.sheet, 0));
+    (0..count)
+        .for_each(|_| branching.compare(&random::branching_to_lower(&mut rng).sheet, rng.pick(&[0, 1, u64::MAX])));
+    branching.report("sheets with labels and branches");
     let wrong = (0..=2 * ANSWER).filter(|n| *n != ANSWER && !wrong_length(&boundary::paper(), *n)).count();
     println!("{wrong} wrong lengths of the answer not refused");
-    if limits.differences + some.differences + wrong as u64 == 0 {
+    if limits.differences + some.differences + branching.differences + wrong as u64 == 0 {
         ExitCode::SUCCESS
     } else {
         ExitCode::FAILURE

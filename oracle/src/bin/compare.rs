@@ -4,24 +4,24 @@
 use std::fs;
 use std::process::ExitCode;
 
-use oracle::boundary;
 use oracle::ffi::{wrong_lengths, Linked};
 use oracle::inputs::{cut, Call};
 use oracle::lists::{lowered, played};
 use oracle::machine::Reference;
 use oracle::random::{self, Rng, ToLower, ToPlay};
+use oracle::{boundary, branches};
 
 /// Cases tried and differences found, by answer number.
 #[derive(Default)]
 struct Tally {
-    numbers: [u64; 10],
+    numbers: [u64; 12],
     differences: u64,
 }
 
 impl Tally {
     fn report(&self, what: &str) {
         let total: u64 = self.numbers.iter().sum();
-        println!("{what}: {total} cases, answers 0 to 9: {:?}, {} differences", self.numbers, self.differences);
+        println!("{what}: {total} cases, answers 0 to 11: {:?}, {} differences", self.numbers, self.differences);
     }
 
     /// Counts an answer and prints what differs: the answer, then the first place of each slice.
@@ -88,6 +88,25 @@ fn compare_inputs(folder: &str) -> u64 {
     sheets.differences + plays.differences
 }
 
+/// Every limit of labels and branches, and `count` random sheets and listings with them; the differences.
+fn compare_branches(count: u64, rng: &mut Rng) -> u64 {
+    let mut sheets = Tally::default();
+    branches::sheets().iter().for_each(|case| compare_sheet(case, &mut sheets));
+    sheets.report("sheets at limits of labels and branches");
+    let mut random_sheets = Tally::default();
+    (0..count).for_each(|_| compare_sheet(&random::branching_to_lower(rng), &mut random_sheets));
+    random_sheets.report("random sheets with branches");
+
+    let mut plays = Tally::default();
+    branches::plays().iter().for_each(|case| compare_play(case, &mut plays));
+    branches::jump_rows(4).iter().for_each(|case| compare_play(case, &mut plays));
+    plays.report("plays at limits of labels and branches");
+    let mut random_plays = Tally::default();
+    (0..count).for_each(|_| compare_play(&random::branching_to_play(rng), &mut random_plays));
+    random_plays.report("random plays with branches");
+    [sheets, random_sheets, plays, random_plays].iter().map(|t| t.differences).sum()
+}
+
 /// Every limit, and `count` random cases of each kind; the differences.
 fn compare_cases(count: u64, mut rng: Rng) -> u64 {
     let mut sheets = Tally::default();
@@ -112,10 +131,11 @@ fn compare_cases(count: u64, mut rng: Rng) -> u64 {
     }
     arithmetic.report("every operation on random words");
 
+    let branching = compare_branches(count, &mut rng);
     let wrong = wrong_lengths();
     wrong.iter().for_each(|text| println!("{text}"));
     let tallies = [&sheets, &random_sheets, &plays, &random_plays, &arithmetic];
-    wrong.len() as u64 + tallies.iter().map(|t| t.differences).sum::<u64>()
+    branching + wrong.len() as u64 + tallies.iter().map(|t| t.differences).sum::<u64>()
 }
 
 fn main() -> ExitCode {

@@ -1,12 +1,12 @@
-//! Writes inputs of the fuzzing harness, a file each, into a folder: sheets and plays at limits and random ones.
+//! Writes inputs of the fuzzing harness, a file each, into a folder: sheets and plays at limits and random ones, with branches and without.
 //! Usage: make-seeds FOLDER [COUNT] [SEED]. About COUNT of each of the four kinds; the format is that of ../fuzz/README.md.
 
 use std::fs;
 use std::path::Path;
 
-use oracle::boundary;
 use oracle::inputs::{of_lowering, of_play, variants};
 use oracle::random::{self, Rng};
+use oracle::{boundary, branches};
 
 /// Up to `count` of the cases, evenly spread.
 fn spread<T: Clone>(cases: &[T], count: usize) -> Vec<T> {
@@ -37,6 +37,8 @@ fn main() {
     let mut sheets = boundary::kept_sheets();
     sheets.extend(spread(&boundary::sheets(), count));
     sheets.extend((0..count).map(|_| random::to_lower(&mut rng)));
+    sheets.extend(branches::sheet_examples().into_iter().map(|(case, _, _)| case));
+    sheets.extend((0..count).map(|_| random::branching_to_lower(&mut rng)));
     write(Path::new(&folder), "lower", &with_variants(sheets.iter().filter_map(of_lowering).collect()));
 
     let mut plays = boundary::kept_plays();
@@ -44,5 +46,7 @@ fn main() {
     plays.extend(spread(&boundary::jump_rows(4), count / 2));
     plays.push(boundary::all_operations(random::SPECIAL[2], random::SPECIAL[19], random::SPECIAL[30]));
     plays.extend((0..count).map(|_| random::to_play(&mut rng)));
+    plays.extend(branches::play_examples().into_iter().map(|(case, _)| case));
+    plays.extend((0..count).map(|_| random::branching_to_play(&mut rng)));
     write(Path::new(&folder), "play", &with_variants(plays.iter().filter_map(of_play).collect()));
 }

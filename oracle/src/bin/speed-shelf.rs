@@ -1,5 +1,5 @@
-//! Times the shelf figures beside lowering, through the C functions over the same sheets. Usage: speed-shelf [ROUNDS]. A figure is that of the
-//! fastest round; the rounds of both sides alternate.
+//! Times the shelf figures beside lowering, through the C functions over the same sheets. Usage: speed-shelf [ROUNDS]. A figure is that of
+//! the fastest round; the rounds of both sides alternate.
 
 use std::hint::black_box;
 use std::time::Instant;

@@ -27,6 +27,10 @@ pub enum Why {
     ListingFull = 7,
     WrongSetup = 8,
     StrayJump = 9,
+    /// A label outside 3 to 255 or standing twice, a branch without its label behind it or with one before it, an else above 1.
+    MisplacedLabel = 10,
+    /// What is recorded as real at a label is not what is at a branch to it.
+    UnequalRecords = 11,
     /// A window outside 1 to 64, or a run of more than 4,096 words.
     WrongRun = 12,
     WrongPoints = 13,
@@ -59,6 +63,8 @@ fn accepted(number: u32, index: u64) -> Result<(), Refused> {
         6 => Why::BarredOperand,
         7 => Why::ListingFull,
         8 => Why::WrongSetup,
+        10 => Why::MisplacedLabel,
+        11 => Why::UnequalRecords,
         12 => Why::WrongRun,
         13 => Why::WrongPoints,
         _ => Why::StrayJump,
@@ -111,12 +117,12 @@ pub struct Shelf {
     /// Bytes of the listing.
     pub bytes: u64,
     pub constants: u64,
-    /// Records that a play from record 0 runs, on any store.
+    /// Records that a play from record 0 runs, on any store; of a sheet with branches the most that one can run.
     pub records: u64,
 }
 
-/// The figures of a sheet, with no listing written: those that `lower` with `LISTING_LIMIT` bytes and `play` from record 0 report, and the
-/// refusals of that `lower`.
+/// The figures of a sheet, with no listing written: those that `lower` with `LISTING_LIMIT` bytes and `play` from record 0 report, with
+/// branches the bound on the records of such a play, and the refusals of that `lower`.
 pub fn shelf(sheet: &[u8]) -> Result<Shelf, Refused> {
     let mut answer = [0; 40];
     let refusal = c::shelf(sheet, &mut answer);

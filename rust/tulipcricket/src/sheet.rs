@@ -114,6 +114,20 @@ impl Sheet {
         self.instruction(6, &[dst, low, high])
     }
 
+    /// Marks where branches to a label, 3 to 255, go on. A label stands once, behind every branch to it.
+    pub fn label(&mut self, label: u8) -> &mut Sheet {
+        self.instruction(14, &[label])
+    }
+
+    pub fn branch(&mut self, label: u8) -> &mut Sheet {
+        self.instruction(15, &[label])
+    }
+
+    /// Branches where the word of the condition's real half is not all zero; with `is_else`, where it is. -0 is not all zero.
+    pub fn branch_if(&mut self, cond: u8, label: u8, is_else: bool) -> &mut Sheet {
+        self.instruction(17, &[cond, label, is_else as u8])
+    }
+
     /// The sheet's bytes: header, constants, instructions.
     pub fn bytes(&self) -> Vec<u8> {
         let mut bytes = record(32, &[&[self.stable as u8][..], &self.real_places].concat());

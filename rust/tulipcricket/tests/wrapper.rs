@@ -123,6 +123,45 @@ fn the_paper_takes_41_bytes_1_constant_and_5_records() {
     assert_eq!(shelf(&[]), Err(Refused { why: Why::WrongSetup, index: 0 }));
 }
 
+/// Mem 4 becomes Mem 3 where the real half of Mem 5 is above 1, else its square.
+fn above_a_corner() -> Vec<u8> {
+    let mut sheet = Sheet::new(false);
+    let one = sheet.constant(1.0);
+    sheet.load(0, Class::Mem, 3).load(1, Class::Mem, 5).load_const(2, one).bi(Bi::GreaterThan, 2, 1, 2);
+    sheet.branch_if(2, 3, false).bi(Bi::Times, 0, 0, 0).label(3).save(0, Class::Mem, 4);
+    sheet.bytes()
+}
+
+#[test]
+fn a_formula_with_a_branch_goes_both_ways() {
+    let found = lower(&above_a_corner(), LISTING_LIMIT).unwrap();
+    let answer = |frequency: f64| {
+        let mut store = Store::new();
+        store.set_place(Class::Mem, 3, (3.0, 4.0));
+        store.set_place(Class::Mem, 5, (frequency, 0.0));
+        let played = play(&found.listing, &found.constants, &mut store, 0).unwrap();
+        (store.place(Class::Mem, 4), played.played)
+    };
+    // LoadComplex twice, LoadConst, GreaterThan, BranchIf, TimesComplex, Label 3, SaveComplex
+    assert_eq!((answer(2.0), answer(0.5)), (((3.0, 4.0), 7), ((-7.0, 24.0), 8)));
+    assert_eq!(shelf(&above_a_corner()).unwrap().records, 8);
+}
+
+#[test]
+fn labels_are_refused_by_10_and_11() {
+    let refusal = |sheet: &Sheet| lower(&sheet.bytes(), LISTING_LIMIT).unwrap_err();
+    let misplaced = |index| Refused { why: Why::MisplacedLabel, index };
+    assert_eq!(refusal(Sheet::new(false).branch(3)), misplaced(0));
+    assert_eq!(refusal(Sheet::new(false).label(3).branch_if(0, 3, true).label(3)), misplaced(1));
+    assert_eq!(refusal(Sheet::new(false).branch(3).label(3).label(3)), misplaced(2));
+    assert_eq!(refusal(Sheet::new(false).label(2)), misplaced(0));
+    let mut sheet = Sheet::new(false);
+    let two = sheet.constant(2.0);
+    let unequal = refusal(sheet.branch(255).load_const(0, two).label(255));
+    assert_eq!(unequal, Refused { why: Why::UnequalRecords, index: 2 });
+    assert_eq!(unequal.to_string(), "refused 11 2 (UnequalRecords)");
+}
+
 #[test]
 fn the_block_is_played_once_for_each_root() {
     for stable in [false, true] {

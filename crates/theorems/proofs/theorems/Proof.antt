@@ -7,7 +7,7 @@ use Rattle.player_machine.proofs.Bound.{answer-bound}
 use Rattle.player_machine.proofs.Stepping.{by-steps}
 use Rattle.player_machine.proofs.Drawing.{confined}
 use Rattle.leftovers.proofs.Words.{parted}
-use Rattle.leftovers.proofs.Examples.{needed, met}
+use Rattle.leftovers.proofs.Examples.{needed, met, jumped-over}
 use Rattle.entries.proofs.Demand.{entries-demand-3}
 use Rattle.figures.proofs.Theorem.{figures}
 use Rattle.theorems.proofs.theorems.Statement.{statement}
@@ -19,6 +19,7 @@ returns c =
       demand3 = entries-demand-3;
       needed = needed;
       met = met;
+      jumpedOver = jumped-over;
       parted = parted;
       bound = answer-bound;
       bySteps = by-steps;

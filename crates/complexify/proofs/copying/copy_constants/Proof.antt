@@ -9,7 +9,8 @@ use lib.Seq.{sets}
 use Rattle.sheet.specs.Setup.{constantAt, constantsOf}
 use Rattle.sheet.proofs.Setting.{length-constants}
 use Rattle.words.proofs.Copying.{ended}
-use Rattle.complexify.proofs.Copies.{nth, stored}
+use Rattle.refusals.proofs.Storing.{stored}
+use Rattle.complexify.proofs.Copies.{nth}
 use Rattle.complexify.proofs.copying.copy_constants.Statement.{statement}
 use Rattle.complexify.proofs.copying.copy_constants.Tie as tie
 

@@ -21,4 +21,4 @@ lower-spec =
     (λ c κs. search needs) (λ c. search needs)
     (λ c κs. (begin-ready (c .before .before .before .before .before .before .before .before .before .before .before .before .before .before .before .before .before .args .sheet .now) (c .before .before .before .before .before .before .before .before .before .before .before .before .before .before .before .before .before .args .listing .now) (c .before .before .before .before .before .before .before .before .before .before .before .before .before .before .before .before .before .args .constants .now) (c .before .before .before .before .before .before .before .before .before .before .before .before .before .read-setup .result) (c .before .before .before .before .before .before .before .before .before .before .before .before .before .read-setup .ensures) (c .before .before .before .before .before .before .before .before .before .before .before .if1 .left) (c .before .before .before .before .before .before .before .before .before .before .if2 .left) (c .before .before .before .before .before .before .before .before .before .if3 .left) refl (c .before .before .before .before .before .before .before .copy-constants .ensures), (omega arith, known (c .before .before .before .before .before .before .before .before .before .before .before .before .before .before .before .before .before .args .sheet .now) (c .before .before .before .before .before .before .before .before .before .before .before .before .before .before .before .before .before .args .listing .now) (c .before .before .before .before .before .before .before .before .before .before .before .before .before .before .before .before .before .args .constants .now) (c .before .before .before .before .before .before .before .before .before .before .before .before .before .read-setup .result) (c .before .before .before .before .before .before .before .before .before .before .before .before .before .read-setup .ensures) (c .before .before .before .before .before .before .before .before .before .before .before .if1 .left) (c .before .before .before .before .before .before .before .before .before .before .if2 .left) (c .before .before .before .before .before .before .before .before .before .if3 .left) .most)))
     (λ c. search needs) (λ c. search needs)
-    (λ c. let q = answering (c .before .before .before .before .before .before .before .before .before .before .before .before .before .before .before .before .before .before .before .before .before .before .before .args .sheet .now) (c .before .before .before .before .before .before .before .before .before .before .before .before .before .before .before .before .before .before .before .before .before .before .before .args .listing .now) (c .before .before .before .before .before .before .before .before .before .before .before .before .before .before .before .before .before .before .before .before .before .before .before .args .constants .now) (c .before .before .before .before .before .before .before .before .before .before .before .before .before .before .before .before .before .before .before .read-setup .result) (c .before .before .before .before .before .before .before .before .before .before .before .before .before .before .before .before .before .before .before .read-setup .ensures) (c .before .before .before .before .before .before .before .before .before .before .before .before .before .before .before .before .before .if1 .left) (c .before .before .before .before .before .before .before .before .before .before .before .before .before .before .before .before .if2 .left) (c .before .before .before .before .before .before .before .before .before .before .before .before .before .before .before .if3 .left) (c .before .before .before .before .before .before .before .before .before .before .before .before .before .copy-constants .ensures) (ap (λ ρ. record { real = ρ; «root_defined» = false }) (c .before .before .before .before .before .before .before .before .before .fresh .ensures)) (c .before .before .before .before .before .run .ensures) in (q .answered, q .bytes, q .words)))
+    (λ c. let q = answering (c .before .before .before .before .before .before .before .before .before .before .before .before .before .before .before .before .before .before .before .before .before .before .before .args .sheet .now) (c .before .before .before .before .before .before .before .before .before .before .before .before .before .before .before .before .before .before .before .before .before .before .before .args .listing .now) (c .before .before .before .before .before .before .before .before .before .before .before .before .before .before .before .before .before .before .before .before .before .before .before .args .constants .now) (c .before .before .before .before .before .before .before .before .before .before .before .before .before .before .before .before .before .before .before .read-setup .result) (c .before .before .before .before .before .before .before .before .before .before .before .before .before .before .before .before .before .before .before .read-setup .ensures) (c .before .before .before .before .before .before .before .before .before .before .before .before .before .before .before .before .before .if1 .left) (c .before .before .before .before .before .before .before .before .before .before .before .before .before .before .before .before .if2 .left) (c .before .before .before .before .before .before .before .before .before .before .before .before .before .before .before .if3 .left) (c .before .before .before .before .before .before .before .before .before .before .before .before .before .copy-constants .ensures) (ap (λ ρ. record { real = ρ; «root_defined» = false }) (c .before .before .before .before .before .before .before .before .before .fresh .ensures)) (c .before .before .before .before .before .run-marked .ensures) in (q .answered, q .bytes, q .words)))

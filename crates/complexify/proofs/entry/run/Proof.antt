@@ -6,19 +6,21 @@ use mathlib.Core.Path.{_≡_, refl, _∙_}
 use lib.ListN.{length}
 use Rattle.mir.proofs.Decoding.{ended}
 use Rattle.sheet.specs.Instruction.{instructionFrom}
-use Rattle.complexify.proofs.Turns.{Standing, standing-first, standing-next, ran-refused, ran-ended}
+use Rattle.complexify.proofs.Turns.{Underway, underway-first, underway-next, ran-refused, ran-ended}
 use Rattle.complexify.proofs.entry.run.Statement.{statement}
 use Rattle.complexify.proofs.entry.run.Tie as tie
 
 abbrev Inv-loop : tie.InvT-loop
-Inv-loop sheet own mode stage₀ listing₀ constants₀ start stage listing constants p =
-    Standing mode own sheet listing₀ constants₀ start stage listing constants p
+Inv-loop sheet own mode stage₀ marks₀ rows₀ listing₀ constants₀ start stage marks rows listing constants p =
+    Underway mode own sheet listing₀ constants₀ start stage listing constants marks rows p
     × (length stage ≡ length stage₀)
+    × (length marks ≡ length marks₀)
+    × (length rows ≡ length rows₀)
     × (length listing ≡ length listing₀)
     × (length constants ≡ length constants₀)
 
 abbrev μ-loop : tie.MeasureT-loop
-μ-loop sheet own mode stage₀ listing₀ constants₀ start stage listing constants p = length sheet - p .at
+μ-loop sheet own mode stage₀ marks₀ rows₀ listing₀ constants₀ start stage marks rows listing constants p = length sheet - p .at
 
 pub run-spec : {M : Type 1} → statement M
 run-spec =
@@ -26,11 +28,13 @@ run-spec =
     (tie.spec
     Inv-loop
     μ-loop
-    (λ c. (standing-first (c .before .before .before .before .pre .0) (c .before .before .before .before .pre .1 .0), refl, refl, refl))
-    (λ c κs. let v = c .before .before .before .before .before .loop .inv .0 in let h = c .before .before .before .before .before .before .before .before .before .before .pre .1 .1 in (v .ready, (omega (arith, v .index, h), c .before .before .before .if1 .taken)))
-    (λ c κs. search needs) (λ c. search needs) (λ c. search needs) (λ c. search needs)
-    (λ c. let v = c .before .before .before .before .before .before .before .before .before .before .before .before .before .before .before .loop .inv in let t = c .before .before .before .before .before .before .before .before .before .one .ensures in ran-refused (v .0) t (c .before .if2 .taken) (c .answer-at .ensures))
-    (λ c. let v = c .before .before .before .before .before .before .before .before .before .before .before .before .before .before .loop .inv in let t = c .before .before .before .before .before .before .before .before .one .ensures in let h = t .on (c .if2 .left) in omega (arith, h))
-    (λ c. let v = c .before .before .before .before .before .before .before .before .before .before .before .before .before .before .loop .inv in let t = c .before .before .before .before .before .before .before .before .one .ensures in (standing-next (v .0) t (c .before .before .before .before .before .before .before .before .one .kept .1 .1 .1 .1 .0) (c .if2 .left), c .before .before .before .before .before .before .before .before .one .kept .1 .1 .1 .1 .0 ∙ v .1, c .before .before .before .before .before .before .before .before .one .kept .1 .1 .1 .1 .1 .0 ∙ v .2, c .before .before .before .before .before .before .before .before .one .kept .1 .1 .1 .1 .1 .1 .0 ∙ v .3))
-    (λ c κs. search needs) (λ c. search needs) (λ c. search needs) (λ c. search needs)
-    (λ c. let v = c .before .before .before .loop .inv in ran-ended (v .0) (ended (instructionFrom (c .before .before .before .before .before .before .before .before .args .own)) (c .before .before .before .before .before .before .before .before .args .sheet .now) (c .before .before .before .loop .p .at) (c .before .if1 .left)) (c .answer-at2 .ensures)))
+    (λ c. let p = c .before .before .before .before .before .before .pre in (underway-first (p .0) (p .1 .0 .0) (p .1 .1), refl, refl, refl, refl, refl))
+    (λ c κs. let v = c .before .before .before .before .before .before .before .loop .inv in let h = c .before .before .before .before .before .before .before .before .before .before .before .before .before .before .pre .1 .0 .1 in (v .0 .ready, (let i = v .0 .index in omega (arith, i, h), c .before .before .before .before .before .if1 .taken)))
+    (λ c κs. search needs) (λ c. search needs) (λ c. search needs) (λ c. search needs) (λ c. search needs) (λ c. search needs)
+    (λ c. let v = c .before .before .before .before .before .before .before .before .before .before .before .before .before .before .before .before .before .before .before .before .before .loop .inv in ran-refused (v .0) (c .before .before .before .before .before .before .before .before .before .before .before .before .before .one .ensures) (c .before .if2 .taken) (c .answer-at .ensures))
+    (λ c. let h = c .before .before .before .before .before .before .before .before .before .before .before .before .one .ensures .on (c .if2 .left) in omega (arith, h))
+    (λ c. let v = c .before .before .before .before .before .before .before .before .before .before .before .before .before .before .before .before .before .before .before .before .loop .inv in let k = c .before .before .before .before .before .before .before .before .before .before .before .before .one .kept .1 .1 .1 .1 in
+    (underway-next (v .0) (c .before .before .before .before .before .before .before .before .before .before .before .before .one .ensures) (k .0) (c .if2 .left), k .0 ∙ v .1, k .1 .0 ∙ v .2, k .1 .1 .0 ∙ v .3, k .1 .1 .1 .0 ∙ v .4, k .1 .1 .1 .1 .0 ∙ v .5))
+    (λ c κs. search needs) (λ c. search needs) (λ c. search needs) (λ c. search needs) (λ c. search needs) (λ c. search needs)
+    (λ c. let v = c .before .before .before .loop .inv in let a = c .before .before .before .before .before .before .before .before .before .before .args in
+    ran-ended (v .0) (ended (instructionFrom (a .own)) (a .sheet .now) (c .before .before .before .loop .p .at) (c .before .if1 .left)) (c .answer-at2 .ensures)))

@@ -15,12 +15,16 @@ pub finish-spec : {M : Type 1} → statement M
 finish-spec =
     tie.close
     (tie.spec
-    (λ c κs. let f = c .before .before .pre in (f .listed, f .taken))
+    (λ c κs. let f = c .before .before .pre in (f .0 .listed, (f .0 .taken, f .1)))
     (λ c κs. search needs)
-    (λ c. λ rs e. too-long (subst (λ (x : Count). 65536 < x .bytes) (c .before .before .before .count-records .ensures rs e) (c .before .if1 .taken)) (c .refused .ensures))
-    (λ c. let f = c .before .before .before .before .before .before .before .before .pre in omega (arith, f .index, f .count))
-    (λ c. let f = c .before .before .before .before .before .before .before .before .pre in omega (arith, f .index, f .count))
-    (λ c. c .before .before .before .before .before .before .before .before .before .before .pre .few)
-    (λ c. let f = c .before .before .before .before .before .before .before .before .before .before .before .pre in let a = c .before .before .before .before .before .before .before .before .before .before .before .args in let l : length (take (a .t .added .count) (a .t .added .words)) ≡ a .t .added .count = simp length-take (omega (arith, f .few)) in sym l)
+    (λ c. λ i q rs e. too-long (subst (λ (x : Count). 65536 < x .bytes) (c .before .before .before .count-records .ensures i q rs e) (c .before .if1 .taken)) (c .refused .ensures))
+    (λ c. let f = c .before .before .before .before .before .before .before .before .pre .0 in omega (arith, f .index, f .count))
+    (λ c. let f = c .before .before .before .before .before .before .before .before .pre .0 in omega (arith, f .index, f .count))
+    (λ c. c .before .before .before .before .before .before .before .before .before .before .pre .0 .few)
+    (λ c. let f = c .before .before .before .before .before .before .before .before .before .before .before .pre .0 in let a = c .before .before .before .before .before .before .before .before .before .before .before .args in let l : length (take (a .t .added .count) (a .t .added .words)) ≡ a .t .added .count = simp length-take (omega (arith, f .few)) in sym l)
     (λ c κs. search needs) (λ c. search needs)
-    (λ c. λ rs e. let f = c .before .before .before .before .before .before .before .before .before .before .before .before .before .before .pre in let a = c .before .before .before .before .before .before .before .before .before .before .before .before .before .before .args in let n = c .before .before .before .before .before .before .before .before .before .before .before .count-records .ensures rs e in let l : length (take (a .t .added .count) (a .t .added .words)) ≡ a .t .added .count = simp length-take (omega (arith, f .few)) in let h : a .p .constants + length (take (a .t .added .count) (a .t .added .words)) ≤ length (a .constants .now) = omega (arith, l, f .count, f .words) in copied (subst (λ (x : Count). x .bytes ≤ 65536) n (c .before .before .before .before .before .before .before .before .before .if1 .left)) (ap (λ (x : Count). finished (a .t) x (a .next) (a .p)) n) (c .before .before .put-words .ensures ∙ stored-fits _ _ _ h)))
+    (λ c. λ i q rs e. let f = c .before .before .before .before .before .before .before .before .before .before .before .before .before .before .pre .0 in let a = c .before .before .before .before .before .before .before .before .before .before .before .before .before .before .args in
+    let n = c .before .before .before .before .before .before .before .before .before .before .before .count-records .ensures i q rs e in
+    let l : length (take (a .t .added .count) (a .t .added .words)) ≡ a .t .added .count = simp length-take (omega (arith, f .few)) in
+    let h : a .p .constants + length (take (a .t .added .count) (a .t .added .words)) ≤ length (a .constants .now) = omega (arith, l, f .count, f .words) in
+    copied (subst (λ (x : Count). x .bytes ≤ 65536) n (c .before .before .before .before .before .before .before .before .before .if1 .left)) (ap (λ (x : Count). finished (a .t) x (a .next) (a .p)) n) (c .before .before .put-words .ensures ∙ stored-fits _ _ _ h)))

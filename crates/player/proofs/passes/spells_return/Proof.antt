@@ -11,5 +11,5 @@ spells-return-spec =
     tie.close
     (tie.spec
     (λ c κs. search needs) (λ c κs. search needs)
-    (λ c. ap (λ l. eqb l 0) (c .byte .ensures) ∙ sym (return-at _ _ (sym (c .before .before .word .ensures) ∙ c .before .if1 .taken)))
-    (λ c. sym (return-of _ _ (λ e. c .if1 .left (c .before .word .ensures ∙ e)))))
+    (λ c. ap (λ l. eqb l 0) (c .byte .ensures) ∙ sym (return-at _ (sym (c .before .before .word .ensures) ∙ c .before .if1 .taken)))
+    (λ c. sym (return-of _ (λ e. c .if1 .left (c .before .word .ensures ∙ e)))))

@@ -8,9 +8,11 @@ look-at-spec =
     tie.close
     (tie.spec
     (λ c. search needs) (λ c. search needs) (λ c κs. search needs) (λ c. search needs) (λ c κs. search needs) (λ c. search needs)
-    (λ c κs. search needs) (λ c. search needs) (λ c κs. search needs) (λ c. search needs) (λ c κs. search needs)
+    (λ c κs. search needs) (λ c. search needs) (λ c κs. search needs) (λ c. search needs) (λ c κs. search needs) (λ c. search needs)
+    (λ c κs. search needs)
     (λ c. simp (c .before .before .before .before .before .q .given .1, c .before .before .rec .given .1) (c .sighted .ensures))
     (λ c. simp (c .before .before .before .before .before .q .given .1, c .before .before .rec2 .given .1) (c .sighted2 .ensures))
     (λ c. simp (c .before .before .before .before .before .q .given .1, c .before .before .rec3 .given .1) (c .sighted3 .ensures))
     (λ c. simp (c .before .before .before .before .before .q .given .1, c .before .before .rec4 .given .1) (c .sighted4 .ensures))
-    (λ c. simp (c .before .before .q2 .given .1) (c .sighted5 .ensures)))
+    (λ c. simp (c .before .before .before .before .before .q .given .1, c .before .before .rec5 .given .1) (c .sighted5 .ensures))
+    (λ c. simp (c .before .before .q2 .given .1) (c .sighted6 .ensures)))

@@ -13,8 +13,11 @@ record-spec =
     (tie.spec
     (λ c. search needs) (λ c κs. search needs) (λ c. search needs) (λ c. search needs) (λ c κs. search needs) (λ c. search needs)
     (λ c κs. search needs) (λ c. search needs) (λ c. search needs) (λ c κs. search needs) (λ c. search needs) (λ c κs. search needs)
-    (λ c. search needs) (λ c. search needs) (λ c κs. search needs) (λ c. search needs) (λ c κs. search needs)
+    (λ c. search needs) (λ c. search needs) (λ c κs. search needs) (λ c. search needs) (λ c κs. search needs) (λ c. search needs)
+    (λ c. search needs) (λ c κs. search needs) (λ c. search needs) (λ c κs. search needs) (λ c. search needs) (λ c κs. search needs)
+    (λ c κs. search needs) (λ c. search needs) (λ c κs. search needs)
     (λ c. simp (c .before .before .«record» .given .1) (c .work .ensures .0, c .work .ensures .1))
     (λ c. simp (c .before .before .before .before .record2 .given .1) (c .before .text .ensures ▹ c .number .ensures, omega arith))
     (λ c. simp (c .before .before .before .before .record3 .given .1) (c .before .text2 .ensures ▹ c .number2 .ensures, omega arith))
-    (λ c. simp (c .before .before .before .before .record4 .given .1) (c .before .text3 .ensures ▹ c .number3 .ensures, omega arith)))
+    (λ c. simp (c .before .before .before .before .record4 .given .1) (c .before .text3 .ensures ▹ c .number3 .ensures, omega arith))
+    (λ c. simp (c .before .before .before .before .before .before .before .before .record5 .given .1, ← c .before .flag-byte .ensures) (c .before .before .before .before .before .text4 .ensures ▹ c .before .before .before .registers .ensures ▹ c .before .before .number4 .ensures ▹ c .number5 .ensures, (omega arith, omega arith))))

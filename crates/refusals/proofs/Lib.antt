@@ -1,0 +1,3 @@
+pub mod Storing
+pub mod Marking
+pub mod Searching

@@ -1,0 +1,211 @@
+// A sheet's labels and branches: 10, where one is misplaced, and 11, where the records at a label differ from those at a branch to it.
+// What is known of a label stands in two lent tables by its number: a mark, and a row of 96 bytes.
+ghost use mathlib.Core.Path.{_≡_};
+ghost use mathlib.Core.Bool.{cond, _||_};
+ghost use mathlib.Core.List.{map};
+ghost use Prim.Native.Nat.{_≤_};
+ghost use lib.ListN.{length, drop, set};
+ghost use lib.Seq.{sets};
+ghost use Rattle.mir.specs.Encode.{flagByte};
+ghost use Rattle.mir.specs.Read.{got, refused};
+ghost use Rattle.lowering.specs.Labels.{labelSeen, sameBytes, labels, branches, role};
+ghost use Rattle.refusals.specs.Noted.{labelHere, recordBytes, row, unlike, seenIn, markSeen, markAll, isLabel, anyLabel, Passed, BranchNoted};
+use lowering::realness::Realness;
+use mir::fields::Head;
+use mir::fields::byte;
+use mir::fields::read_head;
+use mir::fields::word;
+use mir::records::Instruction;
+use mir::writer::flag_byte;
+use words::put_bytes;
+
+// A label's marks: one stands ahead; branches to it stood, all with the records in its row; they stood with unlike records; it stood
+// itself. Where none of its number stands ahead the mark is 0.
+const AHEAD: u8 = 1;
+
+const ROW: u8 = 2;
+
+const UNLIKE: u8 = 3;
+
+const STOOD: u8 = 4;
+
+fn set_mark(marks: &mut [u8], label: u8, mark: u8)
+    ensures { λ r. ⌜ now (marks .exit) ≡ set (now (marks .entry)) label mark ⌝ }
+{
+    let l = label as usize;
+    if l < marks.len() {
+        marks[l] = mark;
+    }
+}
+
+// Whether looking ahead stops at the record that bytes begin with: one that would earn 1. A kind that sheets do not take is passed.
+fn is_torn(s: &[u8]) -> bool
+    ensures { λ r. ⌜ labelSeen (now (s .entry)) ≡ cond r (refused 1) (got (labelHere (now (s .entry)))) ⌝ }
+{
+    match read_head(s, false) {
+        Head::Kind(kind) => false,
+        Head::Refused(number) => number == 1,
+    }
+}
+
+// Marks the label of the record that bytes begin with, where it is a Label; whether it is one.
+fn mark_label(s: &[u8], marks: &mut [u8]) -> bool
+    ensures { λ r. ⌜ (r ≡ isLabel (labelHere (now (s .entry))))
+        × (now (marks .exit) ≡ markSeen (labelHere (now (s .entry))) (now (marks .entry))) ⌝ }
+{
+    if word(s, 2) == 14 {
+        set_mark(marks, byte(s, 4), AHEAD);
+        return true;
+    }
+    false
+}
+
+fn either(x: bool, y: bool) -> bool
+    ensures { λ r. ⌜ r ≡ (x || y) ⌝ }
+{
+    if x { true } else { y }
+}
+
+// Marks the labels that stand from a position on, up to the first torn record; whether there is one.
+pub fn find_labels(sheet: &[u8], start: usize, marks: &mut [u8]) -> bool
+    ensures { λ r. ⌜ (r ≡ anyLabel (seenIn (drop start (now (sheet .entry)))))
+        × (now (marks .exit) ≡ markAll (seenIn (drop start (now (sheet .entry)))) (now (marks .entry))) ⌝ }
+{
+    let mut at = start;
+    let mut any = false;
+    while at < sheet.len() {
+        let s = &sheet[at..];
+        if is_torn(s) {
+            return any;
+        }
+        let found = mark_label(s, marks);
+        any = either(any, found);
+        let n = word(s, 0);
+        at += n as usize;
+    }
+    any
+}
+
+// The flags of the registers, as bytes.
+fn put_flags(regs: [bool; 32], bytes: &mut [u8])
+    requires { ⌜ 32 ≤ length (now bytes) ⌝ }
+    ensures { λ r. ⌜ now (bytes .exit) ≡ sets (now (bytes .entry)) 0 (map flagByte regs) ⌝ }
+{
+    let mut i: usize = 0;
+    while i < 32 {
+        bytes[i] = flag_byte(regs[i]);
+        i += 1;
+    }
+}
+
+fn record_bytes(real: Realness) -> [u8; 96]
+    ensures { λ r. ⌜ r ≡ recordBytes real ⌝ }
+{
+    let mut bytes = [0u8; 96];
+    let regs = real.regs;
+    put_flags(regs, &mut bytes);
+    let places = real.places;
+    put_bytes(&mut bytes, 32, &places);
+    bytes
+}
+
+// Whether a label's row holds these bytes.
+fn row_is(rows: &[u8], label: u8, bytes: [u8; 96]) -> bool
+    ensures { λ r. ⌜ r ≡ sameBytes (row label (now (rows .entry))) bytes ⌝ }
+{
+    let at = 96 * (label as usize);
+    let mut i: usize = 0;
+    while i < 96 {
+        if byte(rows, at + i) != bytes[i] {
+            return false;
+        }
+        i += 1;
+    }
+    true
+}
+
+// A branch to a label that stands ahead, with the records in these bytes.
+fn note_branch(label: u8, bytes: [u8; 96], marks: &mut [u8], rows: &mut [u8])
+    ensures { λ r. ⌜ BranchNoted label bytes (now (marks .entry)) (now (rows .entry)) (now (marks .exit)) (now (rows .exit)) ⌝ }
+{
+    let mark = byte(marks, label as usize);
+    if mark == AHEAD {
+        put_bytes(rows, 96 * (label as usize), &bytes);
+        set_mark(marks, label, ROW);
+        return;
+    }
+    if mark == ROW {
+        if !row_is(rows, label, bytes) {
+            set_mark(marks, label, UNLIKE);
+        }
+    }
+}
+
+fn pass_branch(label: u8, real: Realness, marks: &mut [u8], rows: &mut [u8]) -> u8
+    ensures { λ r. ⌜ Passed (branches label) real (now (marks .entry)) (now (rows .entry)) (now (marks .exit)) (now (rows .exit)) r ⌝ }
+{
+    let mark = byte(marks, label as usize);
+    if mark == 0 {
+        return 10;
+    }
+    if mark == STOOD {
+        return 10;
+    }
+    note_branch(label, record_bytes(real), marks, rows);
+    0
+}
+
+// Whether records differ from those at a branch to a label with this mark.
+fn is_unlike(mark: u8, label: u8, real: Realness, rows: &[u8]) -> bool
+    ensures { λ r. ⌜ r ≡ unlike mark (row label (now (rows .entry))) real ⌝ }
+{
+    if mark == ROW {
+        return !row_is(rows, label, record_bytes(real));
+    }
+    ROW < mark
+}
+
+fn pass_label(label: u8, real: Realness, marks: &mut [u8], rows: &[u8]) -> u8
+    ensures { λ r. ⌜ Passed (labels label) real (now (marks .entry)) (now (rows .entry)) (now (marks .exit)) (now (rows .entry)) r ⌝ }
+{
+    let mark = byte(marks, label as usize);
+    if mark == STOOD {
+        return 10;
+    }
+    if is_unlike(mark, label, real, rows) {
+        return 11;
+    }
+    set_mark(marks, label, STOOD);
+    0
+}
+
+// 10 or 11 where it refuses an instruction; else 0, and the tables are those behind it.
+pub fn pass(instruction: Instruction, real: Realness, marks: &mut [u8], rows: &mut [u8]) -> u8
+    ensures { λ r. ⌜ Passed (role instruction) real (now (marks .entry)) (now (rows .entry)) (now (marks .exit)) (now (rows .exit)) r ⌝ }
+{
+    match instruction {
+        Instruction::Nop => 0,
+        Instruction::Uni { op, dst, s1 } => 0,
+        Instruction::Bi { op, dst, s1, s2 } => 0,
+        Instruction::Mov { dst, s1 } => 0,
+        Instruction::Load { dst, loc } => 0,
+        Instruction::Save { src, loc } => 0,
+        Instruction::LoadConst { dst, idx } => 0,
+        Instruction::Fused { op, dst, a, b, c } => 0,
+        Instruction::IfElse {
+            dst,
+            true_val,
+            false_val,
+            cond,
+        } => 0,
+        Instruction::LoadMath { op, dst, s1, loc } => 0,
+        Instruction::LoadConstMath { op, dst, s1, idx } => 0,
+        Instruction::Label(label) => pass_label(label, real, marks, rows),
+        Instruction::Branch(label) => pass_branch(label, real, marks, rows),
+        Instruction::BranchIf {
+            cond,
+            label,
+            is_else,
+        } => pass_branch(label, real, marks, rows),
+    }
+}
