@@ -2,15 +2,15 @@
 ghost use Prim.Native.Nat.{_+_, _*_, _≤_};
 ghost use mathlib.Core.Path.{_≡_};
 ghost use lib.ListN.{length, take};
-ghost use Rattle.listing.specs.Puts.{Puts};
+ghost use Rattle.pages.specs.Puts.{Puts};
 ghost use Rattle.listing.specs.Printed.{textOf, printed};
 
 mod page;
 
 use complexify::entry::Answer;
 use complexify::entry::lower;
-use input::Input;
-use input::read_input;
+use files::read_all;
+use libc::STDIN_FILENO;
 use libc::STDOUT_FILENO;
 use page::put_line;
 use page::put_page;
@@ -46,12 +46,14 @@ fn put_sheet(sheet: &[u8], out: &mut [u8]) -> usize
 // 0 in any case, since the language has no other.
 fn main() {
     let mut sheet = [0u8; 16385];
-    let Input::Bytes(n) = read_input(&mut sheet) else {
+    let got = read_all(STDIN_FILENO, &mut sheet);
+    if !got.ok {
         os::fail(b"listing: standard input");
         return;
-    };
+    }
+    let n = got.len;
     let mut out = [0u8; 348320];
-    let m = put_sheet(&sheet[0..n], &mut out);
+    let m = put_sheet(&sheet[..n], &mut out);
     if !io::write_all(STDOUT_FILENO, &out[0..m]) {
         os::fail(b"listing: standard output");
     }

@@ -4,7 +4,7 @@ ghost use mathlib.Core.Path.{_≡_};
 ghost use lib.ListN.{length, take};
 ghost use Rattle.records.specs.Record.{records};
 ghost use Rattle.text.specs.Text.{constantLines, recordLines, page};
-ghost use Rattle.listing.specs.Puts.{Puts};
+ghost use Rattle.pages.specs.Puts.{Puts};
 use records::reader::NextRecord;
 use records::reader::read_record;
 use text::line::Line;
@@ -12,25 +12,13 @@ use text::lines::constant_line;
 use text::lines::constants_heading;
 use text::lines::listing_heading;
 use text::lines::record_line;
-use words::put_bytes;
-
-// Bytes from a position on; the position after them.
-fn put(out: &mut [u8], at: usize, s: &[u8]) -> usize
-    requires { ⌜ at + length (now s) ≤ length (now out) ⌝ }
-    ensures { λ r. ⌜ Puts (now (out .entry)) at (now (s .entry)) (now (out .exit)) r ⌝ }
-{
-    put_bytes(out, at, s);
-    at + s.len()
-}
 
 pub(crate) fn put_line(out: &mut [u8], at: usize, line: Line) -> usize
     requires { ⌜ at + line .len ≤ length (now out) ⌝ }
     requires { ⌜ line .len ≤ length (line .bytes) ⌝ }
     ensures { λ r. ⌜ Puts (now (out .entry)) at (take (line .len) (line .bytes)) (now (out .exit)) r ⌝ }
 {
-    let bytes = line.bytes;
-    let n = line.len;
-    put(out, at, &bytes[0..n])
+    pages::put_line(out, at, line)
 }
 
 fn put_constants(out: &mut [u8], start: usize, constants: &[u64]) -> usize

@@ -2,8 +2,8 @@
 ghost use Rattle.text.specs.Line.{emptyLine, Adds, Prints};
 ghost use Rattle.shelf.specs.Printed.{figuresText, printed};
 use figures::entry::shelf;
-use input::Input;
-use input::read_input;
+use files::read_all;
+use libc::STDIN_FILENO;
 use libc::STDOUT_FILENO;
 use text::line::Line;
 use text::line::empty_line;
@@ -40,11 +40,13 @@ fn text_of(sheet: &[u8]) -> Line
 // error; the program's status is 0 in any case, since the language has no other.
 fn main() {
     let mut sheet = [0u8; 16385];
-    let Input::Bytes(n) = read_input(&mut sheet) else {
+    let got = read_all(STDIN_FILENO, &mut sheet);
+    if !got.ok {
         os::fail(b"shelf: standard input");
         return;
-    };
-    let line = text_of(&sheet[0..n]);
+    }
+    let n = got.len;
+    let line = text_of(&sheet[..n]);
     let bytes = line.bytes;
     let m = line.len;
     if !io::write_all(STDOUT_FILENO, &bytes[0..m]) {

@@ -16,6 +16,8 @@ use Rattle.leftovers.specs.Examples.{mixing, clean, jumping, Needed, Met, Jumpe
 use Rattle.entries.specs.Entries.{EntriesDemand3}
 use Rattle.figures.specs.Shelf.{shelf}
 use Rattle.figures.specs.Told.{FiguresReported}
+use Rattle.assembly.specs.SheetText.{sheetText}
+use Rattle.assembly.specs.RoundTrip.{RoundTrip}
 
 -- all of it, one theorem a field
 pub record Theorems : Type 0 where
@@ -34,6 +36,8 @@ pub record Theorems : Type 0 where
   pub bySteps : PlaysBySteps most
   -- "These equal what lowering and playing report."
   pub figures : FiguresReported shelf
+  -- assembling the text of a readable sheet gives its bytes again
+  pub roundTrip : RoundTrip sheetText
   -- a record depends on the words that it draws on alone, and writes those that it fills alone
   pub confined : Confined draws fills
   -- Root goes to the nearest value, and there is one

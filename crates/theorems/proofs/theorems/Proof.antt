@@ -10,6 +10,7 @@ use Rattle.leftovers.proofs.Words.{parted}
 use Rattle.leftovers.proofs.Examples.{needed, met, jumped-over}
 use Rattle.entries.proofs.Demand.{entries-demand-3}
 use Rattle.figures.proofs.Theorem.{figures}
+use Rattle.assembly.proofs.Theorem.{round-trip}
 use Rattle.theorems.proofs.theorems.Statement.{statement}
 use Rattle.theorems.proofs.theorems.Tie as tie
 
@@ -24,6 +25,7 @@ returns c =
       bound = answer-bound;
       bySteps = by-steps;
       figures = figures;
+      roundTrip = round-trip;
       confined = confined;
       nearestRoot = root-nearest;
       oneRoot = one-root;

@@ -1,11 +1,8 @@
--- `page::put_line` meets its contract. Assumes nothing.
+-- `page::put_line` meets its contract.
 use borrow.Author.Needs.{needs}
 use native.Mathlib.Omega.{arith}
-use Prim.Native.Nat.{_-_}
-use mathlib.Core.Path.{_≡_, ap}
-use lib.ListN.{take}
 use lib.Seq.{length-take-le}
-use Rattle.listing.proofs.Putting.{renamed}
+use Rattle.pages.proofs.Putting.{putting}
 use Rattle.listing.proofs.page.put_line.Statement.{statement}
 use Rattle.listing.proofs.page.put_line.Tie as tie
 
@@ -13,13 +10,8 @@ pub put-line-spec : {M : Type 1} → statement M
 put-line-spec =
     tie.close
     (tie.spec
-    (λ c. search needs) (λ c. search needs) (λ c. search needs)
-    (λ c κs.
-    let l = c .before .before .before .before .before .args .line in
-    let h = length-take-le (l .len - 0) (l .bytes) (omega arith) in
-    omega (arith, h))
-    (λ c. search needs)
+    (λ c κs. search needs) (λ c. search needs)
     (λ c.
-    let l = c .before .before .before .before .before .before .before .before .args .line in
-    let e : l .len - 0 ≡ l .len = omega arith in
-    renamed (ap (λ n. take n (l .bytes)) e) (c .before .before .put .ensures)))
+    let l = c .before .before .before .before .before .args .line in
+    let n = length-take-le (l .len) (l .bytes) (omega arith) in
+    putting (omega (arith, n)) (c .before .before .put-line .ensures)))

@@ -3,7 +3,8 @@ use borrow.Author.Needs.{needs}
 use native.Mathlib.Omega.{arith}
 use lib.ListN.{length}
 use Rattle.records.specs.Record.{records}
-use Rattle.listing.proofs.Putting.{long, whole-fits, printing, constants-short, paged}
+use Rattle.pages.proofs.Putting.{long, whole-fits, printing}
+use Rattle.listing.proofs.Putting.{constants-short, paged}
 use Rattle.listing.proofs.page.put_page.Statement.{statement}
 use Rattle.listing.proofs.page.put_page.Tie as tie
 

@@ -1,0 +1,183 @@
+-- The instructions of a sheet, printed and assembled one after the other.
+use Prim.Native.Nat.{ℕ, zero, suc, _+_, _-_, _*_, _≤_, _<_}
+use mathlib.Core.Path.{_≡_, refl, sym, ap, _∙_, subst}
+use mathlib.Core.Bool.{Bool, true, false, not, cond}
+use mathlib.Core.List.{List, [], _∷_, _++_}
+use native.Mathlib.Omega.{arith}
+use borrow.Author.Tests.{ltb-true, ltb-false, le-ltb, eq-eqb, eqb-true}
+use lib.Dec.{ltb, eqb}
+use lib.ListN.{length, getD, take, drop, length-drop, drop-of-length-le}
+use lib.Seq.{length-take-le, getD-take, getD-drop, take-all, take-add, drop-drop}
+use Rattle.mir.specs.declared.records.Instruction.{Instruction}
+use Rattle.mir.specs.Length.{lengths, lengthOf}
+use Rattle.mir.specs.Read.{Read, got, refused, refuse, andThen}
+use Rattle.mir.specs.Field.{wordAt, takesKind, headFrom}
+use Rattle.mir.specs.Decode.{decoded, ahead}
+use Rattle.mir.proofs.Passing.{either}
+use Rattle.mir.proofs.Heads.{Sized, Headed, headed}
+use Rattle.mir.proofs.Decoding.{Bytes, items, fault, decoded-none, decoded-torn, decoded-got}
+use Rattle.sheet.specs.Instruction.{fieldsFrom, instructionFrom, uniFrom, biFrom, movFrom, loadFrom, saveFrom, loadConstFrom, fusedFrom, ifElseFrom, loadMathFrom, loadConstMathFrom, labelFrom, branchFrom, branchIfFrom}
+use Rattle.sheet.proofs.Reading.{whole}
+use Rattle.assembly.specs.Lines.{instructionLine}
+use Rattle.assembly.specs.SheetText.{instructionLines}
+use Rattle.assembly.specs.Assembled.{instruction, Sheet, grown, isGot, withLine}
+use Rattle.assembly.proofs.Saying.{Says, Onward, stay, _▹_, onward-as, by-line}
+use Rattle.assembly.proofs.Outcomes.{Outcome, read, told, tested, parted, outcome-of}
+use Rattle.assembly.proofs.Spelling.{Spelled, Reads, Kind, nop, uni, bi, mov, load, save, load-const, fused, if-else, load-math, load-const-math, label, branch, branch-if}
+
+-- what is read is what was read
+told-so : {A : Type 0} {P : A → Type 0} {x : Read A} → Outcome P x → Outcome (λ a. P a × (x ≡ got a)) x
+told-so (read p) = read (p, refl)
+told-so told = told
+
+module _ {n : ℕ} {s : List ℕ} where
+  choose : (kind j : ℕ) {x' x y' y : Read Instruction} → (kind ≡ j → Reads n s x' x) → Reads n s y' y
+      → Reads n s (cond (eqb kind j) x' y') (cond (eqb kind j) x y)
+  choose kind j {x'} {x} {y'} {y} h k = by (eqb kind j) refl
+    where
+      by : (b : Bool) → eqb kind j ≡ b → Reads n s (cond b x' y') (cond b x y)
+      by true e = h (eqb-true kind j e)
+      by false e = k
+
+module _ (s : List ℕ) (kind : ℕ) (bytes : Bytes s) (h : Headed (takesKind false) s kind) where
+  ofKind : (j n : ℕ) (x : List ℕ → Read Instruction) → lengthOf j ≡ n → Kind n j x → kind ≡ j
+      → Reads (wordAt s 0) s (x (take (wordAt s 0) s)) (x s)
+  ofKind j n x l k e =
+      let v : wordAt s 2 ≡ j = sym (h .same) ∙ e in
+      let w : wordAt s 0 ≡ n = sym (h .sized .rule) ∙ ap lengthOf v ∙ l in
+      subst (λ m. Reads m s (x (take m s)) (x s)) (sym w) (k s (subst (λ m. m ≤ length s) w (h .sized .inside)) bytes w v)
+
+  fields : (count : ℕ) → count ≤ 251 → Reads (wordAt s 0) s (fieldsFrom count kind (take (wordAt s 0) s)) (fieldsFrom count kind s)
+  unfolding fieldsFrom lengthOf lengths
+  fields count most =
+      choose kind 0 (ofKind 0 4 (λ s. got Instruction.Nop) refl nop)
+      (choose kind 1 (ofKind 1 7 uniFrom refl uni)
+      (choose kind 2 (ofKind 2 8 biFrom refl bi)
+      (choose kind 3 (ofKind 3 6 movFrom refl mov)
+      (choose kind 4 (ofKind 4 8 loadFrom refl load)
+      (choose kind 5 (ofKind 5 8 saveFrom refl save)
+      (choose kind 6 (ofKind 6 7 (loadConstFrom count) refl (load-const count most))
+      (choose kind 7 (ofKind 7 9 fusedFrom refl fused)
+      (choose kind 8 (ofKind 8 10 ifElseFrom refl if-else)
+      (choose kind 9 (ofKind 9 10 loadMathFrom refl load-math)
+      (choose kind 10 (ofKind 10 9 (loadConstMathFrom count) refl (load-const-math count most))
+      (choose kind 14 (ofKind 14 5 labelFrom refl label)
+      (choose kind 15 (ofKind 15 5 branchFrom refl branch)
+      (choose kind 17 (ofKind 17 7 branchIfFrom refl branch-if)
+      (record { outcome = told; local = refl }))))))))))))))
+
+-- a head is read from the record's own bytes
+head-again : (takes : ℕ → Bool) (t : List ℕ) (n kind : ℕ) → length t ≡ n → wordAt t 0 ≡ n → wordAt t 2 ≡ kind → 4 ≤ n → takes kind ≡ true
+    → lengthOf kind ≡ n
+    → headFrom takes t ≡ got kind
+unfolding headFrom
+head-again takes t n kind l w v h k e = simp (l, w, v, le-ltb n 4 h, le-ltb n n (omega arith), k, e, eq-eqb n n refl)
+
+front : (s : List ℕ) (n i : ℕ) → i + 1 < n → wordAt (take n s) i ≡ wordAt s i
+unfolding wordAt
+front s n i h = let a = getD-take n s i 0 (omega arith) in let b = getD-take n s (i + 1) 0 h in λ j. a j + 256 * b j
+
+head-outcome : (takes : ℕ → Bool) (s : List ℕ) → Outcome (Headed takes s) (headFrom takes s)
+unfolding headFrom
+head-outcome takes s =
+    outcome-of (λ kind p. headed takes s kind (p .1))
+    (told-so {P = λ k. Unit {0}}
+    (tested (ltb (length s) 4) 0
+    (λ e. tested (ltb (wordAt s 0) 4) 0
+    (λ e. tested (ltb (length s) (wordAt s 0)) 0
+    (λ e. tested (not (takes (wordAt s 2))) 1
+    (λ e. tested (not (eqb (lengthOf (wordAt s 2)) (wordAt s 0))) 0 (λ e. read tt)))))))
+
+-- an instruction that is read
+record Good (count : ℕ) (s : List ℕ) (i : Instruction) : Type 0 where
+  spelled : Spelled (wordAt s 0) s i
+  again : instructionFrom count (take (wordAt s 0) s) ≡ got i
+  sized : Sized s
+
+good : (count : ℕ) (s : List ℕ) → count ≤ 251 → Bytes s → Outcome (Good count s) (instructionFrom count s)
+unfolding instructionFrom
+good count s most bytes =
+    parted (head-outcome (takesKind false) s)
+    (λ kind h.
+    let r = fields s kind bytes h count most in
+    let n = wordAt s 0 in
+    let z = h .sized in
+    let e : headFrom (takesKind false) (take n s) ≡ got kind =
+    head-again (takesKind false) (take n s) n kind (length-take-le n s (z .inside)) (front s n 0 (omega (arith, z .least)))
+    (front s n 2 (omega (arith, z .least)) ∙ sym (h .same)) (z .least) (h .taken) (ap lengthOf (h .same) ∙ z .rule) in
+    outcome-of (λ i p.
+    record {
+      spelled = p .0;
+      again = ap (λ x. andThen x (λ kind. fieldsFrom count kind (take n s))) e ∙ r .local ∙ p .1;
+      sized = z;
+    }) (told-so (r .outcome)))
+
+-- where the lines of the instructions from a position on lead
+pub record Reached (s : List ℕ) (count at stage : ℕ) (text : List ℕ) : Type 0 where
+  pub far : ℕ
+  pub some : 1 ≤ far
+  pub way : Onward (record { bytes = take at s; count = count; stage = stage }) text (record { bytes = s; count = count; stage = far })
+
+module _ (s : List ℕ) (count : ℕ) (most : count ≤ 251) (long : length s ≤ 16384) (bytes : Bytes s) where
+  abbrev reader : List ℕ → Read Instruction
+  reader = instructionFrom count
+
+  at-end : (at stage : ℕ) → length s ≤ at → 1 ≤ stage → Reached s count at stage (instructionLines (items reader (drop at s)))
+  unfolding instructionLines
+  at-end at stage h k =
+      let e : items reader (drop at s) ≡ [] = ap (λ l. items reader l) (drop-of-length-le s h) ∙ ap (λ d. d .items) (decoded-none reader) in
+      record {
+        far = stage;
+        some = k;
+        way = onward-as (ap instructionLines (sym e)) (ap (λ b. record { bytes = b; count = count; stage = stage }) (take-all at s h)) stay;
+      }
+
+  one : (at stage : ℕ) (i : Instruction) → at ≤ length s → 1 ≤ stage → Good count (drop at s) i
+      → Onward (record { bytes = take at s; count = count; stage = stage }) (instructionLine i)
+      (record { bytes = take (at + wordAt (drop at s) 0) s; count = count; stage = 3 })
+  unfolding withLine grown
+  one at stage i h k g =
+      let u = drop at s in
+      let n = wordAt u 0 in
+      let d = length-drop at s in
+      let z = g .sized in
+      let p = length-take-le at s h in
+      let q = length-take-le n u (z .inside) in
+      let f : ltb 16384 (length (take at s) + length (take n u)) ≡ false = le-ltb 16384 (length (take at s) + length (take n u)) (omega (arith, p, q, d, z .inside, long)) in
+      by-line (g .spelled) k
+      (ap (λ x. refuse (not (isGot x)) 3 (refuse (ltb 16384 (length (take at s) + length (take n u))) 2 (got (record { bytes = take at s ++ take n u; count = count; stage = 3 })))) (g .again)
+      ∙ ap (λ t. refuse t 2 (got (record { bytes = take at s ++ take n u; count = count; stage = 3 }))) f
+      ∙ ap (λ b. got (record { bytes = b; count = count; stage = 3 })) (sym (take-add at n s)))
+
+  -- the instruction at a position, and those behind it
+  next : (at stage : ℕ) → at < length s → 1 ≤ stage → fault reader (drop at s) ≡ 0
+      → ((m : ℕ) → at < m → m ≤ length s → fault reader (drop m s) ≡ 0 → Reached s count m 3 (instructionLines (items reader (drop m s))))
+      → (x : Read Instruction) → reader (drop at s) ≡ x → Outcome (Good count (drop at s)) x
+      → Reached s count at stage (instructionLines (items reader (drop at s)))
+  unfolding instructionLines
+  next at stage h k e more (got i) f (read g) =
+      let n = wordAt (drop at s) 0 in
+      let d = length-drop at s in
+      let z = g .sized in
+      let q = decoded-got reader (whole count) (drop at s) i f ∙ ap (λ l. ahead i (decoded reader l)) (drop-drop n at s) in
+      let r = more (at + n) (omega (arith, z .least)) (omega (arith, z .inside, z .least, d)) (sym (ap (λ d. d .fault) q) ∙ e) in
+      record {
+        far = r .far;
+        some = r .some;
+        way = onward-as (ap instructionLines (sym (ap (λ d. d .items) q))) refl (one at stage i (omega arith) k g ▹ r .way);
+      }
+  next at stage h k e more (refused (suc m)) f told =
+      let d = length-drop at s in
+      let q = decoded-torn reader (drop at s) (suc m) f (omega (arith, h, d)) in
+      let z : suc m ≡ 0 = sym (ap (λ d. d .fault) q) ∙ e in
+      absurd (omega (arith, z))
+
+  pub all : (fuel at stage : ℕ) → length s ≤ fuel + at → at ≤ length s → 1 ≤ stage → fault reader (drop at s) ≡ 0
+      → Reached s count at stage (instructionLines (items reader (drop at s)))
+  all zero at stage h l k e = at-end at stage (omega arith) k
+  all (suc fuel) at stage h l k e =
+      either (ltb at (length s))
+      (λ t.
+      next at stage (ltb-true at (length s) t) k e (λ m a b f. all fuel m 3 (omega arith) b (omega arith) f) (reader (drop at s)) refl
+      (good count (drop at s) most (λ i. subst (λ x. x < 256) (sym (getD-drop at s i 0)) (bytes (at + i)))))
+      (λ t. at-end at stage (ltb-false at (length s) t) k)

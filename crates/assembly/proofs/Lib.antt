@@ -1,0 +1,25 @@
+mod Short
+mod Chains
+mod Pieces
+mod Cutting
+mod Digits
+mod Sorting
+mod Wording
+mod Words
+mod Table
+mod Every
+mod Heard
+mod Marking
+mod Growing
+mod Stepping
+mod Writing
+mod LineRead
+mod Saying
+mod Rows
+mod Outcomes
+mod Spelling
+mod Instructing
+mod Hexing
+mod Constants
+mod Reals
+pub mod Theorem

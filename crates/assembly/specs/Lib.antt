@@ -1,0 +1,6 @@
+pub mod Lines
+pub mod SheetText
+pub mod Assembled
+pub mod RoundTrip
+pub mod Reading
+pub mod Making

@@ -1,0 +1,41 @@
+-- How the program reads a text: by positions in its bytes. The answers of the code, as the definitions' own.
+use Prim.Native.Nat.{ℕ, zero, suc}
+use mathlib.Core.Bool.{cond}
+use mathlib.Core.List.{List, [], _∷_}
+use lib.Dec.{eqb}
+use Rattle.mir.specs.Read.{Read, got, refused, andThen}
+use Rattle.text.specs.declared.line.Line.{Line}
+use Rattle.text.specs.Line.{emptyLine, addAll}
+use Rattle.assembly.specs.declared.reading.Number.{Number}
+use Rattle.assembly.specs.declared.reading.Taken.{Taken}
+use Rattle.assembly.specs.Assembled.{Head, Sort, aRegister, aClass, anIndex, aByte, aMode, bits, wordBytes}
+
+-- how many bytes stand before the first byte c
+unfoldable pub before : ℕ → List ℕ → ℕ
+before c [] = 0
+before c (b ∷ s) = cond (eqb b c) 0 (suc (before c s))
+
+abbrev pub asNumber : Number → Read ℕ
+asNumber (Number.At n) = got n
+asNumber Number.None = refused 3
+
+-- the sorts of words by letter: r, c, i, n, m, and another for a constant's bits
+abbrev pub sortOf : ℕ → Sort
+sortOf b =
+    cond (eqb b 114) aRegister
+    (cond (eqb b 99) aClass (cond (eqb b 105) anIndex (cond (eqb b 110) aByte (cond (eqb b 109) aMode bits))))
+
+abbrev pub asTaken : Taken → Read Line
+asTaken t = cond (t .ok) (got (t .line)) (refused 3)
+
+-- a line's bytes with those of its other words, by their sorts: as many words as sorts
+unfoldable pub wordsPut : List Sort → Line → List (List ℕ) → Read Line
+unfolding wordBytes
+wordsPut [] line [] = got line
+wordsPut [] line (w ∷ ws) = refused 3
+wordsPut (k ∷ ks) line [] = refused 3
+wordsPut (k ∷ ks) line (w ∷ ws) = andThen (wordBytes k w) (λ b. wordsPut ks (addAll line b) ws)
+
+-- the bytes of a line by its first word, from the other words
+abbrev pub headPut : Head → List (List ℕ) → Read Line
+headPut h ws = wordsPut (h .sorts) (addAll emptyLine (h .start)) ws

@@ -1,0 +1,73 @@
+// lower_sheet SHEET LISTING CONSTANTS: lowers a sheet, makes the files of its listing and of its constants, and says what came of it. On a
+// refusal no file is made.
+ghost use Rattle.text.specs.Line.{Prints};
+ghost use Rattle.interface.specs.Calls.{lowerCall};
+ghost use Rattle.lower_sheet.specs.Lowers.{answerLine, Lowers};
+use interface::tulipcricket_lower_unguarded;
+use reports::lowered_line;
+use text::line::Line;
+use words::word_at;
+
+// The line for an answer of lowering.
+fn answer_line(answer: &[u8]) -> Line
+    ensures { λ r. ⌜ Prints (answerLine (now (answer .entry))) r ⌝ }
+{
+    lowered_line(
+        word_at(answer, 0),
+        word_at(answer, 8),
+        word_at(answer, 16),
+        word_at(answer, 24),
+    )
+}
+
+// Lowers into the lent bytes, and gives the line for what came of it.
+fn lower_bytes(sheet: &[u8], listing: &mut [u8], constants: &mut [u8], answer: &mut [u8]) -> Line
+    ensures { λ r. ⌜ Lowers (lowerCall (now (sheet .entry)) (now (listing .entry)) (now (constants .entry)) (now (answer .entry))) (now (listing .exit)) (now (constants .exit)) (now (answer .exit)) r ⌝ }
+{
+    tulipcricket_lower_unguarded(sheet, listing, constants, answer);
+    answer_line(answer)
+}
+
+fn print(line: Line) {
+    let bytes = line.bytes;
+    files::print(&bytes, line.len);
+}
+
+// Makes both files, or neither.
+fn make_files(listing: &[u8], bytes: usize, constants: &[u8], words: usize) -> bool {
+    if files::make_arg(2, listing, bytes) != 0 {
+        return false;
+    }
+    let size = if words < 256 { 8 * words } else { 2048 };
+    if files::make_arg(3, constants, size) == 0 {
+        return true;
+    }
+    files::remove_arg(2);
+    false
+}
+
+fn lower_file(sheet: &[u8]) {
+    let mut listing = [0u8; 65536];
+    let mut constants = [0u8; 2048];
+    let mut answer = [0u8; 128];
+    let line = lower_bytes(sheet, &mut listing, &mut constants, &mut answer);
+    let bytes = word_at(&answer, 16) as usize;
+    let words = word_at(&answer, 24) as usize;
+    if word_at(&answer, 0) == 0 && !make_files(&listing, bytes, &constants, words) {
+        return;
+    }
+    print(line);
+}
+
+// One byte more than the longest sheet is read, so that a longer one is refused and not cut.
+fn main() {
+    if !files::usage(os::arg_count() == 4, b"lower_sheet SHEET LISTING CONSTANTS") {
+        return;
+    }
+    let mut sheet = [0u8; 16385];
+    let got = files::read_arg(1, &mut sheet);
+    let n = got.len;
+    if got.ok {
+        lower_file(&sheet[..n]);
+    }
+}

@@ -1,0 +1,58 @@
+-- `start::start_of` meets its contract. The invariant: what the digits behind the position spell after the number so far is the whole.
+use borrow.Author.Needs.{needs}
+use native.Mathlib.Omega.{arith}
+use Prim.Native.Nat.{_-_}
+use mathlib.Core.Path.{_≡_, refl, sym, _∙_}
+use lib.ListN.{length, drop}
+use Rattle.play_listing.specs.Start.{startFrom}
+use Rattle.play_listing.proofs.Digits.{no-digit, some-digit, below, above, large, digit, spelled}
+use Rattle.play_listing.proofs.start.start_of.Statement.{statement}
+use Rattle.play_listing.proofs.start.start_of.Tie as tie
+
+abbrev Inv-loop : tie.InvT-loop
+Inv-loop s n₀ i₀ n i = startFrom n (drop i s) ≡ startFrom 0 s
+
+abbrev μ-loop : tie.MeasureT-loop
+μ-loop s n₀ i₀ n i = length s - i
+
+pub start-of-spec : {M : Type 1} → statement M
+start-of-spec =
+    tie.close
+    (tie.spec
+    Inv-loop
+    μ-loop
+    (λ c κs. search needs)
+    (λ c. c .none .ensures ∙ no-digit (c .before .before .before .args .s .now) (c .before .if1 .taken))
+    (λ c. refl)
+    (λ c. omega arith) (λ c κs. search needs)
+    (λ c.
+    let s = c .before .before .before .before .before .before .before .args .s .now in
+    let l = c .before .before .before .before .loop in
+    c .none2 .ensures
+    ∙ sym (below s (l .n) (l .i) (c .before .before .before .loop-test .taken) (c .before .if2 .taken))
+    ∙ l .inv
+    ∙ some-digit s (c .before .before .before .before .before .if1 .left))
+    (λ c κs. search needs)
+    (λ c.
+    let s = c .before .before .before .before .before .before .before .before .args .s .now in
+    let l = c .before .before .before .before .before .loop in
+    c .none3 .ensures
+    ∙ sym (above s (l .n) (l .i) (c .before .before .before .before .loop-test .taken) (c .before .before .if2 .left) (c .before .if3 .taken))
+    ∙ l .inv
+    ∙ some-digit s (c .before .before .before .before .before .before .if1 .left))
+    (λ c κs. search needs)
+    (λ c.
+    let s = c .before .before .before .before .before .before .before .before .before .args .s .now in
+    let l = c .before .before .before .before .before .before .loop in
+    c .none4 .ensures
+    ∙ sym (large s (l .n) (l .i) (c .before .before .before .before .before .loop-test .taken) (c .before .before .before .if2 .left) (c .before .before .if3 .left) (c .before .if4 .taken))
+    ∙ l .inv
+    ∙ some-digit s (c .before .before .before .before .before .before .before .if1 .left))
+    (λ c. omega arith) (λ c. omega arith) (λ c. omega arith) (λ c. omega arith) (λ c. omega arith) (λ c. omega arith)
+    (λ c.
+    let l = c .before .before .before .before .before .loop in
+    sym (digit (c .before .before .before .before .before .before .before .before .args .s .now) (l .n) (l .i) (c .before .before .before .before .loop-test .taken) (c .before .before .if2 .left) (c .before .if3 .left) (c .if4 .left)) ∙ l .inv)
+    (λ c.
+    let s = c .before .before .before .before .args .s .now in
+    let l = c .before .loop in
+    sym (spelled s (l .n) (l .i) (c .loop-test .left)) ∙ l .inv ∙ some-digit s (c .before .before .if1 .left)))
