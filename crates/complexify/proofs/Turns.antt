@@ -13,14 +13,14 @@ use Rattle.mir.specs.declared.records.Instruction.{Instruction}
 use Rattle.mir.specs.Encode.{Buf, buf, encodeAll}
 use Rattle.mir.proofs.Passing.{either}
 use Rattle.mir.proofs.Decoding.{Here, Done}
-use Rattle.mir.specs.Read.{got}
+use Rattle.mir.specs.Read.{Read, got, refused, andThen}
 use Rattle.mir.specs.Field.{wordAt}
 use Rattle.mir.specs.Decode.{readAt, Decoded, decoded}
-use Rattle.mir.proofs.Passing.{then, got-same}
 use Rattle.sheet.specs.declared.setup.Mode.{Mode}
 use Rattle.sheet.specs.declared.reader.NextInstruction.{NextInstruction}
 use Rattle.sheet.specs.Setup.{isStable}
 use Rattle.sheet.specs.Instruction.{instructionFrom, instructionAt, asNext}
+use Rattle.sheet.proofs.Reading.{here-instruction, past-instruction, torn-instruction}
 use Rattle.lowering.specs.declared.realness.Realness.{Realness}
 use Rattle.lowering.specs.Complexifier.{State}
 use Rattle.lowering.specs.Rerun.{rerun}
@@ -36,11 +36,11 @@ use Rattle.complexify.specs.declared.turn.Cursor.{Cursor}
 use Rattle.complexify.specs.declared.turn.Next.{Next}
 use Rattle.complexify.specs.Entry.{answerOf}
 use Rattle.rerun.specs.Ends.{Ends, tabled, untabled}
-use Rattle.refusals.specs.Noted.{Noted}
-use Rattle.complexify.specs.Taken.{space, Ready, Appended, endedAt, goesOn, left, refusal, finished, full, Finished, Fits, Extended, LoweredOne, Goes, Taken, Ran}
+use Rattle.refusals.specs.Noted.{Noted, roleRead, tell, PassedFirst}
+use Rattle.complexify.specs.Taken.{space, Ready, Appended, endedAt, goesOn, left, refusal, finished, full, Finished, Fits, Extended, LoweredOne, Taken, Ran}
 use Rattle.complexify.proofs.Bounds.{staged, spaced}
 use Rattle.complexify.proofs.Copies.{taken, kept-store, kept-none, kept-then}
-use Rattle.refusals.proofs.Marking.{standsAt, SeenFirst, labelRefusal, Follows}
+use Rattle.refusals.proofs.Marking.{standsAt, SeenFirst, labelRefusal, Follows, follows, passed-as}
 
 no : {X : Type 0} → true ≡ false → X
 no e = absurd (subst T e tt)
@@ -304,6 +304,20 @@ module _ (mode : Mode) (i : Instruction) {stage stage' listing constants : List 
 
 -- ---- one turn
 
+-- the work from here on, where b stand before, is the work from there on, where `before` do
+pub record Goes (mode : Mode) (own : ℕ) (sheet : List ℕ) (b : Standing) (listing constants : List ℕ) (p : Cursor) (listing' constants' marks' rows' : List ℕ) (r : Next) : Type 0 where
+  pub before : Standing
+  pub same : left mode (length listing) own sheet b listing constants p
+      ≡ cond (r .done) (endedAt (r .number) listing' constants' (r .stand)) (left mode (length listing) own sheet before listing' constants' (r .stand))
+  pub noted : r .done ≡ false → Noted before (drop (r .stand .at) sheet) marks' rows'
+
+-- one turn of the loop: the labels tested, the instruction taken
+pub record Turn (mode : Mode) (own : ℕ) (sheet listing constants marks rows : List ℕ) (p : Cursor) (listing' constants' marks' rows' : List ℕ) (r : Next) : Type 0 where
+  pub goes : (b : Standing) → Noted b (drop (p .at) sheet) marks rows → Goes mode own sheet b listing constants p listing' constants' marks' rows' r
+  pub on : r .done ≡ false → p .at < r .stand .at
+  pub index : r .done ≡ false → r .stand .index ≡ suc (p .index)
+  pub turned : Extended listing constants p listing' constants' r
+
 on-false : (b : Bool) (x y : Ended) → b ≡ false → cond b x y ≡ y
 on-false b x y e = simp e
 
@@ -323,15 +337,6 @@ stopped mode room own sheet b listing constants p k h =
     ap (λ is. goesOn mode room is (d .fault) rest b listing constants p) (h .same)
     ∙ ap (λ f. goesOn mode room [] f rest b listing constants p) (h .why)
     ∙ lower-end mode room k _ _ _ _ _
-
--- the instruction that was read
-pub read-one : (own : ℕ) (sheet : List ℕ) (at : ℕ) {r : NextInstruction} {i : Instruction} {next : ℕ} → asNext r ≡ instructionAt own sheet at
-    → r ≡ NextInstruction.Got i next → instructionFrom own (drop at sheet) ≡ got i
-unfolding readAt
-read-one own sheet at {r} {i} {next} e f =
-    let t = then (instructionFrom own (drop at sheet)) (λ i. got (record { item = i; next = at + wordAt (drop at sheet) 0 }))
-    (record { item = i; next = next }) (sym e ∙ ap asNext f) in
-    t .found ∙ ap (λ y. got (y .item)) (got-same _ _ (t .rest))
 
 -- what looking ahead sees first
 pub seen : (own : ℕ) (rest : List ℕ) (i : Instruction) → instructionFrom own rest ≡ got i → SeenFirst (role i) rest
@@ -357,9 +362,9 @@ stands-here mode own sheet b listing constants p {i} {next} h =
 module _ {mode : Mode} {own : ℕ} {sheet listing constants marks rows : List ℕ} {p : Cursor} where
   module _ {i : Instruction} {next : ℕ} {marks' rows' : List ℕ} {n : ℕ} (h : Here (instructionFrom own) sheet (p .at) i next)
       (e : instructionFrom own (drop (p .at) sheet) ≡ got i) (w : Follows (role i) (p .low .real) marks rows marks' rows' n) where
-    pub turn-got : {listing' constants' : List ℕ} {r : Next} → past (drop (p .at) sheet) ≡ drop next sheet → n ≡ 0
+    turn-got : {listing' constants' : List ℕ} {r : Next} → past (drop (p .at) sheet) ≡ drop next sheet → n ≡ 0
         → LoweredOne mode i next listing constants p listing' constants' r
-        → Taken mode own sheet listing constants marks rows p listing' constants' marks' rows' r
+        → Turn mode own sheet listing constants marks rows p listing' constants' marks' rows' r
     turn-got {listing'} {constants'} {r} g z l =
         record {
           goes = λ b t.
@@ -385,8 +390,8 @@ module _ {mode : Mode} {own : ℕ} {sheet listing constants marks rows : List �
         }
 
     -- 10 or 11 refuses it
-    pub turn-refused : {stage : List ℕ} → Ready stage listing constants p → (n ≡ 0 → ⊥)
-        → Taken mode own sheet listing constants marks rows p listing constants marks' rows' (refusal n p)
+    turn-refused : {stage : List ℕ} → Ready stage listing constants p → (n ≡ 0 → ⊥)
+        → Turn mode own sheet listing constants marks rows p listing constants marks' rows' (refusal n p)
     turn-refused r z =
         record {
           goes = λ b t.
@@ -401,15 +406,87 @@ module _ {mode : Mode} {own : ℕ} {sheet listing constants marks rows : List �
           turned = unchanged n r;
         }
 
-  pub turn-torn : {stage : List ℕ} {k : ℕ} → Ready stage listing constants p → Done (instructionFrom own) sheet (p .at) k
-      → Taken mode own sheet listing constants marks rows p listing constants marks rows (refusal k p)
-  turn-torn {stage} {k} r h =
+  turn-torn : {stage marks' rows' : List ℕ} {k : ℕ} → Ready stage listing constants p → Done (instructionFrom own) sheet (p .at) k
+      → Turn mode own sheet listing constants marks rows p listing constants marks' rows' (refusal k p)
+  turn-torn {k = k} r h =
       record {
         goes = λ b t. record { before = b; same = stopped mode (length listing) own sheet b listing constants p k h; noted = no };
         on = no;
         index = no;
         turned = unchanged k r;
       }
+
+-- the code's answer
+module _ (own : ℕ) (sheet : List ℕ) (at : ℕ) (mode : Mode) (listing constants : List ℕ) {p : Cursor} {r : Next} {a : NextInstruction} where
+  pub one-got : {i : Instruction} {next : ℕ} {listing' constants' : List ℕ} → asNext a ≡ instructionAt own sheet at → a ≡ NextInstruction.Got i next
+      → LoweredOne mode i next listing constants p listing' constants' r
+      → Taken mode listing constants p listing' constants' r (instructionAt own sheet at)
+  one-got {listing' = listing'} {constants' = constants'} e f l =
+      subst (λ x. Taken mode listing constants p listing' constants' r x) (sym (ap asNext f) ∙ e) l
+
+  pub one-refused : {n : ℕ} → asNext a ≡ instructionAt own sheet at → a ≡ NextInstruction.Refused n → r ≡ refusal n p
+      → Taken mode listing constants p listing constants r (instructionAt own sheet at)
+  one-refused e f h = subst (λ x. Taken mode listing constants p listing constants r x) (sym (ap asNext f) ∙ e) (h, refl, refl)
+
+-- by what is read at the position
+abbrev pub behind : List ℕ → ℕ → ℕ
+behind sheet at = at + wordAt (drop at sheet) 0
+
+module _ (own : ℕ) (sheet : List ℕ) (at : ℕ) where
+  pub at-got : (i : Instruction) → instructionFrom own (drop at sheet) ≡ got i
+      → instructionAt own sheet at ≡ got (record { item = i; next = behind sheet at })
+  unfolding readAt
+  at-got i e = ap (λ x. andThen x (λ i. got (record { item = i; next = behind sheet at }))) e
+
+  pub at-refused : (k : ℕ) → instructionFrom own (drop at sheet) ≡ refused k → instructionAt own sheet at ≡ refused k
+  unfolding readAt
+  at-refused k e = ap (λ x. andThen x (λ i. got (record { item = i; next = behind sheet at }))) e
+
+  pub here-got : (i : Instruction) → instructionFrom own (drop at sheet) ≡ got i → Here (instructionFrom own) sheet at i (behind sheet at)
+  here-got i e = here-instruction own sheet at {r = NextInstruction.Got i (behind sheet at)} (sym (at-got i e)) refl
+
+  pub past-got : (i : Instruction) → instructionFrom own (drop at sheet) ≡ got i → past (drop at sheet) ≡ drop (behind sheet at) sheet
+  past-got i e = past-instruction own sheet at {r = NextInstruction.Got i (behind sheet at)} (sym (at-got i e)) refl
+
+  pub done-refused : (k : ℕ) → instructionFrom own (drop at sheet) ≡ refused k → at < length sheet → Done (instructionFrom own) sheet at k
+  done-refused k e h = torn-instruction own sheet at {r = NextInstruction.Refused k} (sym (at-refused k e)) refl h
+
+  -- what the tables tell of it
+  module _ {ρ : Realness} {marks rows marks' rows' : List ℕ} {n : ℕ} (t : PassedFirst (drop at sheet) ρ marks rows marks' rows' n) where
+    pub told : (i : Instruction) → instructionFrom own (drop at sheet) ≡ got i → Follows (role i) ρ marks rows marks' rows' n
+    told i e = follows (passed-as (sym (ap roleRead e)) (t own))
+
+    pub untold : (k : ℕ) → instructionFrom own (drop at sheet) ≡ refused k → n ≡ 0
+    untold k e = t own .told ∙ ap (λ (i : Role). tell i ρ marks rows) (ap roleRead e)
+
+-- the labels tested: a number refuses, or the instruction is taken
+module _ {mode : Mode} {own : ℕ} {sheet stage listing constants marks rows marks' rows' : List ℕ} {p : Cursor} {n : ℕ}
+    (ready : Ready stage listing constants p) (t : PassedFirst (drop (p .at) sheet) (p .low .real) marks rows marks' rows' n) where
+  pub turn-halted : (n ≡ 0 → ⊥) → Turn mode own sheet listing constants marks rows p listing constants marks' rows' (refusal n p)
+  turn-halted z = go (instructionFrom own (drop (p .at) sheet)) refl
+    where
+      go : (x : Read Instruction) → instructionFrom own (drop (p .at) sheet) ≡ x
+          → Turn mode own sheet listing constants marks rows p listing constants marks' rows' (refusal n p)
+      go (got i) e = turn-refused (here-got own sheet (p .at) i e) e (told own sheet (p .at) t i e) ready z
+      go (refused k) e = absurd (z (untold own sheet (p .at) t k e))
+
+  pub turn-taken : {listing' constants' : List ℕ} {r : Next} → p .at < length sheet → n ≡ 0
+      → Taken mode listing constants p listing' constants' r (instructionAt own sheet (p .at))
+      → Turn mode own sheet listing constants marks rows p listing' constants' marks' rows' r
+  turn-taken {listing'} {constants'} {r} inside z l = go (instructionFrom own (drop (p .at) sheet)) refl
+    where
+      go : (x : Read Instruction) → instructionFrom own (drop (p .at) sheet) ≡ x
+          → Turn mode own sheet listing constants marks rows p listing' constants' marks' rows' r
+      go (got i) e =
+          turn-got (here-got own sheet (p .at) i e) e (told own sheet (p .at) t i e) (past-got own sheet (p .at) i e) z
+          (subst (λ x. Taken mode listing constants p listing' constants' r x) (at-got own sheet (p .at) i e) l)
+      go (refused k) e =
+          let q : (r ≡ refusal k p) × (listing' ≡ listing) × (constants' ≡ constants)
+          = subst (λ x. Taken mode listing constants p listing' constants' r x) (at-refused own sheet (p .at) k e) l in
+          subst (λ r. Turn mode own sheet listing constants marks rows p listing' constants' marks' rows' r) (sym (q .0))
+          (subst (λ k'. Turn mode own sheet listing constants marks rows p listing' k' marks' rows' (refusal k p)) (sym (q .2))
+          (subst (λ l'. Turn mode own sheet listing constants marks rows p l' constants marks' rows' (refusal k p)) (sym (q .1))
+          (turn-torn ready (done-refused own sheet (p .at) k e inside))))
 
 -- the answer where the work ends
 ran : {whole : Ended} {listing constants : List ℕ} {start : Cursor} {listing' constants' : List ℕ} (number : ℕ) (p : Cursor) {a : Answer}
@@ -456,7 +533,7 @@ module _ {mode : Mode} {own : ℕ} {sheet listing₀ constants₀ : List ℕ} {s
       }
 
   module _ {stage listing constants marks rows : List ℕ} {p : Cursor} (s : Underway mode own sheet listing₀ constants₀ start stage listing constants marks rows p) where
-    module _ {listing' constants' marks' rows' : List ℕ} {r : Next} (t : Taken mode own sheet listing constants marks rows p listing' constants' marks' rows' r) where
+    module _ {listing' constants' marks' rows' : List ℕ} {r : Next} (t : Turn mode own sheet listing constants marks rows p listing' constants' marks' rows' r) where
       gone : Goes mode own sheet (s .before) listing constants p listing' constants' marks' rows' r
       gone = t .goes (s .before) (s .noted)
 

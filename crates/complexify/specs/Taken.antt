@@ -7,6 +7,8 @@ use lib.ListN.{length, take, drop}
 use lib.Seq.{sets}
 use lib.Dec.{ltb}
 use Rattle.mir.specs.declared.records.Instruction.{Instruction}
+use Rattle.mir.specs.Read.{Read, got, refused}
+use Rattle.mir.specs.Decode.{Item}
 use Rattle.sheet.specs.declared.setup.Mode.{Mode}
 use Rattle.sheet.specs.Instruction.{instructions}
 use Rattle.lowering.specs.Complexifier.{position, MIN_POSITIVE, INFINITY, QUARTER, EXP_MASK_FINITE, FLOOR_FINITE}
@@ -18,7 +20,6 @@ use Rattle.complexify.specs.declared.entry.Answer.{Answer}
 use Rattle.complexify.specs.declared.turn.Cursor.{Cursor}
 use Rattle.complexify.specs.declared.turn.Next.{Next}
 use Rattle.complexify.specs.Entry.{answerOf}
-use Rattle.refusals.specs.Noted.{Noted}
 
 -- the constants, with one place for each of the five that stable mode names and that are not there yet
 unfoldable pub absent : ℕ → List ℕ → ℕ
@@ -112,19 +113,10 @@ pub record LoweredOne (mode : Mode) (i : Instruction) (next : ℕ) (listing cons
   pub index : r .done ≡ false → r .stand .index ≡ suc (p .index)
   pub turned : Extended listing constants p listing' constants' r
 
--- the work from here on, where b stand before, is the work from there on, where `before` do
-pub record Goes (mode : Mode) (own : ℕ) (sheet : List ℕ) (b : Standing) (listing constants : List ℕ) (p : Cursor) (listing' constants' marks' rows' : List ℕ) (r : Next) : Type 0 where
-  pub before : Standing
-  pub same : left mode (length listing) own sheet b listing constants p
-      ≡ cond (r .done) (endedAt (r .number) listing' constants' (r .stand)) (left mode (length listing) own sheet before listing' constants' (r .stand))
-  pub noted : r .done ≡ false → Noted before (drop (r .stand .at) sheet) marks' rows'
-
--- one turn
-pub record Taken (mode : Mode) (own : ℕ) (sheet listing constants marks rows : List ℕ) (p : Cursor) (listing' constants' marks' rows' : List ℕ) (r : Next) : Type 0 where
-  pub goes : (b : Standing) → Noted b (drop (p .at) sheet) marks rows → Goes mode own sheet b listing constants p listing' constants' marks' rows' r
-  pub on : r .done ≡ false → p .at < r .stand .at
-  pub index : r .done ≡ false → r .stand .index ≡ suc (p .index)
-  pub turned : Extended listing constants p listing' constants' r
+-- one turn: an instruction that is read is lowered; one that a number refuses as it is read has changed nothing
+abbrev pub Taken : Mode → List ℕ → List ℕ → Cursor → List ℕ → List ℕ → Next → Read (Item Instruction) → Type 0
+Taken mode listing constants p listing' constants' r (got x) = LoweredOne mode (x .item) (x .next) listing constants p listing' constants' r
+Taken mode listing constants p listing' constants' r (refused n) = (r ≡ refusal n p) × (listing' ≡ listing) × (constants' ≡ constants)
 
 -- the whole loop
 pub record Ran (whole : Ended) (l k : List ℕ) (p : Cursor) (l' k' : List ℕ) (r : Answer) : Type 0 where

@@ -1,7 +1,7 @@
 // The lowering entry.
 ghost use mathlib.Core.Path.{_≡_};
 ghost use Prim.Native.Nat.{_<_, _≤_};
-ghost use lib.ListN.{length, drop};
+ghost use lib.ListN.{length, drop, replicate};
 ghost use Rattle.lowering.specs.Labels.{noneStanding};
 ghost use Rattle.complexify.specs.Entry as Spec;
 ghost use Rattle.refusals.specs.Noted.{Noted};
@@ -12,6 +12,7 @@ use super::turn::one;
 use complexifier::state::Complexifier;
 use lowering::realness::Realness;
 use refusals::labels::find_labels;
+use refusals::labels::pass_at;
 use sheet::setup::Mode;
 use sheet::setup::read_setup;
 
@@ -57,20 +58,26 @@ fn run(
     own: usize,
     mode: Mode,
     start: Cursor,
-    stage: &mut [u8],
     marks: &mut [u8],
     rows: &mut [u8],
     listing: &mut [u8],
     constants: &mut [u64],
 ) -> Answer
-    requires { ⌜ Ready (now stage) (now listing) (now constants) start ⌝ }
+    requires { ⌜ Ready (replicate 704 0) (now listing) (now constants) start ⌝ }
     requires { ⌜ (start .index ≤ start .at) × (length (now sheet) ≤ 16384) ⌝ }
     requires { ⌜ Noted noneStanding (drop (start .at) (now sheet)) (now marks) (now rows) ⌝ }
     ensures { λ r. ⌜ Ran (left mode (length (now (listing .entry))) own (now (sheet .entry)) noneStanding (now (listing .entry)) (now (constants .entry)) start) (now (listing .entry)) (now (constants .entry)) start (now (listing .exit)) (now (constants .exit)) r ⌝ }
 {
+    let mut stage = [0u8; 704];
     let mut p = start;
     while p.at < sheet.len() {
-        let t = one(sheet, own, mode, p, stage, marks, rows, listing, constants);
+        let low = p.low;
+        let real = low.real;
+        let number = pass_at(sheet, p.at, real, marks, rows);
+        if number != 0 {
+            return answer_at(number, p);
+        }
+        let t = one(sheet, own, mode, p, &mut stage, listing, constants);
         let next = t.stand;
         if t.done {
             return answer_at(t.number, next);
@@ -86,11 +93,10 @@ fn run_marked(
     own: usize,
     mode: Mode,
     start: Cursor,
-    stage: &mut [u8],
     listing: &mut [u8],
     constants: &mut [u64],
 ) -> Answer
-    requires { ⌜ Ready (now stage) (now listing) (now constants) start ⌝ }
+    requires { ⌜ Ready (replicate 704 0) (now listing) (now constants) start ⌝ }
     requires { ⌜ (start .index ≤ start .at) × (length (now sheet) ≤ 16384) ⌝ }
     ensures { λ r. ⌜ Ran (left mode (length (now (listing .entry))) own (now (sheet .entry)) noneStanding (now (listing .entry)) (now (constants .entry)) start) (now (listing .entry)) (now (constants .entry)) start (now (listing .exit)) (now (constants .exit)) r ⌝ }
 {
@@ -102,7 +108,6 @@ fn run_marked(
             own,
             mode,
             start,
-            stage,
             &mut marks,
             &mut rows,
             listing,
@@ -115,7 +120,6 @@ fn run_marked(
         own,
         mode,
         start,
-        stage,
         &mut marks,
         &mut none,
         listing,
@@ -152,7 +156,6 @@ pub fn lower(sheet: &[u8], listing: &mut [u8], constants: &mut [u64]) -> Answer
         count: own,
         low: low,
     };
-    let mut stage = [0u8; 704];
     let mode = setup.mode;
-    run_marked(sheet, own, mode, start, &mut stage, listing, constants)
+    run_marked(sheet, own, mode, start, listing, constants)
 }

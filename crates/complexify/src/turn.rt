@@ -1,14 +1,13 @@
 // One instruction of a sheet: read, lowered into the stage, and copied to the lent slices. What is refused has changed neither.
 ghost use mathlib.Core.Path.{_≡_};
 ghost use Prim.Native.Nat.{_<_};
-ghost use lib.ListN.{length};
+ghost use Rattle.sheet.specs.Instruction.{instructionAt};
 ghost use Rattle.complexify.specs.Taken.{Ready, Fits, Finished, LoweredOne, Taken, refusal};
 use super::copying::copy_bytes;
 use super::copying::copy_words;
 use complexifier::state::Complexifier;
 use mir::records::Instruction;
 use refusals::barred::barred;
-use refusals::labels::pass;
 use rerun::instruction::rerun;
 use rerun::output::Output;
 use sheet::reader::NextInstruction;
@@ -106,34 +105,31 @@ fn lower_one(
     finish(t, &stage[..n], next, p, listing, constants)
 }
 
-// One turn, of a sheet with `own` constants.
+// One turn, of a sheet with `own` constants, where neither 10 nor 11 refuses the instruction.
 pub(crate) fn one(
     sheet: &[u8],
     own: usize,
     mode: Mode,
     p: Cursor,
     stage: &mut [u8],
-    marks: &mut [u8],
-    rows: &mut [u8],
     listing: &mut [u8],
     constants: &mut [u64],
 ) -> Next
     requires { ⌜ Ready (now stage) (now listing) (now constants) p ⌝ }
     requires { ⌜ p .index < 65536 ⌝ }
-    requires { ⌜ p .at < length (now sheet) ⌝ }
-    ensures { λ r. ⌜ Taken mode own (now (sheet .entry)) (now (listing .entry)) (now (constants .entry)) (now (marks .entry)) (now (rows .entry)) p (now (listing .exit)) (now (constants .exit)) (now (marks .exit)) (now (rows .exit)) r ⌝ }
+    ensures { λ r. ⌜ Taken mode (now (listing .entry)) (now (constants .entry)) p (now (listing .exit)) (now (constants .exit)) r (instructionAt own (now (sheet .entry)) (p .at)) ⌝ }
 {
     let at = p.at;
     match read_instruction(sheet, at, own) {
-        NextInstruction::Got(instruction, next) => {
-            let low = p.low;
-            let real = low.real;
-            let number = pass(instruction, real, marks, rows);
-            if number != 0 {
-                return refused(number, p);
-            }
-            lower_one(instruction, next, mode, p, stage, listing, constants)
-        }
+        NextInstruction::Got(instruction, next) => lower_one(
+            instruction,
+            next,
+            mode,
+            p,
+            stage,
+            listing,
+            constants,
+        ),
         NextInstruction::Refused(number) => refused(number, p),
     }
 }

@@ -15,16 +15,17 @@ use Rattle.mir.specs.Encode.{buf, encodeAll}
 use Rattle.mir.specs.Decode.{Decoded, decoded}
 use Rattle.mir.proofs.Passing.{either}
 use Rattle.mir.proofs.Decoding.{Here, Done}
-use Rattle.sheet.specs.Instruction.{instructionFrom}
+use Rattle.sheet.specs.declared.reader.NextInstruction.{NextInstruction}
+use Rattle.sheet.specs.Instruction.{instructionFrom, instructionAt, asNext}
 use Rattle.lowering.specs.Complexifier.{State}
 use Rattle.lowering.specs.Rerun.{rerun}
 use Rattle.lowering.specs.Labels as Labels
 use Rattle.lowering.specs.Labels.{Role, role, Standing, noneStanding, misplaced, unequal, passed}
 use Rattle.lowering.specs.Lower.{barred, past}
-use Rattle.mir.specs.Read.{got}
+use Rattle.mir.specs.Read.{Read, got, refused}
 use Rattle.leftovers.proofs.Instructions.{InRange, AllIn}
 use Rattle.leftovers.proofs.Ranges.{all-in-range}
-use Rattle.refusals.specs.Noted.{Noted}
+use Rattle.refusals.specs.Noted.{Noted, PassedFirst}
 use Rattle.refusals.proofs.Marking.{labelRefusal, Follows}
 use Rattle.complexifier.specs.Does.{state}
 use Rattle.rerun.specs.declared.output.Output.{Output}
@@ -40,7 +41,7 @@ use Rattle.figures.specs.declared.turn.CountCursor.{CountCursor}
 use Rattle.figures.specs.declared.turn.Next.{Next}
 use Rattle.figures.specs.Shelf.{refusal, branchOf, counted, run, shelfFrom}
 use Rattle.figures.specs.Walk.{Listed, Within}
-use Rattle.figures.specs.Taken.{Ready, figuresAt, goesOn, left, refusing, finished, full, Ended, Finished, Fits, CountKept, OwnLabel, CountedOne, Goes, Taken}
+use Rattle.figures.specs.Taken.{Ready, figuresAt, goesOn, left, refusing, finished, full, Ended, Finished, Fits, CountKept, OwnLabel, CountedOne, Taken}
 use Rattle.figures.proofs.Sizes.{listed-within}
 use Rattle.sheet.specs.declared.setup.Mode.{Mode}
 use Rattle.sheet.specs.Setup.{isStable}
@@ -241,6 +242,20 @@ branch-few (Labels.branches l) = omega arith
 
 -- ---- one turn
 
+-- the work from here on, where b stand before, is the work from there on, where `before` do
+pub record Goes (mode : Mode) (own : ℕ) (sheet : List ℕ) (b : Standing) (k : List ℕ) (p : CountCursor) (k' marks' rows' : List ℕ) (r : Next) : Type 0 where
+  pub before : Standing
+  pub same : left mode own sheet b k p
+      ≡ cond (r .done) (figuresAt (r .number) (r .cursor)) (left mode own sheet before k' (r .cursor))
+  pub noted : r .done ≡ false → Noted before (drop (r .cursor .at) sheet) marks' rows'
+
+-- one turn of the loop: the labels tested, the instruction taken
+pub record Turn (mode : Mode) (own : ℕ) (sheet k marks rows : List ℕ) (p : CountCursor) (k' marks' rows' : List ℕ) (r : Next) : Type 0 where
+  pub goes : (b : Standing) → Noted b (drop (p .at) sheet) marks rows → Goes mode own sheet b k p k' marks' rows' r
+  pub on : r .done ≡ false → p .at < r .cursor .at
+  pub index : r .done ≡ false → r .cursor .index ≡ suc (p .index)
+  pub turned : CountKept k k' r
+
 cond-right : (b : Bool) (x y z : Figures) → (b ≡ false → y ≡ z) → cond b x y ≡ cond b x z
 cond-right true x y z f = refl
 cond-right false x y z f = f refl
@@ -296,8 +311,8 @@ own-label own sheet at {i} {next} h = in-own own i (subst (λ is. AllIn own is) 
 module _ {mode : Mode} {own : ℕ} {sheet k marks rows : List ℕ} {p : CountCursor} where
   module _ {i : Instruction} {next : ℕ} {marks' rows' : List ℕ} {n : ℕ} (h : Here (instructionFrom own) sheet (p .at) i next)
       (e : instructionFrom own (drop (p .at) sheet) ≡ got i) (w : Follows (role i) (p .low .real) marks rows marks' rows' n) where
-    pub turn-got : {k' : List ℕ} {r : Next} → past (drop (p .at) sheet) ≡ drop next sheet → n ≡ 0 → CountedOne mode i next k p k' r
-        → Taken mode own sheet k marks rows p k' marks' rows' r
+    turn-got : {k' : List ℕ} {r : Next} → past (drop (p .at) sheet) ≡ drop next sheet → n ≡ 0 → CountedOne mode i next k p k' r
+        → Turn mode own sheet k marks rows p k' marks' rows' r
     turn-got {k'} {r} g z l =
         record {
           goes = λ b t.
@@ -324,7 +339,7 @@ module _ {mode : Mode} {own : ℕ} {sheet k marks rows : List ℕ} {p : CountCur
         }
 
     -- 10 or 11 refuses it
-    pub turn-refused : {g : List ℕ} → Ready g k p → (n ≡ 0 → ⊥) → Taken mode own sheet k marks rows p k marks' rows' (refusing n p)
+    turn-refused : {g : List ℕ} → Ready g k p → (n ≡ 0 → ⊥) → Turn mode own sheet k marks rows p k marks' rows' (refusing n p)
     turn-refused r z =
         record {
           goes = λ b t.
@@ -342,10 +357,42 @@ module _ {mode : Mode} {own : ℕ} {sheet k marks rows : List ℕ} {p : CountCur
           turned = unchanged n r;
         }
 
-  pub turn-torn : {g : List ℕ} {n : ℕ} → Ready g k p → Done (instructionFrom own) sheet (p .at) n
-      → Taken mode own sheet k marks rows p k marks rows (refusing n p)
-  turn-torn {g} {n} r h =
+  turn-torn : {g marks' rows' : List ℕ} {n : ℕ} → Ready g k p → Done (instructionFrom own) sheet (p .at) n
+      → Turn mode own sheet k marks rows p k marks' rows' (refusing n p)
+  turn-torn {n = n} r h =
       record { goes = λ b t. record { before = b; same = stopped mode own sheet b k p n r h; noted = no }; on = no; index = no; turned = unchanged n r }
+
+-- the code's answer
+module _ (own : ℕ) (sheet : List ℕ) (at : ℕ) (mode : Mode) (k : List ℕ) {p : CountCursor} {r : Next} {a : NextInstruction} where
+  pub one-got : {i : Instruction} {next : ℕ} {k' : List ℕ} → asNext a ≡ instructionAt own sheet at → a ≡ NextInstruction.Got i next
+      → CountedOne mode i next k p k' r → Taken mode k p k' r (instructionAt own sheet at)
+  one-got {k' = k'} e f l = subst (λ x. Taken mode k p k' r x) (sym (ap asNext f) ∙ e) l
+
+  pub one-refused : {n : ℕ} → asNext a ≡ instructionAt own sheet at → a ≡ NextInstruction.Refused n → r ≡ refusing n p
+      → Taken mode k p k r (instructionAt own sheet at)
+  one-refused e f h = subst (λ x. Taken mode k p k r x) (sym (ap asNext f) ∙ e) (h, refl)
+
+-- the labels tested: a number refuses, or the instruction is taken
+module _ {mode : Mode} {own : ℕ} {sheet g k marks rows marks' rows' : List ℕ} {p : CountCursor} {n : ℕ}
+    (ready : Ready g k p) (t : PassedFirst (drop (p .at) sheet) (p .low .real) marks rows marks' rows' n) where
+  pub turn-halted : (n ≡ 0 → ⊥) → Turn mode own sheet k marks rows p k marks' rows' (refusing n p)
+  turn-halted z = go (instructionFrom own (drop (p .at) sheet)) refl
+    where
+      go : (x : Read Instruction) → instructionFrom own (drop (p .at) sheet) ≡ x → Turn mode own sheet k marks rows p k marks' rows' (refusing n p)
+      go (got i) e = turn-refused (Turns.here-got own sheet (p .at) i e) e (Turns.told own sheet (p .at) t i e) ready z
+      go (refused m) e = absurd (z (Turns.untold own sheet (p .at) t m e))
+
+  pub turn-taken : {k' : List ℕ} {r : Next} → p .at < length sheet → n ≡ 0 → Taken mode k p k' r (instructionAt own sheet (p .at))
+      → Turn mode own sheet k marks rows p k' marks' rows' r
+  turn-taken {k'} {r} inside z l = go (instructionFrom own (drop (p .at) sheet)) refl
+    where
+      go : (x : Read Instruction) → instructionFrom own (drop (p .at) sheet) ≡ x → Turn mode own sheet k marks rows p k' marks' rows' r
+      go (got i) e =
+          turn-got (Turns.here-got own sheet (p .at) i e) e (Turns.told own sheet (p .at) t i e) (Turns.past-got own sheet (p .at) i e) z (subst (λ x. Taken mode k p k' r x) (Turns.at-got own sheet (p .at) i e) l)
+      go (refused m) e =
+          let q : (r ≡ refusing m p) × (k' ≡ k) = subst (λ x. Taken mode k p k' r x) (Turns.at-refused own sheet (p .at) m e) l in
+          subst (λ r. Turn mode own sheet k marks rows p k' marks' rows' r) (sym (q .0))
+          (subst (λ k'. Turn mode own sheet k marks rows p k' marks' rows' (refusing m p)) (sym (q .1)) (turn-torn ready (Turns.done-refused own sheet (p .at) m e inside)))
 
 -- ---- the loop
 
@@ -364,7 +411,7 @@ on-true : (b : Bool) (x y : Figures) → b ≡ true → cond b x y ≡ x
 on-true b x y e = simp e
 
 module _ {mode : Mode} {own : ℕ} {sheet k₀ : List ℕ} {start : CountCursor} {g k marks rows : List ℕ} {p : CountCursor}
-    (s : Underway mode own sheet k₀ start g k marks rows p) {k' marks' rows' : List ℕ} {r : Next} (t : Taken mode own sheet k marks rows p k' marks' rows' r) where
+    (s : Underway mode own sheet k₀ start g k marks rows p) {k' marks' rows' : List ℕ} {r : Next} (t : Turn mode own sheet k marks rows p k' marks' rows' r) where
   gone : Goes mode own sheet (s .before) k p k' marks' rows' r
   gone = t .goes (s .before) (s .noted)
 
@@ -383,5 +430,5 @@ module _ {mode : Mode} {own : ℕ} {sheet k₀ : List ℕ} {start : CountCursor}
         same = sym (gone .same ∙ on-false _ _ _ e) ∙ s .same;
       }
 
-  pub refused : r .done ≡ true → figuresAt (r .number) (r .cursor) ≡ left mode own sheet noneStanding k₀ start
-  refused e = sym (on-true _ _ _ e) ∙ sym (gone .same) ∙ s .same
+  pub halted : r .done ≡ true → figuresAt (r .number) (r .cursor) ≡ left mode own sheet noneStanding k₀ start
+  halted e = sym (on-true _ _ _ e) ∙ sym (gone .same) ∙ s .same

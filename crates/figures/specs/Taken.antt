@@ -9,13 +9,14 @@ use lib.Dec.{ltb, eqb}
 use Rattle.mir.specs.declared.records.Instruction.{Instruction}
 use Rattle.mir.specs.declared.records.Record.{Record}
 use Rattle.mir.specs.Encode.{encodeAll}
+use Rattle.mir.specs.Read.{Read, got, refused}
+use Rattle.mir.specs.Decode.{Item}
 use Rattle.sheet.specs.Instruction.{instructions}
 use Rattle.complexifier.specs.Does.{state}
 use Rattle.rerun.specs.declared.output.Output.{Output}
 use Rattle.lowering.specs.Labels as Labels
 use Rattle.lowering.specs.Labels.{Role, role, Standing, misplaced, unequal, passed}
 use Rattle.lowering.specs.Lower.{past}
-use Rattle.refusals.specs.Noted.{Noted}
 use Rattle.complexify.specs.Taken.{space}
 use Rattle.figures.specs.declared.counting.Count.{Count}
 use Rattle.figures.specs.declared.entry.Figures.{Figures}
@@ -103,16 +104,7 @@ pub record CountedOne (mode : Mode) (i : Instruction) (next : ℕ) (k : List ℕ
   pub index : r .done ≡ false → r .cursor .index ≡ suc (p .index)
   pub turned : OwnLabel (role i) → CountKept k k' r
 
--- the work from here on, where b stand before, is the work from there on, where `before` do
-pub record Goes (mode : Mode) (own : ℕ) (sheet : List ℕ) (b : Standing) (k : List ℕ) (p : CountCursor) (k' marks' rows' : List ℕ) (r : Next) : Type 0 where
-  pub before : Standing
-  pub same : left mode own sheet b k p
-      ≡ cond (r .done) (figuresAt (r .number) (r .cursor)) (left mode own sheet before k' (r .cursor))
-  pub noted : r .done ≡ false → Noted before (drop (r .cursor .at) sheet) marks' rows'
-
--- one turn
-pub record Taken (mode : Mode) (own : ℕ) (sheet k marks rows : List ℕ) (p : CountCursor) (k' marks' rows' : List ℕ) (r : Next) : Type 0 where
-  pub goes : (b : Standing) → Noted b (drop (p .at) sheet) marks rows → Goes mode own sheet b k p k' marks' rows' r
-  pub on : r .done ≡ false → p .at < r .cursor .at
-  pub index : r .done ≡ false → r .cursor .index ≡ suc (p .index)
-  pub turned : CountKept k k' r
+-- one turn: an instruction that is read is counted; one that a number refuses as it is read has changed nothing
+abbrev pub Taken : Mode → List ℕ → CountCursor → List ℕ → Next → Read (Item Instruction) → Type 0
+Taken mode k p k' r (got x) = CountedOne mode (x .item) (x .next) k p k' r
+Taken mode k p k' r (refused n) = (r ≡ refusing n p) × (k' ≡ k)

@@ -1,7 +1,7 @@
 // The figures of a sheet. No listing is made: the records of one instruction stand in the stage at a time.
 ghost use mathlib.Core.Path.{_≡_};
 ghost use Prim.Native.Nat.{_≤_};
-ghost use lib.ListN.{length, drop};
+ghost use lib.ListN.{length, drop, replicate};
 ghost use Rattle.lowering.specs.Labels.{noneStanding};
 ghost use Rattle.refusals.specs.Noted.{Noted};
 ghost use Rattle.figures.specs.Shelf as Spec;
@@ -14,6 +14,7 @@ use complexifier::state::Complexifier;
 use complexify::copying::put_constants;
 use lowering::realness::Realness;
 use refusals::labels::find_labels;
+use refusals::labels::pass_at;
 use sheet::setup::Mode;
 use sheet::setup::read_setup;
 
@@ -75,19 +76,25 @@ fn run(
     own: usize,
     mode: Mode,
     start: CountCursor,
-    stage: &mut [u8],
     marks: &mut [u8],
     rows: &mut [u8],
     constants: &mut [u64],
 ) -> Figures
-    requires { ⌜ Ready (now stage) (now constants) start ⌝ }
+    requires { ⌜ Ready (replicate 704 0) (now constants) start ⌝ }
     requires { ⌜ (start .index ≤ start .at) × (length (now sheet) ≤ 16384) ⌝ }
     requires { ⌜ Noted noneStanding (drop (start .at) (now sheet)) (now marks) (now rows) ⌝ }
     ensures { λ r. ⌜ r ≡ left mode own (now (sheet .entry)) noneStanding (now (constants .entry)) start ⌝ }
 {
+    let mut stage = [0u8; 704];
     let mut p = start;
     while p.at < sheet.len() {
-        let t = one(sheet, own, mode, p, stage, marks, rows, constants);
+        let low = p.low;
+        let real = low.real;
+        let number = pass_at(sheet, p.at, real, marks, rows);
+        if number != 0 {
+            return figures_at(number, p);
+        }
+        let t = one(sheet, own, mode, p, &mut stage, constants);
         let next = t.cursor;
         if t.done {
             return figures_at(t.number, next);
@@ -103,38 +110,19 @@ fn run_marked(
     own: usize,
     mode: Mode,
     start: CountCursor,
-    stage: &mut [u8],
     constants: &mut [u64],
 ) -> Figures
-    requires { ⌜ Ready (now stage) (now constants) start ⌝ }
+    requires { ⌜ Ready (replicate 704 0) (now constants) start ⌝ }
     requires { ⌜ (start .index ≤ start .at) × (length (now sheet) ≤ 16384) ⌝ }
     ensures { λ r. ⌜ r ≡ left mode own (now (sheet .entry)) noneStanding (now (constants .entry)) start ⌝ }
 {
     let mut marks = [0u8; 256];
     if find_labels(sheet, start.at, &mut marks) {
         let mut rows = [0u8; 24576];
-        return run(
-            sheet,
-            own,
-            mode,
-            start,
-            stage,
-            &mut marks,
-            &mut rows,
-            constants,
-        );
+        return run(sheet, own, mode, start, &mut marks, &mut rows, constants);
     }
     let mut none = [0u8; 1];
-    run(
-        sheet,
-        own,
-        mode,
-        start,
-        stage,
-        &mut marks,
-        &mut none,
-        constants,
-    )
+    run(sheet, own, mode, start, &mut marks, &mut none, constants)
 }
 
 pub fn shelf(sheet: &[u8]) -> Figures
@@ -166,7 +154,6 @@ pub fn shelf(sheet: &[u8]) -> Figures
         low: low,
         taken: taken,
     };
-    let mut stage = [0u8; 704];
     let mode = setup.mode;
-    run_marked(sheet, own, mode, start, &mut stage, &mut constants)
+    run_marked(sheet, own, mode, start, &mut constants)
 }

@@ -1,7 +1,7 @@
 // One instruction of a sheet: read, listed in the stage, and counted there.
 ghost use mathlib.Core.Path.{_≡_};
 ghost use Prim.Native.Nat.{_≤_, _<_};
-ghost use lib.ListN.{length};
+ghost use Rattle.sheet.specs.Instruction.{instructionAt};
 ghost use Rattle.figures.specs.Taken.{Ready, Fits, Finished, CountedOne, Taken, refusing};
 use super::counting::Count;
 use super::counting::branch_of;
@@ -9,7 +9,6 @@ use super::counting::count_records;
 use complexifier::state::Complexifier;
 use mir::records::Instruction;
 use refusals::barred::barred;
-use refusals::labels::pass;
 use rerun::instruction::rerun;
 use rerun::output::Output;
 use sheet::reader::NextInstruction;
@@ -107,33 +106,29 @@ fn lower_one(
     finish(t, &stage[..n], branches, next, p, constants)
 }
 
-// One turn, of a sheet with `own` constants.
+// One turn, of a sheet with `own` constants, where neither 10 nor 11 refuses the instruction.
 pub(crate) fn one(
     sheet: &[u8],
     own: usize,
     mode: Mode,
     p: CountCursor,
     stage: &mut [u8],
-    marks: &mut [u8],
-    rows: &mut [u8],
     constants: &mut [u64],
 ) -> Next
     requires { ⌜ Ready (now stage) (now constants) p ⌝ }
     requires { ⌜ p .index < 65536 ⌝ }
-    requires { ⌜ p .at < length (now sheet) ⌝ }
-    ensures { λ r. ⌜ Taken mode own (now (sheet .entry)) (now (constants .entry)) (now (marks .entry)) (now (rows .entry)) p (now (constants .exit)) (now (marks .exit)) (now (rows .exit)) r ⌝ }
+    ensures { λ r. ⌜ Taken mode (now (constants .entry)) p (now (constants .exit)) r (instructionAt own (now (sheet .entry)) (p .at)) ⌝ }
 {
     let at = p.at;
     match read_instruction(sheet, at, own) {
-        NextInstruction::Got(instruction, next) => {
-            let low = p.low;
-            let real = low.real;
-            let number = pass(instruction, real, marks, rows);
-            if number != 0 {
-                return refused(number, p);
-            }
-            lower_one(instruction, next, mode, p, stage, constants)
-        }
+        NextInstruction::Got(instruction, next) => lower_one(
+            instruction,
+            next,
+            mode,
+            p,
+            stage,
+            constants,
+        ),
         NextInstruction::Refused(number) => refused(number, p),
     }
 }

@@ -1,3 +1,4 @@
 pub mod Storing
 pub mod Marking
 pub mod Searching
+pub mod Directing

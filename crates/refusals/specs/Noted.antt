@@ -6,13 +6,16 @@ use mathlib.Core.List.{List, [], _∷_, _++_, map}
 use mathlib.Core.Option.{Option, none, some}
 use lib.ListN.{length, getD, set}
 use lib.Dec.{ltb, eqb}
+use Rattle.mir.specs.declared.records.Instruction.{Instruction}
 use Rattle.mir.specs.Encode.{flagByte}
+use Rattle.mir.specs.Read.{Read, got, refused}
 use Rattle.mir.specs.Field.{byteAt, bytesAt, wordAt}
 use Rattle.mir.specs.Decode.{decoded}
 use Rattle.words.specs.Bytes.{stored}
+use Rattle.sheet.specs.Instruction.{fieldsFrom, instructionFrom}
 use Rattle.lowering.specs.declared.realness.Realness.{Realness}
 use Rattle.lowering.specs.Labels as Labels
-use Rattle.lowering.specs.Labels.{Role, Standing, labelSeen, later, stands, sameBytes, differs}
+use Rattle.lowering.specs.Labels.{Role, role, Standing, labelSeen, later, stands, sameBytes, differs}
 
 -- the label in a record's bytes, where it is a Label
 abbrev pub labelHere : List ℕ → Option ℕ
@@ -62,6 +65,11 @@ abbrev pub anyLabel : List (Option ℕ) → Bool
 anyLabel [] = false
 anyLabel (o ∷ os) = isLabel o || anyLabel os
 
+-- the role of an instruction that is read; one that is refused as it is read has none
+abbrev pub roleRead : Read Instruction → Role
+roleRead (got i) = role i
+roleRead (refused n) = Labels.works
+
 -- what they tell of an instruction with a role, where the records are ρ: 10, 11, or 0, neither
 abbrev pub tell : Role → Realness → List ℕ → List ℕ → ℕ
 tell Labels.works ρ marks rows = 0
@@ -90,6 +98,13 @@ pub record Passed (i : Role) (ρ : Realness) (marks rows marks' rows' : List ℕ
   pub told : n ≡ tell i ρ marks rows
   pub marked : marks' ≡ cond (eqb n 0) (marksBehind i ρ marks rows) marks
   pub kept : rows' ≡ cond (eqb n 0) (rowsBehind i ρ marks rows) rows
+
+-- the same of a record by its kind and its bytes, and of the instruction that bytes begin with, whatever the count of the sheet's constants
+abbrev pub PassedKind : ℕ → List ℕ → Realness → List ℕ → List ℕ → List ℕ → List ℕ → ℕ → Type 0
+PassedKind kind s ρ marks rows marks' rows' n = (count : ℕ) → Passed (roleRead (fieldsFrom count kind s)) ρ marks rows marks' rows' n
+
+abbrev pub PassedFirst : List ℕ → Realness → List ℕ → List ℕ → List ℕ → List ℕ → ℕ → Type 0
+PassedFirst rest ρ marks rows marks' rows' n = (count : ℕ) → Passed (roleRead (instructionFrom count rest)) ρ marks rows marks' rows' n
 
 pub record BranchNoted (l : ℕ) (bytes marks rows marks' rows' : List ℕ) : Type 0 where
   pub mark : marks' ≡ set marks l (markBehind (getD marks l 0) (sameBytes (row l rows) bytes))

@@ -8,14 +8,14 @@ ghost use lib.ListN.{length, drop, set};
 ghost use lib.Seq.{sets};
 ghost use Rattle.mir.specs.Encode.{flagByte};
 ghost use Rattle.mir.specs.Read.{got, refused};
-ghost use Rattle.lowering.specs.Labels.{labelSeen, sameBytes, labels, branches, role};
-ghost use Rattle.refusals.specs.Noted.{labelHere, recordBytes, row, unlike, seenIn, markSeen, markAll, isLabel, anyLabel, Passed, BranchNoted};
+ghost use Rattle.sheet.specs.Instruction.{branchIfFrom};
+ghost use Rattle.lowering.specs.Labels.{labelSeen, sameBytes, labels, branches};
+ghost use Rattle.refusals.specs.Noted.{labelHere, recordBytes, row, unlike, seenIn, markSeen, markAll, isLabel, anyLabel, roleRead, Passed, PassedKind, PassedFirst, BranchNoted};
 use lowering::realness::Realness;
 use mir::fields::Head;
 use mir::fields::byte;
 use mir::fields::read_head;
 use mir::fields::word;
-use mir::records::Instruction;
 use mir::writer::flag_byte;
 use words::put_bytes;
 
@@ -28,6 +28,11 @@ const ROW: u8 = 2;
 const UNLIKE: u8 = 3;
 
 const STOOD: u8 = 4;
+
+// The first label of a sheet's own, and the last of its registers.
+const FIRST_LABEL: u8 = 3;
+
+const LAST: u8 = 31;
 
 fn set_mark(marks: &mut [u8], label: u8, mark: u8)
     ensures { λ r. ⌜ now (marks .exit) ≡ set (now (marks .entry)) label mark ⌝ }
@@ -165,6 +170,23 @@ fn is_unlike(mark: u8, label: u8, real: Realness, rows: &[u8]) -> bool
     ROW < mark
 }
 
+// A BranchIf.
+fn pass_branch_if(s: &[u8], real: Realness, marks: &mut [u8], rows: &mut [u8]) -> u8
+    ensures { λ r. ⌜ Passed (roleRead (branchIfFrom (now (s .entry)))) real (now (marks .entry)) (now (rows .entry)) (now (marks .exit)) (now (rows .exit)) r ⌝ }
+{
+    if LAST < byte(s, 4) {
+        return 0;
+    }
+    let label = byte(s, 5);
+    if label < FIRST_LABEL {
+        return 0;
+    }
+    if 1 < byte(s, 6) {
+        return 0;
+    }
+    pass_branch(label, real, marks, rows)
+}
+
 fn pass_label(label: u8, real: Realness, marks: &mut [u8], rows: &[u8]) -> u8
     ensures { λ r. ⌜ Passed (labels label) real (now (marks .entry)) (now (rows .entry)) (now (marks .exit)) (now (rows .entry)) r ⌝ }
 {
@@ -179,33 +201,43 @@ fn pass_label(label: u8, real: Realness, marks: &mut [u8], rows: &[u8]) -> u8
     0
 }
 
-// 10 or 11 where it refuses an instruction; else 0, and the tables are those behind it.
-pub fn pass(instruction: Instruction, real: Realness, marks: &mut [u8], rows: &mut [u8]) -> u8
-    ensures { λ r. ⌜ Passed (role instruction) real (now (marks .entry)) (now (rows .entry)) (now (marks .exit)) (now (rows .exit)) r ⌝ }
+// The same for a record by its kind and its bytes: a label or a branch, where it is read. A label of the sheet's own is 3 to 255.
+fn pass_kind(kind: u16, s: &[u8], real: Realness, marks: &mut [u8], rows: &mut [u8]) -> u8
+    ensures { λ r. ⌜ PassedKind kind (now (s .entry)) real (now (marks .entry)) (now (rows .entry)) (now (marks .exit)) (now (rows .exit)) r ⌝ }
 {
-    match instruction {
-        Instruction::Nop => 0,
-        Instruction::Uni { op, dst, s1 } => 0,
-        Instruction::Bi { op, dst, s1, s2 } => 0,
-        Instruction::Mov { dst, s1 } => 0,
-        Instruction::Load { dst, loc } => 0,
-        Instruction::Save { src, loc } => 0,
-        Instruction::LoadConst { dst, idx } => 0,
-        Instruction::Fused { op, dst, a, b, c } => 0,
-        Instruction::IfElse {
-            dst,
-            true_val,
-            false_val,
-            cond,
-        } => 0,
-        Instruction::LoadMath { op, dst, s1, loc } => 0,
-        Instruction::LoadConstMath { op, dst, s1, idx } => 0,
-        Instruction::Label(label) => pass_label(label, real, marks, rows),
-        Instruction::Branch(label) => pass_branch(label, real, marks, rows),
-        Instruction::BranchIf {
-            cond,
-            label,
-            is_else,
-        } => pass_branch(label, real, marks, rows),
+    if kind == 17 {
+        return pass_branch_if(s, real, marks, rows);
+    }
+    let label = byte(s, 4);
+    if kind == 14 {
+        if label < FIRST_LABEL {
+            return 0;
+        }
+        return pass_label(label, real, marks, rows);
+    }
+    if kind == 15 {
+        if label < FIRST_LABEL {
+            return 0;
+        }
+        return pass_branch(label, real, marks, rows);
+    }
+    0
+}
+
+// 10 or 11 where it refuses the instruction at a position; else 0, and the tables are those behind it. An instruction that is refused as it
+// is read is passed over.
+pub fn pass_at(sheet: &[u8], at: usize, real: Realness, marks: &mut [u8], rows: &mut [u8]) -> u8
+    ensures { λ r. ⌜ PassedFirst (drop at (now (sheet .entry))) real (now (marks .entry)) (now (rows .entry)) (now (marks .exit)) (now (rows .exit)) r ⌝ }
+{
+    if sheet.len() < at {
+        return 0;
+    }
+    let s = &sheet[at..];
+    if word(s, 2) < 14 {
+        return 0;
+    }
+    match read_head(s, false) {
+        Head::Kind(kind) => pass_kind(kind, s, real, marks, rows),
+        Head::Refused(number) => 0,
     }
 }
