@@ -11,7 +11,7 @@ use lib.Seq.{length-take-le, getD-drop, take-add, drop-drop}
 use Rattle.words.specs.Bytes.{number}
 use Rattle.words.specs.Bytes as Words
 use Rattle.mir.specs.Read.{Read, got, refused, refuse}
-use Rattle.mir.specs.Field.{wordAt}
+use Rattle.mir.specs.Field.{u16At}
 use Rattle.mir.proofs.Passing.{either, or-left, or-right, clash, got-same}
 use Rattle.mir.proofs.Decoding.{Bytes}
 use Rattle.mir.proofs.Tables.{and-right}
@@ -29,10 +29,10 @@ use Rattle.assembly.proofs.Hexing.{constant-said}
 
 -- a constant's bytes and its line
 abbrev Said : List ℕ → Type 0
-Said u = Bytes u → wordAt u 0 ≡ 12 → wordAt u 2 ≡ 33 → Says (constantLine (number (take 8 (drop 4 u)))) Spec.constantLine (take 12 u)
+Said u = Bytes u → u16At u 0 ≡ 12 → u16At u 2 ≡ 33 → Says (constantLine (number (take 8 (drop 4 u)))) Spec.constantLine (take 12 u)
 
 said : (u : List ℕ) → 12 ≤ length u → Said u
-unfolding wordAt
+unfolding u16At
 said =
     by-front 12 Said
     (λ a b c d e f g h i j k l rest bytes w v.
@@ -69,9 +69,9 @@ module _ (s : List ℕ) (long : length s ≤ 16384) (least : 69 ≤ length s) (b
       let at = 69 + 12 * i in
       let u = drop at s in
       let d = length-drop at s in
-      let full : 12 ≤ length u = ltb-false (length u) 12 (or-right (not (eqb (wordAt u 0) 12)) (ltb (length u) 12) f) in
-      let w : wordAt u 0 ≡ 12 = eqb-true (wordAt u 0) 12 (not-false (eqb (wordAt u 0) 12) (or-left (not (eqb (wordAt u 0) 12)) (ltb (length u) 12) f)) in
-      let v : wordAt u 2 ≡ 33 = eqb-true (wordAt u 2) 33 (t-true (eqb (wordAt u 2) 33) (and-right (leb 4 (length u)) (eqb (wordAt u 2) 33) (true-t (isConstant u) e))) in
+      let full : 12 ≤ length u = ltb-false (length u) 12 (or-right (not (eqb (u16At u 0) 12)) (ltb (length u) 12) f) in
+      let w : u16At u 0 ≡ 12 = eqb-true (u16At u 0) 12 (not-false (eqb (u16At u 0) 12) (or-left (not (eqb (u16At u 0) 12)) (ltb (length u) 12) f)) in
+      let v : u16At u 2 ≡ 33 = eqb-true (u16At u 2) 33 (t-true (eqb (u16At u 2) 33) (and-right (leb 4 (length u)) (eqb (u16At u 2) 33) (true-t (isConstant u) e))) in
       let p = length-take-le at s (omega (arith, d, full, least)) in
       let q = length-take-le 12 u full in
       let a : 73 + 12 * i ≡ at + 4 = omega arith in

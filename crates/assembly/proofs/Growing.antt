@@ -14,7 +14,7 @@ use Rattle.words.proofs.Stored.{stored-fits, stored-front}
 use Rattle.mir.specs.declared.records.Loc.{Loc}
 use Rattle.mir.specs.declared.records.Instruction.{Instruction}
 use Rattle.mir.specs.Read.{Read, got, refused, refuse, andThen}
-use Rattle.mir.specs.Field.{wordAt, placeAt}
+use Rattle.mir.specs.Field.{u16At, placeAt}
 use Rattle.mir.specs.Decode.{Item, readAt}
 use Rattle.mir.proofs.Passing.{then, stopped}
 use Rattle.sheet.specs.Instruction.{instructionFrom, instructionAt}
@@ -124,13 +124,13 @@ module _ (s : Sheet) (b : List ℕ) where
     pub instruction-none : (n : ℕ) → r ≡ refused n → refused 3 ≡ withLine s instruction b
     unfolding withLine readAt
     instruction-none n f =
-        let x = stopped (λ a. record { item = a; next = 0 + wordAt b 0 }) (instructionFrom (s .count) b) n (sym e ∙ f) in
+        let x = stopped (λ a. record { item = a; next = 0 + u16At b 0 }) (instructionFrom (s .count) b) n (sym e ∙ f) in
         sym (ap (λ y. refuse (not (isGot y)) 3 (grown s (s .count) 3 b)) x)
 
     pub instruction-put : (i : Item Instruction) → r ≡ got i → grown s (s .count) 3 b ≡ withLine s instruction b
     unfolding withLine readAt
     instruction-put i f =
-        let p = then (instructionFrom (s .count) b) (λ a. got (record { item = a; next = 0 + wordAt b 0 })) i (sym e ∙ f) in
+        let p = then (instructionFrom (s .count) b) (λ a. got (record { item = a; next = 0 + u16At b 0 })) i (sym e ∙ f) in
         sym (ap (λ y. refuse (not (isGot y)) 3 (grown s (s .count) 3 b)) (p .found))
 
 -- by the number of the first word

@@ -11,7 +11,7 @@ use lib.Seq.{length-take-le, getD-take, getD-drop, take-all, take-add, drop-drop
 use Rattle.mir.specs.declared.records.Instruction.{Instruction}
 use Rattle.mir.specs.Length.{lengths, lengthOf}
 use Rattle.mir.specs.Read.{Read, got, refused, refuse, andThen}
-use Rattle.mir.specs.Field.{wordAt, takesKind, headFrom}
+use Rattle.mir.specs.Field.{u16At, takesKind, headFrom}
 use Rattle.mir.specs.Decode.{decoded, ahead}
 use Rattle.mir.proofs.Passing.{either}
 use Rattle.mir.proofs.Heads.{Sized, Headed, headed}
@@ -41,13 +41,13 @@ module _ {n : ℕ} {s : List ℕ} where
 
 module _ (s : List ℕ) (kind : ℕ) (bytes : Bytes s) (h : Headed (takesKind false) s kind) where
   ofKind : (j n : ℕ) (x : List ℕ → Read Instruction) → lengthOf j ≡ n → Kind n j x → kind ≡ j
-      → Reads (wordAt s 0) s (x (take (wordAt s 0) s)) (x s)
+      → Reads (u16At s 0) s (x (take (u16At s 0) s)) (x s)
   ofKind j n x l k e =
-      let v : wordAt s 2 ≡ j = sym (h .same) ∙ e in
-      let w : wordAt s 0 ≡ n = sym (h .sized .rule) ∙ ap lengthOf v ∙ l in
+      let v : u16At s 2 ≡ j = sym (h .same) ∙ e in
+      let w : u16At s 0 ≡ n = sym (h .sized .rule) ∙ ap lengthOf v ∙ l in
       subst (λ m. Reads m s (x (take m s)) (x s)) (sym w) (k s (subst (λ m. m ≤ length s) w (h .sized .inside)) bytes w v)
 
-  fields : (count : ℕ) → count ≤ 251 → Reads (wordAt s 0) s (fieldsFrom count kind (take (wordAt s 0) s)) (fieldsFrom count kind s)
+  fields : (count : ℕ) → count ≤ 251 → Reads (u16At s 0) s (fieldsFrom count kind (take (u16At s 0) s)) (fieldsFrom count kind s)
   unfolding fieldsFrom lengthOf lengths
   fields count most =
       choose kind 0 (ofKind 0 4 (λ s. got Instruction.Nop) refl nop)
@@ -67,14 +67,14 @@ module _ (s : List ℕ) (kind : ℕ) (bytes : Bytes s) (h : Headed (takesKind fa
       (record { outcome = told; local = refl }))))))))))))))
 
 -- a head is read from the record's own bytes
-head-again : (takes : ℕ → Bool) (t : List ℕ) (n kind : ℕ) → length t ≡ n → wordAt t 0 ≡ n → wordAt t 2 ≡ kind → 4 ≤ n → takes kind ≡ true
+head-again : (takes : ℕ → Bool) (t : List ℕ) (n kind : ℕ) → length t ≡ n → u16At t 0 ≡ n → u16At t 2 ≡ kind → 4 ≤ n → takes kind ≡ true
     → lengthOf kind ≡ n
     → headFrom takes t ≡ got kind
 unfolding headFrom
 head-again takes t n kind l w v h k e = simp (l, w, v, le-ltb n 4 h, le-ltb n n (omega arith), k, e, eq-eqb n n refl)
 
-front : (s : List ℕ) (n i : ℕ) → i + 1 < n → wordAt (take n s) i ≡ wordAt s i
-unfolding wordAt
+front : (s : List ℕ) (n i : ℕ) → i + 1 < n → u16At (take n s) i ≡ u16At s i
+unfolding u16At
 front s n i h = let a = getD-take n s i 0 (omega arith) in let b = getD-take n s (i + 1) 0 h in λ j. a j + 256 * b j
 
 head-outcome : (takes : ℕ → Bool) (s : List ℕ) → Outcome (Headed takes s) (headFrom takes s)
@@ -83,15 +83,15 @@ head-outcome takes s =
     outcome-of (λ kind p. headed takes s kind (p .1))
     (told-so {P = λ k. Unit {0}}
     (tested (ltb (length s) 4) 0
-    (λ e. tested (ltb (wordAt s 0) 4) 0
-    (λ e. tested (ltb (length s) (wordAt s 0)) 0
-    (λ e. tested (not (takes (wordAt s 2))) 1
-    (λ e. tested (not (eqb (lengthOf (wordAt s 2)) (wordAt s 0))) 0 (λ e. read tt)))))))
+    (λ e. tested (ltb (u16At s 0) 4) 0
+    (λ e. tested (ltb (length s) (u16At s 0)) 0
+    (λ e. tested (not (takes (u16At s 2))) 1
+    (λ e. tested (not (eqb (lengthOf (u16At s 2)) (u16At s 0))) 0 (λ e. read tt)))))))
 
 -- an instruction that is read
 record Good (count : ℕ) (s : List ℕ) (i : Instruction) : Type 0 where
-  spelled : Spelled (wordAt s 0) s i
-  again : instructionFrom count (take (wordAt s 0) s) ≡ got i
+  spelled : Spelled (u16At s 0) s i
+  again : instructionFrom count (take (u16At s 0) s) ≡ got i
   sized : Sized s
 
 good : (count : ℕ) (s : List ℕ) → count ≤ 251 → Bytes s → Outcome (Good count s) (instructionFrom count s)
@@ -100,7 +100,7 @@ good count s most bytes =
     parted (head-outcome (takesKind false) s)
     (λ kind h.
     let r = fields s kind bytes h count most in
-    let n = wordAt s 0 in
+    let n = u16At s 0 in
     let z = h .sized in
     let e : headFrom (takesKind false) (take n s) ≡ got kind =
     head-again (takesKind false) (take n s) n kind (length-take-le n s (z .inside)) (front s n 0 (omega (arith, z .least)))
@@ -134,11 +134,11 @@ module _ (s : List ℕ) (count : ℕ) (most : count ≤ 251) (long : length s �
 
   one : (at stage : ℕ) (i : Instruction) → at ≤ length s → 1 ≤ stage → Good count (drop at s) i
       → Onward (record { bytes = take at s; count = count; stage = stage }) (instructionLine i)
-      (record { bytes = take (at + wordAt (drop at s) 0) s; count = count; stage = 3 })
+      (record { bytes = take (at + u16At (drop at s) 0) s; count = count; stage = 3 })
   unfolding withLine grown
   one at stage i h k g =
       let u = drop at s in
-      let n = wordAt u 0 in
+      let n = u16At u 0 in
       let d = length-drop at s in
       let z = g .sized in
       let p = length-take-le at s h in
@@ -156,7 +156,7 @@ module _ (s : List ℕ) (count : ℕ) (most : count ≤ 251) (long : length s �
       → Reached s count at stage (instructionLines (items reader (drop at s)))
   unfolding instructionLines
   next at stage h k e more (got i) f (read g) =
-      let n = wordAt (drop at s) 0 in
+      let n = u16At (drop at s) 0 in
       let d = length-drop at s in
       let z = g .sized in
       let q = decoded-got reader (whole count) (drop at s) i f ∙ ap (λ l. ahead i (decoded reader l)) (drop-drop n at s) in

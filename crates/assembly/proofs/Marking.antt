@@ -11,7 +11,7 @@ use lib.Seq.{set-out}
 use lib.Pow.{pow-pos}
 use Rattle.mir.specs.declared.records.Loc.{Loc}
 use Rattle.mir.specs.Read.{Read, got, refused, refuse, andThen}
-use Rattle.mir.specs.Field.{wordAt, classed, placeAt}
+use Rattle.mir.specs.Field.{u16At, classed, placeAt}
 use Rattle.mir.proofs.Passing.{either}
 use Rattle.assembly.specs.Assembled.{marked}
 use Rattle.assembly.specs.Making.{withBit, placeBit}
@@ -69,20 +69,20 @@ unfolding marked
 front-marked n l i = front-set (λ b. withBit b (2 ^ (i % 8))) n l (5 + i / 8)
 
 -- the bit of a place, by its class and its index
-module _ (s : List ℕ) (c i : ℕ) (f : c ≡ getD s 0 0) (g : i ≡ wordAt s 1) where
+module _ (s : List ℕ) (c i : ℕ) (f : c ≡ getD s 0 0) (g : i ≡ u16At s 1) where
   pub too-far : 255 < i → refused 3 ≡ placeBit (placeAt s 0)
   unfolding placeAt
   too-far h =
-      let k : 255 < wordAt s 1 = subst (λ n. 255 < n) g h in
-      sym (ap (λ t. placeBit (refuse t 4 (classed (getD s 0 0) (wordAt s 1)))) (lt-ltb 255 (wordAt s 1) k))
+      let k : 255 < u16At s 1 = subst (λ n. 255 < n) g h in
+      sym (ap (λ t. placeBit (refuse t 4 (classed (getD s 0 0) (u16At s 1)))) (lt-ltb 255 (u16At s 1) k))
 
   module _ (h : i ≤ 255) where
     near : placeBit (classed c i) ≡ placeBit (placeAt s 0)
     unfolding placeAt
     near =
-        let k : wordAt s 1 ≤ 255 = subst (λ n. n ≤ 255) g h in
+        let k : u16At s 1 ≤ 255 = subst (λ n. n ≤ 255) g h in
         (λ x. placeBit (classed (f x) (g x)))
-        ∙ sym (ap (λ t. placeBit (refuse t 4 (classed (getD s 0 0) (wordAt s 1)))) (le-ltb 255 (wordAt s 1) k))
+        ∙ sym (ap (λ t. placeBit (refuse t 4 (classed (getD s 0 0) (u16At s 1)))) (le-ltb 255 (u16At s 1) k))
 
     pub on-stack : c ≡ 0 → got i ≡ placeBit (placeAt s 0)
     on-stack e = sym (ap (λ c. placeBit (classed c i)) e) ∙ near

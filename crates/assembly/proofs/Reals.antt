@@ -10,7 +10,7 @@ use lib.ListN.{length, getD, take, drop, set, replicate}
 use Rattle.mir.specs.declared.records.Loc.{Loc}
 use Rattle.mir.specs.Place.{class, index}
 use Rattle.mir.specs.Read.{Read, got, refused, refuse, andThen}
-use Rattle.mir.specs.Field.{wordAt, placeAt}
+use Rattle.mir.specs.Field.{u16At, placeAt}
 use Rattle.mir.proofs.Passing.{either}
 use Rattle.mir.proofs.Written.{place-back}
 use Rattle.mir.proofs.Decoding.{Bytes}
@@ -166,7 +166,7 @@ said i h =
     (says 1 _ (real-row .low) (real-row .same) (cls p (idx (index p) (bit-place i h .low) none)))
 
 read-place : (p : Loc) → index p < 256 → placeAt (class p ∷ index p ∷ 0 ∷ []) 0 ≡ got p
-unfolding wordAt
+unfolding u16At
 read-place p h = place-back (class p ∷ index p ∷ 0 ∷ []) 0 p refl (omega arith) (omega arith)
 
 module _ (a b c d e : ℕ) (ps : List ℕ) (bytes : Bytes ps) (size : length ps ≡ 64) where

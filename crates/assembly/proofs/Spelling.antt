@@ -15,7 +15,7 @@ use Rattle.mir.specs.Operation.{uniOps, binOps, arithOps, fusedOps, uniNumber, 
 use Rattle.mir.specs.Takes.{takesUni, takesBin, takesArith, takesFused}
 use Rattle.mir.specs.Encode.{recordOf, flagByte}
 use Rattle.mir.specs.Read.{Read, got, refused, andThen}
-use Rattle.mir.specs.Field.{byteAt, wordAt, placeAt, savePlace, condPlace, savedTo, onStack}
+use Rattle.mir.specs.Field.{byteAt, u16At, placeAt, savePlace, condPlace, savedTo, onStack}
 use Rattle.mir.proofs.Decoding.{Bytes}
 use Rattle.sheet.specs.Instruction.{uniFrom, biFrom, movFrom, loadFrom, saveFrom, loadConstFrom, fusedFrom, ifElseFrom, loadMathFrom, loadConstMathFrom, ownLabel, labelFrom, branchFrom, branchIfFrom}
 use Rattle.text.specs.Text.{ascii, decimal, space, place, registers, recordLine, recordText, workText, uniName, binName, fusedName}
@@ -85,7 +85,7 @@ pub record Reads (n : ℕ) (s : List ℕ) (x' x : Read Instruction) : Type 0 whe
   pub local : x' ≡ x
 
 abbrev Known : ℕ → ℕ → (List ℕ → Read Instruction) → List ℕ → Type 0
-Known n kind x s = Bytes s → wordAt s 0 ≡ n → wordAt s 2 ≡ kind → Reads n s (x (take n s)) (x s)
+Known n kind x s = Bytes s → u16At s 0 ≡ n → u16At s 2 ≡ kind → Reads n s (x (take n s)) (x s)
 
 abbrev pub Kind : ℕ → ℕ → (List ℕ → Read Instruction) → Type 0
 Kind n kind x = (s : List ℕ) → n ≤ length s → Known n kind x s
@@ -114,7 +114,7 @@ unfolding heads recordOf ascii
 nop-row = row 3 _ tt refl
 
 pub nop : Kind 4 0 (λ s. got Instruction.Nop)
-unfolding wordAt instructionLine recordOf lengthOf lengths ascii
+unfolding u16At instructionLine recordOf lengthOf lengths ascii
 nop =
     by-front 4 (Known 4 0 (λ s. got Instruction.Nop))
     (λ b0 b1 b2 b3 rest bytes w v.
@@ -124,7 +124,7 @@ nop =
     })
 
 pub uni : Kind 7 1 uniFrom
-unfolding wordAt instructionLine recordLine recordText workText recordOf lengthOf lengths uniFrom
+unfolding u16At instructionLine recordLine recordText workText recordOf lengthOf lengths uniFrom
 uni =
     by-front 7 (Known 7 1 uniFrom)
     (λ b0 b1 b2 b3 b4 b5 b6 rest bytes w v.
@@ -140,7 +140,7 @@ uni =
     })
 
 pub bi : Kind 8 2 biFrom
-unfolding wordAt instructionLine recordLine recordText workText recordOf lengthOf lengths biFrom
+unfolding u16At instructionLine recordLine recordText workText recordOf lengthOf lengths biFrom
 bi =
     by-front 8 (Known 8 2 biFrom)
     (λ b0 b1 b2 b3 b4 b5 b6 b7 rest bytes w v.
@@ -160,7 +160,7 @@ unfolding heads recordOf ascii
 mov-row = row 39 _ tt refl
 
 pub mov : Kind 6 3 movFrom
-unfolding wordAt instructionLine recordLine recordText workText recordOf lengthOf lengths movFrom
+unfolding u16At instructionLine recordLine recordText workText recordOf lengthOf lengths movFrom
 mov =
     by-front 6 (Known 6 3 movFrom)
     (λ b0 b1 b2 b3 b4 b5 rest bytes w v.
@@ -191,7 +191,7 @@ same-place : {c lo hi : ℕ} {p q : Loc} → PlaceIs c lo hi p → q ≡ p → P
 same-place {c} {lo} {hi} h e = subst (PlaceIs c lo hi) (sym e) h
 
 pub load : Kind 8 4 loadFrom
-unfolding wordAt instructionLine recordLine recordText workText recordOf lengthOf lengths loadFrom placeAt
+unfolding u16At instructionLine recordLine recordText workText recordOf lengthOf lengths loadFrom placeAt
 load =
     by-front 8 (Known 8 4 loadFrom)
     (λ b0 b1 b2 b3 b4 b5 b6 b7 rest bytes w v.
@@ -207,7 +207,7 @@ load =
     })
 
 pub save : Kind 8 5 saveFrom
-unfolding wordAt instructionLine recordLine recordText workText recordOf lengthOf lengths saveFrom savePlace placeAt
+unfolding u16At instructionLine recordLine recordText workText recordOf lengthOf lengths saveFrom savePlace placeAt
 save =
     by-front 8 (Known 8 5 saveFrom)
     (λ b0 b1 b2 b3 b4 b5 b6 b7 rest bytes w v.
@@ -243,7 +243,7 @@ index-is count lo hi h e =
     record { low = omega (arith, k, h); bytes = λ i. w i ∷ z i ∷ [] }
 
 pub load-const : (count : ℕ) → count ≤ 251 → Kind 7 6 (loadConstFrom count)
-unfolding wordAt instructionLine recordLine recordText workText recordOf lengthOf lengths loadConstFrom
+unfolding u16At instructionLine recordLine recordText workText recordOf lengthOf lengths loadConstFrom
 load-const count most =
     by-front 7 (Known 7 6 (loadConstFrom count))
     (λ b0 b1 b2 b3 b4 b5 b6 rest bytes w v.
@@ -259,7 +259,7 @@ load-const count most =
     })
 
 pub fused : Kind 9 7 fusedFrom
-unfolding wordAt instructionLine recordLine recordText workText recordOf lengthOf lengths fusedFrom
+unfolding u16At instructionLine recordLine recordText workText recordOf lengthOf lengths fusedFrom
 fused =
     by-front 9 (Known 9 7 fusedFrom)
     (λ b0 b1 b2 b3 b4 b5 b6 b7 b8 rest bytes w v.
@@ -275,7 +275,7 @@ fused =
     })
 
 pub if-else : Kind 10 8 ifElseFrom
-unfolding wordAt instructionLine recordLine recordText workText recordOf lengthOf lengths ifElseFrom condPlace placeAt
+unfolding u16At instructionLine recordLine recordText workText recordOf lengthOf lengths ifElseFrom condPlace placeAt
 if-else =
     by-front 10 (Known 10 8 ifElseFrom)
     (λ b0 b1 b2 b3 b4 b5 b6 b7 b8 b9 rest bytes w v.
@@ -292,7 +292,7 @@ if-else =
     })
 
 pub load-math : Kind 10 9 loadMathFrom
-unfolding wordAt instructionLine recordLine recordText workText recordOf lengthOf lengths loadMathFrom placeAt
+unfolding u16At instructionLine recordLine recordText workText recordOf lengthOf lengths loadMathFrom placeAt
 load-math =
     by-front 10 (Known 10 9 loadMathFrom)
     (λ b0 b1 b2 b3 b4 b5 b6 b7 b8 b9 rest bytes w v.
@@ -310,7 +310,7 @@ load-math =
     })
 
 pub load-const-math : (count : ℕ) → count ≤ 251 → Kind 9 10 (loadConstMathFrom count)
-unfolding wordAt instructionLine recordLine recordText workText recordOf lengthOf lengths loadConstMathFrom
+unfolding u16At instructionLine recordLine recordText workText recordOf lengthOf lengths loadConstMathFrom
 load-const-math count most =
     by-front 9 (Known 9 10 (loadConstMathFrom count))
     (λ b0 b1 b2 b3 b4 b5 b6 b7 b8 rest bytes w v.
@@ -344,7 +344,7 @@ labelled : (n kind : ℕ) (name : List ℕ) (make : ℕ → Instruction) → Row
     → recordOf kind [] ≡ 5 ∷ 0 ∷ kind ∷ 0 ∷ []
     → ((l : ℕ) → (name ++ space (decimal l)) ++ 10 ∷ [] ≡ instructionLine (make l))
     → Kind 5 kind (λ s. ownLabel (byteAt s 4) (got (make (byteAt s 4))))
-unfolding wordAt
+unfolding u16At
 labelled n kind name make r h e f =
     by-front 5 (Known 5 kind (λ s. ownLabel (byteAt s 4) (got (make (byteAt s 4)))))
     (λ b0 b1 b2 b3 b4 rest bytes w v.
@@ -385,7 +385,7 @@ two-numbers name r l e =
     ∙ ap (λ t. t ++ 10 ∷ []) (sym (append-assoc (name ++ registers (r ∷ [])) (space (decimal l)) (space (decimal e))))
 
 pub branch-if : Kind 7 17 branchIfFrom
-unfolding wordAt instructionLine recordLine recordText recordOf lengthOf lengths branchIfFrom
+unfolding u16At instructionLine recordLine recordText recordOf lengthOf lengths branchIfFrom
 branch-if =
     by-front 7 (Known 7 17 branchIfFrom)
     (λ b0 b1 b2 b3 b4 b5 b6 rest bytes w v.

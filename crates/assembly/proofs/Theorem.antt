@@ -9,7 +9,7 @@ use lib.Dec.{T, ltb, eqb}
 use lib.ListN.{length, getD, take, drop, replicate, length-drop}
 use lib.Seq.{length-take-le, getD-drop, getD-take}
 use Rattle.mir.specs.Read.{Read, got, refused, andThen}
-use Rattle.mir.specs.Field.{byteAt, wordAt}
+use Rattle.mir.specs.Field.{byteAt, u16At}
 use Rattle.mir.proofs.Passing.{either, passed, clash}
 use Rattle.mir.proofs.Decoding.{Bytes}
 use Rattle.sheet.specs.declared.setup.Mode.{Mode}
@@ -71,8 +71,8 @@ mode-byte b m e =
 
 -- the bytes of a header
 record Headed (s : List ℕ) (m : Mode) : Type 0 where
-  size : wordAt s 0 ≡ 69
-  kind : wordAt s 2 ≡ 32
+  size : u16At s 0 ≡ 69
+  kind : u16At s 2 ≡ 32
   mode : byteAt s 4 ≡ modeByte m
 
 headed : (s : List ℕ) (m : Mode) → headerFrom s ≡ got m → Headed s m
@@ -80,11 +80,11 @@ unfolding headerFrom
 headed s m e =
     let a = passed (ltb 16384 (length s)) 8 _ m e in
     let b = passed (ltb (length s) 69) 8 _ m (a .rest) in
-    let c = passed (not (eqb (wordAt s 0) 69)) 8 _ m (b .rest) in
-    let d = passed (not (eqb (wordAt s 2) 32)) 8 _ m (c .rest) in
+    let c = passed (not (eqb (u16At s 0) 69)) 8 _ m (b .rest) in
+    let d = passed (not (eqb (u16At s 2) 32)) 8 _ m (c .rest) in
     record {
-      size = eqb-true (wordAt s 0) 69 (not-false (eqb (wordAt s 0) 69) (c .test));
-      kind = eqb-true (wordAt s 2) 32 (not-false (eqb (wordAt s 2) 32) (d .test));
+      size = eqb-true (u16At s 0) 69 (not-false (eqb (u16At s 0) 69) (c .test));
+      kind = eqb-true (u16At s 2) 32 (not-false (eqb (u16At s 2) 32) (d .test));
       mode = mode-byte (byteAt s 4) m (d .rest);
     }
 
@@ -114,7 +114,7 @@ Opening m s =
     → Onward noSheet (modeLine (isStable m) ++ realLines (take 64 (drop 5 s)) 512 0) (record { bytes = take 69 s; count = 0; stage = 1 })
 
 opening : (m : Mode) (s : List ℕ) → 5 ≤ length s → Opening m s
-unfolding wordAt
+unfolding u16At
 opening m =
     by-front 5 (Opening m)
     (λ a b c d e ps bytes h l.

@@ -14,7 +14,7 @@ use super::reading::piece_end;
 use super::reading::read_line;
 use lowering::realness::power_of;
 use mir::fields::byte;
-use mir::fields::word;
+use mir::fields::u16_at;
 use sheet::reader::NextInstruction;
 use sheet::reader::read_instruction;
 use words::put_bytes;
@@ -66,7 +66,7 @@ fn real_bit(b: &[u8]) -> Number
     ensures { λ r. ⌜ asNumber r ≡ placeBit (placeAt (now (b .entry)) 0) ⌝ }
 {
     let class = byte(b, 0);
-    let i = word(b, 1) as usize;
+    let i = u16_at(b, 1) as usize;
     if 255 < i {
         return Number::None;
     }

@@ -4,7 +4,7 @@
 mod print;
 mod sheets;
 
-use complexify::entry::Answer;
+use complexify::entry::LowerAnswer;
 use complexify::entry::lower;
 use player::play;
 use sheets::Sheet;
@@ -18,7 +18,7 @@ fn lowered(
     own: usize,
     listing: &mut [u8],
     constants: &mut [u64],
-) -> Answer {
+) -> LowerAnswer {
     let n = sheets::within(bytes.len(), len);
     let a = lower(&bytes[0..n], listing, constants);
     print::answer(name, a);

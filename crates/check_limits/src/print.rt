@@ -1,8 +1,8 @@
 // What lowering and playing gave, line by line.
-use complexify::entry::Answer;
+use complexify::entry::LowerAnswer;
 use libc::STDOUT_FILENO;
 use lowering::realness::Realness;
-use player::Answer as Played;
+use player::PlayAnswer;
 use records::reader::NextRecord;
 use records::reader::read_record;
 use text::line::Line;
@@ -31,7 +31,7 @@ fn line(line: Line) {
     first(&bytes, line.len);
 }
 
-pub(crate) fn answer(name: &[u8], a: Answer) {
+pub(crate) fn answer(name: &[u8], a: LowerAnswer) {
     write(name);
     number(b": number ", a.number as usize);
     number(b", index ", a.index);
@@ -98,7 +98,7 @@ pub(crate) fn listing(listing: &[u8], written: usize, count: usize) {
     }
 }
 
-pub(crate) fn played(p: Played) {
+pub(crate) fn played(p: PlayAnswer) {
     number(b"  played: number ", p.number as usize);
     number(b", index ", p.index);
     number(b", records ", p.played);

@@ -16,7 +16,7 @@ use Rattle.lowering.specs.Labels.{noneStanding}
 use Rattle.lowering.specs.Lower.{lowerFrom, lowerSheet}
 use Rattle.complexifier.specs.declared.state.Complexifier.{Complexifier}
 use Rattle.complexifier.specs.Does.{state}
-use Rattle.complexify.specs.declared.entry.Answer.{Answer}
+use Rattle.complexify.specs.declared.entry.LowerAnswer.{LowerAnswer}
 use Rattle.complexify.specs.declared.turn.Cursor.{Cursor}
 use Rattle.complexify.specs.Entry.{wrongSetup, refusedSetup, answerOf, answer, listingAfter, constantsAfter}
 use Rattle.complexify.specs.Taken.{Ready, Appended, left, Ran}
@@ -24,22 +24,22 @@ use Rattle.complexify.proofs.Copies.{kept-first, taken-first, kept-then
 use Rattle.complexify.proofs.Grown.{space-start}
 
 -- what the entry promises of its answer and of the two slices
-pub record Answered (sheet listing constants : List ℕ) (a : Answer) (listing' constants' : List ℕ) : Type 0 where
+pub record Answered (sheet listing constants : List ℕ) (a : LowerAnswer) (listing' constants' : List ℕ) : Type 0 where
   pub answered : a ≡ answer sheet listing constants
   pub bytes : listing' ≡ listingAfter sheet listing constants
   pub words : constants' ≡ constantsAfter sheet listing constants
 
 module _ (sheet listing constants : List ℕ) (x : Setup) (e : x ≡ setup sheet) where
-  refusing : {a : Answer} → wrongSetup sheet listing constants ≡ true → a ≡ refusedSetup → Answered sheet listing constants a listing constants
+  refusing : {a : LowerAnswer} → wrongSetup sheet listing constants ≡ true → a ≡ refusedSetup → Answered sheet listing constants a listing constants
   refusing w h = record { answered = h ∙ simp w; bytes = simp w; words = simp w }
 
-  pub wrong-sheet : {a : Answer} → (x .number ≡ 0 → ⊥) → a ≡ refusedSetup → Answered sheet listing constants a listing constants
+  pub wrong-sheet : {a : LowerAnswer} → (x .number ≡ 0 → ⊥) → a ≡ refusedSetup → Answered sheet listing constants a listing constants
   wrong-sheet n h = refusing (simp (← e, ne-eqb _ _ n)) h
 
-  pub wrong-listing : {a : Answer} → x .number ≡ 0 → 65536 < length listing → a ≡ refusedSetup → Answered sheet listing constants a listing constants
+  pub wrong-listing : {a : LowerAnswer} → x .number ≡ 0 → 65536 < length listing → a ≡ refusedSetup → Answered sheet listing constants a listing constants
   wrong-listing n l h = refusing (simp (← e, eq-eqb _ _ n, lt-ltb _ _ l)) h
 
-  pub wrong-constants : {a : Answer} → x .number ≡ 0 → length listing ≤ 65536 → (length constants ≡ 256 → ⊥) → a ≡ refusedSetup
+  pub wrong-constants : {a : LowerAnswer} → x .number ≡ 0 → length listing ≤ 65536 → (length constants ≡ 256 → ⊥) → a ≡ refusedSetup
       → Answered sheet listing constants a listing constants
   wrong-constants n l c h = refusing (simp (← e, eq-eqb _ _ n, le-ltb _ _ l, ne-eqb _ _ c)) h
 
@@ -77,7 +77,7 @@ module _ (sheet listing constants : List ℕ) (x : Setup) (e : x ≡ setup sheet
           space = space-start (take (x .count) constants₁) (let z = ap length (first k) ∙ own-length in omega (arith, own-few, z));
         }
 
-    pub answering : {constants₁ listing' constants' : List ℕ} {low : Complexifier} {a : Answer}
+    pub answering : {constants₁ listing' constants' : List ℕ} {low : Complexifier} {a : LowerAnswer}
         → constants₁ ≡ sets constants 0 (constantsOf sheet (x .count))
         → low ≡ record { real = fresh (x .places); «root_defined» = false }
         → Ran (left (x .mode) (length listing) (x .count) sheet noneStanding listing constants₁ (beginning low)) listing constants₁ (beginning low) listing' constants' a

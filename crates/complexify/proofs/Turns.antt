@@ -14,7 +14,7 @@ use Rattle.mir.specs.Encode.{Buf, buf, encodeAll}
 use Rattle.mir.proofs.Passing.{either}
 use Rattle.mir.proofs.Decoding.{Here, Done}
 use Rattle.mir.specs.Read.{Read, got, refused, andThen}
-use Rattle.mir.specs.Field.{wordAt}
+use Rattle.mir.specs.Field.{u16At}
 use Rattle.mir.specs.Decode.{readAt, Decoded, decoded}
 use Rattle.sheet.specs.declared.setup.Mode.{Mode}
 use Rattle.sheet.specs.declared.reader.NextInstruction.{NextInstruction}
@@ -30,7 +30,7 @@ use Rattle.lowering.specs.Lower.{Ended, ended, past, lowerFrom, barred}
 use Rattle.lowering.proofs.Ahead.{labelIn, seen-first}
 use Rattle.lines.proofs.Fitting.{pushAll-fits}
 use Rattle.complexifier.specs.Does.{state}
-use Rattle.complexify.specs.declared.entry.Answer.{Answer}
+use Rattle.complexify.specs.declared.entry.LowerAnswer.{LowerAnswer}
 use Rattle.rerun.specs.declared.output.Output.{Output}
 use Rattle.complexify.specs.declared.turn.Cursor.{Cursor}
 use Rattle.complexify.specs.declared.turn.Next.{Next}
@@ -430,7 +430,7 @@ module _ (own : ℕ) (sheet : List ℕ) (at : ℕ) (mode : Mode) (listing consta
 
 -- by what is read at the position
 abbrev pub behind : List ℕ → ℕ → ℕ
-behind sheet at = at + wordAt (drop at sheet) 0
+behind sheet at = at + u16At (drop at sheet) 0
 
 module _ (own : ℕ) (sheet : List ℕ) (at : ℕ) where
   pub at-got : (i : Instruction) → instructionFrom own (drop at sheet) ≡ got i
@@ -489,7 +489,7 @@ module _ {mode : Mode} {own : ℕ} {sheet stage listing constants marks rows mar
           (turn-torn ready (done-refused own sheet (p .at) k e inside))))
 
 -- the answer where the work ends
-ran : {whole : Ended} {listing constants : List ℕ} {start : Cursor} {listing' constants' : List ℕ} (number : ℕ) (p : Cursor) {a : Answer}
+ran : {whole : Ended} {listing constants : List ℕ} {start : Cursor} {listing' constants' : List ℕ} (number : ℕ) (p : Cursor) {a : LowerAnswer}
     → whole ≡ endedAt number listing' constants' p → Appended listing (start .written) listing' (p .written)
     → Appended constants (start .count) constants' (p .count)
     → a ≡ record { number = number; index = p .index; written = p .written; count = p .count; real = p .low .real }
@@ -571,13 +571,13 @@ module _ {mode : Mode} {own : ℕ} {sheet listing₀ constants₀ : List ℕ} {s
             same = sym (turned-same ∙ on-false _ _ _ e) ∙ s .same;
           }
 
-      pub ran-refused : {a : Answer} → r .done ≡ true
+      pub ran-refused : {a : LowerAnswer} → r .done ≡ true
           → a ≡ record { number = r .number; index = r .stand .index; written = r .stand .written; count = r .stand .count; real = r .stand .low .real }
           → Ran (left mode (length listing₀) own sheet noneStanding listing₀ constants₀ start) listing₀ constants₀ start listing' constants' a
       ran-refused e h =
           ran (r .number) (r .stand) (sym (s .same) ∙ turned-same ∙ on-true _ _ _ e) (kept-then (s .bytes) (t .turned .bytes)) (kept-then (s .words) (t .turned .words)) h
 
-    pub ran-ended : {a : Answer} → Done (instructionFrom own) sheet (p .at) 0
+    pub ran-ended : {a : LowerAnswer} → Done (instructionFrom own) sheet (p .at) 0
         → a ≡ record { number = 0; index = p .index; written = p .written; count = p .count; real = p .low .real }
         → Ran (left mode (length listing₀) own sheet noneStanding listing₀ constants₀ start) listing₀ constants₀ start listing constants a
     ran-ended d h = ran 0 p (sym (s .same) ∙ stopped mode (length listing₀) own sheet (s .before) listing constants p 0 d) (s .bytes) (s .words) h

@@ -18,7 +18,7 @@ use Rattle.lowering.specs.Complexifier.{State}
 use Rattle.lowering.specs.Labels.{role, Standing, noneStanding, misplaced, unequal, passed}
 use Rattle.lowering.specs.Lower.{Ended, ended, barred, past, lowerFrom, startState, lowerSheet}
 use Rattle.lowering.specs.Rerun.{rerun}
-use Rattle.complexify.specs.declared.entry.Answer.{Answer}
+use Rattle.complexify.specs.declared.entry.LowerAnswer.{LowerAnswer}
 use Rattle.complexify.specs.Entry.{wrongSetup, answer}
 use Rattle.complexify.specs.Taken.{space}
 use Rattle.complexify.proofs.Grown.{space-start}
@@ -66,7 +66,7 @@ held-sheet sheet room e =
     let n = length-constants sheet (x .count) 0 in
     held (x .mode) room (d .items) (d .fault) rest noneStanding 0 [] (startState (x .places) own) (omega arith) (space-start own (omega (arith, c, n)))
 
-pub record Within (listing : List ℕ) (a : Answer) : Type 0 where
+pub record Within (listing : List ℕ) (a : LowerAnswer) : Type 0 where
   pub written : a .written ≤ length listing
   pub count : a .count ≤ 256
 
@@ -83,5 +83,5 @@ answered sheet listing constants =
     (λ w. record { written = simp w (h .bytes); count = simp w (omega (arith, k)) }))
     (λ e. refused sheet listing constants (simp e))
 
-pub within : (sheet listing constants : List ℕ) {a : Answer} → a ≡ answer sheet listing constants → Within listing a
+pub within : (sheet listing constants : List ℕ) {a : LowerAnswer} → a ≡ answer sheet listing constants → Within listing a
 within sheet listing constants e = subst (Within listing) (sym e) (answered sheet listing constants)

@@ -8,7 +8,7 @@ use lib.Dec.{ltb, eqb}
 use Rattle.sheet.specs.Setup.{setup}
 use Rattle.lowering.specs.Realness.{fresh}
 use Rattle.lowering.specs.Lower.{Ended, lowerSheet}
-use Rattle.complexify.specs.declared.entry.Answer.{Answer}
+use Rattle.complexify.specs.declared.entry.LowerAnswer.{LowerAnswer}
 
 -- 8, "tested first": what the sheet's setup refuses, "a listing slice over 65,536 bytes, or a constants slice of other than 256 words"
 abbrev pub wrongSetup : List ℕ → List ℕ → List ℕ → Bool
@@ -16,12 +16,12 @@ wrongSetup sheet listing constants =
     not (eqb (setup sheet .number) 0) || (ltb 65536 (length listing) || not (eqb (length constants) 256))
 
 -- "Setup refusals carry index 0, counts 0 and all realness complex."
-abbrev pub refusedSetup : Answer
+abbrev pub refusedSetup : LowerAnswer
 refusedSetup = record { number = 8; index = 0; written = 0; count = 0; real = fresh (replicate 64 0) }
 
 -- "Lowering returns a number (0: accepted), an instruction's index, listing bytes written, a count of constants and the final record of
 -- realness."
-abbrev pub answerOf : Ended → Answer
+abbrev pub answerOf : Ended → LowerAnswer
 answerOf e =
     record {
       number = e .number;
@@ -31,7 +31,7 @@ answerOf e =
       real = e .state .real;
     }
 
-abbrev pub answer : List ℕ → List ℕ → List ℕ → Answer
+abbrev pub answer : List ℕ → List ℕ → List ℕ → LowerAnswer
 answer sheet listing constants = cond (wrongSetup sheet listing constants) refusedSetup (answerOf (lowerSheet sheet (length listing)))
 
 -- "A refusal by 8 changes nothing. Any other refusal of lowering leaves the sheet's constants, the finished instructions' bytes and

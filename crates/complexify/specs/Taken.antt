@@ -16,7 +16,7 @@ use Rattle.lowering.specs.Labels.{Standing, role, misplaced, unequal, passed}
 use Rattle.lowering.specs.Lower.{Ended, ended, past, lowerFrom}
 use Rattle.complexifier.specs.Does.{state}
 use Rattle.rerun.specs.declared.output.Output.{Output}
-use Rattle.complexify.specs.declared.entry.Answer.{Answer}
+use Rattle.complexify.specs.declared.entry.LowerAnswer.{LowerAnswer}
 use Rattle.complexify.specs.declared.turn.Cursor.{Cursor}
 use Rattle.complexify.specs.declared.turn.Next.{Next}
 use Rattle.complexify.specs.Entry.{answerOf}
@@ -119,7 +119,7 @@ Taken mode listing constants p listing' constants' r (got x) = LoweredOne mode (
 Taken mode listing constants p listing' constants' r (refused n) = (r ≡ refusal n p) × (listing' ≡ listing) × (constants' ≡ constants)
 
 -- the whole loop
-pub record Ran (whole : Ended) (l k : List ℕ) (p : Cursor) (l' k' : List ℕ) (r : Answer) : Type 0 where
+pub record Ran (whole : Ended) (l k : List ℕ) (p : Cursor) (l' k' : List ℕ) (r : LowerAnswer) : Type 0 where
   pub answer : r ≡ answerOf whole
   pub bytes : whole .bytes ≡ take (r .written) l'
   pub consts : whole .state .consts ≡ take (r .count) k'

@@ -17,7 +17,7 @@ use sheet::setup::Mode;
 use sheet::setup::read_setup;
 
 // The number (0: accepted), an instruction's index, the bytes written, the count of constants, and the final record of realness.
-pub struct Answer {
+pub struct LowerAnswer {
     pub number: u8,
     pub index: usize,
     pub written: usize,
@@ -25,12 +25,12 @@ pub struct Answer {
     pub real: Realness,
 }
 
-fn answer_at(number: u8, p: Cursor) -> Answer
+fn answer_at(number: u8, p: Cursor) -> LowerAnswer
     ensures { λ r. ⌜ r ≡ record { number = number; index = p .index; written = p .written; count = p .count; real = p .low .real } ⌝ }
 {
     let low = p.low;
     let real = low.real;
-    Answer {
+    LowerAnswer {
         number: number,
         index: p.index,
         written: p.written,
@@ -39,11 +39,11 @@ fn answer_at(number: u8, p: Cursor) -> Answer
     }
 }
 
-fn wrong_setup() -> Answer
+fn wrong_setup() -> LowerAnswer
     ensures { λ r. ⌜ r ≡ Spec.refusedSetup ⌝ }
 {
     let places = [0u8; 64];
-    Answer {
+    LowerAnswer {
         number: 8,
         index: 0,
         written: 0,
@@ -62,7 +62,7 @@ fn run(
     rows: &mut [u8],
     listing: &mut [u8],
     constants: &mut [u64],
-) -> Answer
+) -> LowerAnswer
     requires { ⌜ Ready (replicate 704 0) (now listing) (now constants) start ⌝ }
     requires { ⌜ (start .index ≤ start .at) × (length (now sheet) ≤ 16384) ⌝ }
     requires { ⌜ Noted noneStanding (drop (start .at) (now sheet)) (now marks) (now rows) ⌝ }
@@ -95,7 +95,7 @@ fn run_marked(
     start: Cursor,
     listing: &mut [u8],
     constants: &mut [u64],
-) -> Answer
+) -> LowerAnswer
     requires { ⌜ Ready (replicate 704 0) (now listing) (now constants) start ⌝ }
     requires { ⌜ (start .index ≤ start .at) × (length (now sheet) ≤ 16384) ⌝ }
     ensures { λ r. ⌜ Ran (left mode (length (now (listing .entry))) own (now (sheet .entry)) noneStanding (now (listing .entry)) (now (constants .entry)) start) (now (listing .entry)) (now (constants .entry)) start (now (listing .exit)) (now (constants .exit)) r ⌝ }
@@ -127,7 +127,7 @@ fn run_marked(
     )
 }
 
-pub fn lower(sheet: &[u8], listing: &mut [u8], constants: &mut [u64]) -> Answer
+pub fn lower(sheet: &[u8], listing: &mut [u8], constants: &mut [u64]) -> LowerAnswer
     ensures { λ r. ⌜ (r ≡ Spec.answer (now (sheet .entry)) (now (listing .entry)) (now (constants .entry)))
         × (now (listing .exit) ≡ Spec.listingAfter (now (sheet .entry)) (now (listing .entry)) (now (constants .entry)))
         × (now (constants .exit) ≡ Spec.constantsAfter (now (sheet .entry)) (now (listing .entry)) (now (constants .entry))) ⌝ }

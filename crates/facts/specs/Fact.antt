@@ -12,7 +12,7 @@ use Rattle.mir.specs.declared.records.Loc.{Loc}
 use Rattle.mir.specs.declared.records.Work.{Work}
 use Rattle.mir.specs.Operation.{uniNumber, binNumber, arithNumber, fusedNumber}
 use Rattle.player_machine.specs.Machine.{Store, Write, _≔_, writes}
-use Rattle.complexify.specs.declared.entry.Answer.{Answer}
+use Rattle.complexify.specs.declared.entry.LowerAnswer.{LowerAnswer}
 use Rattle.complexify.specs.Entry.{answer, listingAfter, constantsAfter}
 
 -- a sheet's bytes, lowered in a listing slice of `room` bytes: "a number (0: accepted), an instruction's index, listing bytes written, a
@@ -59,7 +59,7 @@ lentWord = 0xaaaa_aaaa_aaaa_aaaa
 
 -- what comes of a row: the entry's answer with both lent slices after it, or words
 pub data Outcome : Type 0 where
-  left : Answer → List ℕ → List ℕ → Outcome
+  left : LowerAnswer → List ℕ → List ℕ → Outcome
   wrote : List ℕ → Outcome
 
 abbrev pub lower : List ℕ → List ℕ → List ℕ → Outcome

@@ -24,7 +24,7 @@ use Rattle.figures.specs.Shelf.{blockIn, branchOf, counted}
 use Rattle.figures.specs.Walk.{Within}
 use Rattle.figures.specs.Taken.{OwnLabel}
 use Rattle.figures.proofs.Counts.{plain-block, around-block}
-use Rattle.figures.proofs.Walks.{Spelled, spelled}
+use Rattle.figures.proofs.Walks.{Encoded, encoded}
 use Rattle.sheet.specs.declared.setup.Mode.{Mode}
 
 records-few : (rs : List Record) → length rs ≤ length (encodeAll rs)
@@ -32,7 +32,7 @@ records-few [] = omega arith
 records-few (r ∷ rs) =
     let i = records-few rs in
     let k = length-append (encode r) (encodeAll rs) in
-    let s = spelled r [] in
+    let s = encoded r [] in
     omega (arith, i, k, s .long)
 
 calls-within : (rs : List Record) → tally isCall rs ≤ length rs

@@ -32,29 +32,29 @@ abbrev labelOf : Record → ℕ
 labelOf r = getD (encode r) 4 0
 
 -- the bytes that the walk reads, whatever stands behind the record
-pub record Spelled (r : Record) (l : List ℕ) : Type 0 where
+pub record Encoded (r : Record) (l : List ℕ) : Type 0 where
   pub size : getD (encode r ++ l) 0 0 ≡ length (encode r)
   pub kind : getD (encode r ++ l) 2 0 ≡ kindOf r
   pub label : getD (encode r ++ l) 4 0 ≡ labelOf r
   pub long : 4 ≤ length (encode r)
 
-pub spelled : (r : Record) (l : List ℕ) → Spelled r l
+pub encoded : (r : Record) (l : List ℕ) → Encoded r l
 unfolding recordOf lengthOf
-spelled (Record.Work (Work.Uni op dst s1)) l = record { size = refl; kind = refl; label = refl; long = omega arith }
-spelled (Record.Work (Work.Bi op dst s1 s2)) l = record { size = refl; kind = refl; label = refl; long = omega arith }
-spelled (Record.Work (Work.Mov dst s1)) l = record { size = refl; kind = refl; label = refl; long = omega arith }
-spelled (Record.Work (Work.Load dst loc)) l = record { size = refl; kind = refl; label = refl; long = omega arith }
-spelled (Record.Work (Work.Save src loc)) l = record { size = refl; kind = refl; label = refl; long = omega arith }
-spelled (Record.Work (Work.LoadConst dst idx)) l = record { size = refl; kind = refl; label = refl; long = omega arith }
-spelled (Record.Work (Work.Fused op dst a b k)) l = record { size = refl; kind = refl; label = refl; long = omega arith }
-spelled (Record.Work (Work.IfElse dst t f loc)) l = record { size = refl; kind = refl; label = refl; long = omega arith }
-spelled (Record.Work (Work.LoadComplex xd yd loc)) l = record { size = refl; kind = refl; label = refl; long = omega arith }
-spelled (Record.Work (Work.SaveComplex xs ys loc)) l = record { size = refl; kind = refl; label = refl; long = omega arith }
-spelled (Record.Work (Work.ComplexBi op xd yd x1 y1 x2 y2)) l = record { size = refl; kind = refl; label = refl; long = omega arith }
-spelled (Record.Label m) l = record { size = refl; kind = refl; label = refl; long = omega arith }
-spelled (Record.Branch m) l = record { size = refl; kind = refl; label = refl; long = omega arith }
-spelled (Record.Call m) l = record { size = refl; kind = refl; label = refl; long = omega arith }
-spelled (Record.BranchIf c m e) l = record { size = refl; kind = refl; label = refl; long = omega arith }
+encoded (Record.Work (Work.Uni op dst s1)) l = record { size = refl; kind = refl; label = refl; long = omega arith }
+encoded (Record.Work (Work.Bi op dst s1 s2)) l = record { size = refl; kind = refl; label = refl; long = omega arith }
+encoded (Record.Work (Work.Mov dst s1)) l = record { size = refl; kind = refl; label = refl; long = omega arith }
+encoded (Record.Work (Work.Load dst loc)) l = record { size = refl; kind = refl; label = refl; long = omega arith }
+encoded (Record.Work (Work.Save src loc)) l = record { size = refl; kind = refl; label = refl; long = omega arith }
+encoded (Record.Work (Work.LoadConst dst idx)) l = record { size = refl; kind = refl; label = refl; long = omega arith }
+encoded (Record.Work (Work.Fused op dst a b k)) l = record { size = refl; kind = refl; label = refl; long = omega arith }
+encoded (Record.Work (Work.IfElse dst t f loc)) l = record { size = refl; kind = refl; label = refl; long = omega arith }
+encoded (Record.Work (Work.LoadComplex xd yd loc)) l = record { size = refl; kind = refl; label = refl; long = omega arith }
+encoded (Record.Work (Work.SaveComplex xs ys loc)) l = record { size = refl; kind = refl; label = refl; long = omega arith }
+encoded (Record.Work (Work.ComplexBi op xd yd x1 y1 x2 y2)) l = record { size = refl; kind = refl; label = refl; long = omega arith }
+encoded (Record.Label m) l = record { size = refl; kind = refl; label = refl; long = omega arith }
+encoded (Record.Branch m) l = record { size = refl; kind = refl; label = refl; long = omega arith }
+encoded (Record.Call m) l = record { size = refl; kind = refl; label = refl; long = omega arith }
+encoded (Record.BranchIf c m e) l = record { size = refl; kind = refl; label = refl; long = omega arith }
 
 -- working records have the kinds below Label's
 work-kind : (w : Work) → ltb (kindOf (Record.Work w)) 14 ≡ true
@@ -189,7 +189,7 @@ module _ {bytes : List ℕ} {c : Count} {rs : List Record} {at n m b : ℕ} {p :
       → b + tail p (r ∷ l) ≡ c .block + blockIn rs
       → Stepped bytes c rs at n m b p (length (encode r)) (kindOf r) (labelOf r)
   walked r l h e x y z =
-      let s = spelled r (encodeAll l) in
+      let s = encoded r (encodeAll l) in
       let g = length-drop at bytes in
       let k : length (drop at bytes) ≡ length (encode r) + length (encodeAll l) = ap length e ∙ length-append (encode r) (encodeAll l) in
       let q = calls-seen r in
@@ -216,7 +216,7 @@ module _ {bytes : List ℕ} {c : Count} {rs : List Record} {at n m b : ℕ} {p :
           → Stepped bytes c rs at n m b p size kind label
       go [] d x y z = let g = length-drop at bytes in let q : length (drop at bytes) ≡ 0 = ap length d in absurd (omega (arith, g, q, h))
       go (r ∷ l) d x y z =
-          let t = spelled r (encodeAll l) in
+          let t = encoded r (encodeAll l) in
           let i : size ≡ length (encode r) = e ∙ ap (λ j. getD bytes j 0) (sym (add-zero at)) ∙ read bytes (encode r ++ encodeAll l) at 0 d ∙ t .size in
           let j : kind ≡ kindOf r = f ∙ read bytes (encode r ++ encodeAll l) at 2 d ∙ t .kind in
           let k : label ≡ labelOf r = g ∙ read bytes (encode r ++ encodeAll l) at 4 d ∙ t .label in
@@ -239,7 +239,7 @@ module _ {bytes : List ℕ} {c : Count} {rs : List Record} {at n m b : ℕ} {p :
           let q : b ≡ c .block + blockIn rs = let o = tail-none p in omega (arith, w, o) in
           λ j. record { bytes = c .bytes + length (e j); records = u j; calls = v j; block = q j; branches = c .branches + f j }
       go (r ∷ l) d y z w =
-          let s = spelled r (encodeAll l) in
+          let s = encoded r (encodeAll l) in
           let q : length (encodeAll (r ∷ l)) ≡ 0 = ap length (sym d ∙ drop-of-length-le bytes h) in
           let k = length-append (encode r) (encodeAll l) in
           absurd (omega (arith, q, k, s .long))

@@ -7,8 +7,8 @@ use lib.Dec.{eqb, ltb}
 use Rattle.float.specs.Word as Word
 
 -- the word whose lowest byte stands at i
-abbrev pub wordAt : List ℕ → ℕ → ℕ
-wordAt s i =
+abbrev pub u16At : List ℕ → ℕ → ℕ
+u16At s i =
     getD s i 0 + 2 ^ 8 * getD s (i + 1) 0 + 2 ^ 16 * getD s (i + 2) 0 + 2 ^ 24 * getD s (i + 3) 0 + 2 ^ 32 * getD s (i + 4) 0 + 2 ^ 40 * getD s (i + 5) 0
     + 2 ^ 48 * getD s (i + 6) 0
     + 2 ^ 56 * getD s (i + 7) 0
@@ -29,4 +29,4 @@ answer op a b c d = getD (answers a b c d) op 0
 
 -- whether the answer is not the one that `float` gives; no operation has a number above 34
 unfoldable pub differs : List ℕ → Bool
-differs s = not (ltb (getD s 0 0) 35 && eqb (answer (getD s 0 0) (wordAt s 1) (wordAt s 9) (wordAt s 17) (wordAt s 25)) (wordAt s 33))
+differs s = not (ltb (getD s 0 0) 35 && eqb (answer (getD s 0 0) (u16At s 1) (u16At s 9) (u16At s 17) (u16At s 25)) (u16At s 33))

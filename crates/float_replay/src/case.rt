@@ -3,7 +3,7 @@ ghost use Prim.Native.Nat.{_+_, _<_, _≤_};
 ghost use mathlib.Core.Path.{_≡_};
 ghost use lib.ListN.{length};
 ghost use Rattle.float_replay.specs.Case as Case;
-ghost use Rattle.float_replay.specs.Case.{wordAt, answer};
+ghost use Rattle.float_replay.specs.Case.{u16At, answer};
 
 fn wide(x: u8) -> u64
     ensures { λ r. ⌜ (r ≡ x) × (r < 256) ⌝ }
@@ -14,7 +14,7 @@ fn wide(x: u8) -> u64
 // The word whose lowest byte stands at i.
 fn word(s: &[u8], i: usize) -> u64
     requires { ⌜ i + 8 ≤ length (now s) ⌝ }
-    ensures { λ r. ⌜ r ≡ wordAt (now (s .entry)) i ⌝ }
+    ensures { λ r. ⌜ r ≡ u16At (now (s .entry)) i ⌝ }
 {
     let low = wide(s[i])
         + 0x100 * wide(s[i + 1])

@@ -10,7 +10,7 @@ use lib.Seq.{sets, length-sets}
 use borrow.Author.Tests.{eq-eqb, ne-eqb}
 use Rattle.mir.proofs.Passing.{either}
 use Rattle.lowering.specs.Lower.{lowerSheet}
-use Rattle.complexify.specs.declared.entry.Answer as Lowered
+use Rattle.complexify.specs.declared.entry.LowerAnswer as Lowered
 use Rattle.complexify.specs.Entry as Lower
 use Rattle.complexify.proofs.Within.{within}
 use Rattle.words.specs.Bytes.{bytesOf, wordsOf, stored}
@@ -37,7 +37,7 @@ three-runs l a b c {x} {y} {z} hl ha hb hc e f g =
     ∙ sym first
     ∙ whole
 
-pub told : (a : Lowered.Answer) (l : List ℕ) {x y z : List ℕ} → length l ≡ 128 → length (a .real .regs) ≡ 32 → length (a .real .places) ≡ 64
+pub told : (a : Lowered.LowerAnswer) (l : List ℕ) {x y z : List ℕ} → length l ≡ 128 → length (a .real .regs) ≡ 32 → length (a .real .places) ≡ 64
     → x ≡ stored l 0 (bytesOf (a .number ∷ a .index ∷ a .written ∷ a .count ∷ [])) → y ≡ sets x 32 (map flag (a .real .regs))
     → z ≡ stored y 64 (a .real .places) → z ≡ lowerAnswer a
 told a l hl hr hp =
@@ -45,14 +45,14 @@ told a l hl hr hp =
     (length-bytesOf (a .number ∷ a .index ∷ a .written ∷ a .count ∷ [])) (length-map (a .real .regs) flag ∙ hr) hp
 
 module _ (sheet listing constants lent : List ℕ) (whole-answer : length lent ≡ 128) where
-  pub wrong-constants : {a : Lowered.Answer} {r : List ℕ} → (length constants ≡ 2048 → ⊥) → a ≡ Lower.refusedSetup → r ≡ lowerAnswer a
+  pub wrong-constants : {a : Lowered.LowerAnswer} {r : List ℕ} → (length constants ≡ 2048 → ⊥) → a ≡ Lower.refusedSetup → r ≡ lowerAnswer a
       → record { number = 8; listing = listing; constants = constants; answer = r } ≡ lowerCall sheet listing constants lent
   unfolding lowerCall
   wrong-constants h d e =
       let er = e ∙ ap lowerAnswer d in
       simp (eq-eqb _ _ whole-answer, ne-eqb _ _ h) (λ i. record { number = 8; listing = listing; constants = constants; answer = er i })
 
-  pub lowered : {a : Lowered.Answer} {s c r : List ℕ} → length constants ≡ 2048 → a ≡ Lower.answer sheet listing (wordsOf constants)
+  pub lowered : {a : Lowered.LowerAnswer} {s c r : List ℕ} → length constants ≡ 2048 → a ≡ Lower.answer sheet listing (wordsOf constants)
       → s ≡ Lower.listingAfter sheet listing (wordsOf constants) → c ≡ bytesOf (Lower.constantsAfter sheet listing (wordsOf constants))
       → r ≡ lowerAnswer a → record { number = a .number; listing = s; constants = c; answer = r } ≡ lowerCall sheet listing constants lent
   unfolding lowerCall
@@ -80,11 +80,11 @@ module _ (sheet listing constants zeros : List ℕ) (e : length constants ≡ 20
   same-listing = ap (λ b. cond b listing (sets listing 0 (lowerSheet sheet (length listing) .bytes))) same-setup
 
   -- as many words have room in the constants
-  room : (a : Lowered.Answer) (k : List ℕ) → a .count ≤ 256 → 0 + length (bytesOf (take (a .count) k)) ≤ length constants
+  room : (a : Lowered.LowerAnswer) (k : List ℕ) → a .count ≤ 256 → 0 + length (bytesOf (take (a .count) k)) ≤ length constants
   room a k h = omega (arith, length-bytesOf (take (a .count) k), length-take (a .count) k, min-le-left (a .count) (length k), h, e)
 
   -- and the words that it has written, put over the constants, are the constants after it
-  pub over : {a : Lowered.Answer} {k c : List ℕ} → a ≡ Lower.answer sheet listing zeros → k ≡ Lower.constantsAfter sheet listing zeros
+  pub over : {a : Lowered.LowerAnswer} {k c : List ℕ} → a ≡ Lower.answer sheet listing zeros → k ≡ Lower.constantsAfter sheet listing zeros
       → c ≡ stored constants 0 (bytesOf (take (a .count) k)) → c ≡ bytesOf (Lower.constantsAfter sheet listing (wordsOf constants))
   unfolding bytesOf
   over {a} {k} p t f =

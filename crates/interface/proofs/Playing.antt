@@ -9,7 +9,7 @@ use lib.Dec.{ltb, eqb}
 use borrow.Author.Tests.{eq-eqb, ne-eqb, lt-ltb}
 use Rattle.player_machine.specs.Machine.{Store}
 use Rattle.player_machine.specs.Answer.{Answer, refuse, answer}
-use Rattle.player.specs.declared.Answer as player
+use Rattle.player.specs.declared.PlayAnswer as player
 use Rattle.player.specs.Values.{whole}
 use Rattle.words.specs.Bytes.{bytesOf, wordsOf, stored}
 use Rattle.words.proofs.Lengths.{length-bytesOf, length-wordsOf}
@@ -41,7 +41,7 @@ module _ (listing constants store : List ℕ) (start : ℕ) (lent : List ℕ) (w
   store-words : (l : List ℕ) {σ : Store} → length store ≡ 12816 → length l ≡ 1602 → σ ≡ stored l 0 (wordsOf store) → σ ≡ wordsOf store
   store-words l h k e = e ∙ stored-whole l (wordsOf store) (length-wordsOf store ∙ ap (λ n. n / 8) h ∙ sym k)
 
-  pub played : (l : List ℕ) (a : player.Answer) {σ τ : Store} {s r : List ℕ} → length constants % 8 ≡ 0 → length store ≡ 12816
+  pub played : (l : List ℕ) (a : player.PlayAnswer) {σ τ : Store} {s r : List ℕ} → length constants % 8 ≡ 0 → length store ≡ 12816
       → length l ≡ 1602
       → σ ≡ stored l 0 (wordsOf store) → whole a τ ≡ answer listing (wordsOf constants) start σ → length τ ≡ 1602
       → s ≡ stored store 0 (bytesOf τ) → r ≡ stored lent 0 (bytesOf (a .number ∷ a .index ∷ a .played ∷ []))

@@ -5,7 +5,7 @@ use mathlib.Core.List.{List, [], _∷_, _++_, map}
 use lib.ListN.{length}
 use lib.Dec.{eqb}
 use Rattle.player_machine.specs.Answer.{Answer, answer}
-use Rattle.complexify.specs.declared.entry.Answer as Lowered
+use Rattle.complexify.specs.declared.entry.LowerAnswer as Lowered
 use Rattle.complexify.specs.Entry as Lower
 use Rattle.words.specs.Bytes.{bytesOf, wordsOf}
 
@@ -44,7 +44,7 @@ flag real = cond real 1 0
 
 -- the answer of lowering: number, index, bytes written and count of constants, eight bytes each; the flags of the 32 registers; the 64 bytes
 -- of real places
-abbrev pub lowerAnswer : Lowered.Answer → List ℕ
+abbrev pub lowerAnswer : Lowered.LowerAnswer → List ℕ
 lowerAnswer a =
     bytesOf (a .number ∷ a .index ∷ a .written ∷ a .count ∷ []) ++ (map flag (a .real .regs) ++ a .real .places)
 

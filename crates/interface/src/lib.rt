@@ -10,21 +10,21 @@ ghost use Rattle.interface.specs.Calls.{PlayCall, LowerCall, playCall, l
 
 mod flags;
 
-use complexify::entry::Answer as Lowered;
+use complexify::entry::LowerAnswer;
 use flags::put_flags;
 use lowering::realness::Realness;
-use player::Answer;
+use player::PlayAnswer;
 use words::load;
 use words::put_bytes;
 use words::save;
 
 // Plays on words, with constants as bytes.
-fn play_words(listing: &[u8], constants: &[u8], store: &mut [u64], start: usize) -> Answer
+fn play_words(listing: &[u8], constants: &[u8], store: &mut [u64], start: usize) -> PlayAnswer
     ensures { λ r. ⌜ whole r (now (store .exit)) ≡ answer (now (listing .entry)) (wordsOf (now (constants .entry))) start (now (store .entry)) ⌝ }
 {
     let n = constants.len() / 8;
     if 256 < n {
-        return Answer {
+        return PlayAnswer {
             number: 8,
             index: 0,
             played: 0,
@@ -74,7 +74,7 @@ pub extern "C" fn tulipcricket_play_unguarded(
 }
 
 // The answer of lowering, as 128 bytes.
-fn put_answer(out: &mut [u8], a: Lowered)
+fn put_answer(out: &mut [u8], a: LowerAnswer)
     requires { ⌜ length (now out) ≡ 128 ⌝ }
     ensures { λ r. ⌜ now (out .exit) ≡ lowerAnswer a ⌝ }
 {
@@ -93,11 +93,11 @@ fn put_answer(out: &mut [u8], a: Lowered)
 }
 
 // What constants of another length than 256 words give.
-fn wrong_constants() -> Lowered
+fn wrong_constants() -> LowerAnswer
     ensures { λ r. ⌜ r ≡ Entry.refusedSetup ⌝ }
 {
     let places = [0u8; 64];
-    Lowered {
+    LowerAnswer {
         number: 8,
         index: 0,
         written: 0,
@@ -107,7 +107,7 @@ fn wrong_constants() -> Lowered
 }
 
 // Lowers with the constants as bytes. Lowering reads no word that it has not written, so none is read from the bytes.
-fn lower_words(sheet: &[u8], listing: &mut [u8], constants: &mut [u8]) -> Lowered
+fn lower_words(sheet: &[u8], listing: &mut [u8], constants: &mut [u8]) -> LowerAnswer
     requires { ⌜ length (now constants) ≡ 2048 ⌝ }
     ensures { λ r. ⌜ (r ≡ Entry.answer (now (sheet .entry)) (now (listing .entry)) (wordsOf (now (constants .entry))))
         × (now (listing .exit) ≡ Entry.listingAfter (now (sheet .entry)) (now (listing .entry)) (wordsOf (now (constants .entry))))

@@ -7,7 +7,7 @@ use native.Mathlib.Omega.{arith}
 use lib.ListN.{drop}
 use Rattle.mir.specs.declared.records.Instruction.{Instruction}
 use Rattle.mir.specs.Read.{Read, got, refused}
-use Rattle.mir.specs.Field.{wordAt}
+use Rattle.mir.specs.Field.{u16At}
 use Rattle.mir.specs.Decode.{onto, decodedFrom, decoded}
 use Rattle.sheet.specs.Instruction.{instructionFrom, instructions}
 use Rattle.sheet.proofs.Refusals.{refused-by}
@@ -30,21 +30,21 @@ reads-from count [] zero e = end
 reads-from count [] (suc k) e = end
 reads-from count (b ∷ s) (suc k) e = reads-from count s k e
 reads-from count (b ∷ s) zero e =
-    go (instructionFrom count (b ∷ s)) refl e (reads-from count s (pred (wordAt (b ∷ s) 0)))
+    go (instructionFrom count (b ∷ s)) refl e (reads-from count s (pred (u16At (b ∷ s) 0)))
   where
     n : ℕ
-    n = wordAt (b ∷ s) 0
+    n = u16At (b ∷ s) 0
 
     go : (r : Read Instruction) → instructionFrom count (b ∷ s) ≡ r
-        → onto r (λ a. decodedFrom (instructionFrom count) s (pred (wordAt (b ∷ s) 0))) .fault ≡ 0
-        → (decodedFrom (instructionFrom count) s (pred (wordAt (b ∷ s) 0)) .fault ≡ 0
-        → Reads count (drop (pred (wordAt (b ∷ s) 0)) s) (decodedFrom (instructionFrom count) s (pred (wordAt (b ∷ s) 0)) .items))
-        → Reads count (b ∷ s) (onto r (λ a. decodedFrom (instructionFrom count) s (pred (wordAt (b ∷ s) 0))) .items)
+        → onto r (λ a. decodedFrom (instructionFrom count) s (pred (u16At (b ∷ s) 0))) .fault ≡ 0
+        → (decodedFrom (instructionFrom count) s (pred (u16At (b ∷ s) 0)) .fault ≡ 0
+        → Reads count (drop (pred (u16At (b ∷ s) 0)) s) (decodedFrom (instructionFrom count) s (pred (u16At (b ∷ s) 0)) .items))
+        → Reads count (b ∷ s) (onto r (λ a. decodedFrom (instructionFrom count) s (pred (u16At (b ∷ s) 0))) .items)
     go (refused x) q e ih = absurd (refused-by count (b ∷ s) (q ∙ ap refused e))
     go (got i) q e ih =
         let z = whole count .sized (b ∷ s) i q in
-        let h : wordAt (b ∷ s) 0 ≡ suc (pred (wordAt (b ∷ s) 0)) = omega (arith, z .least) in
-        next q (subst (λ (x : ℕ). Reads count (drop x (b ∷ s)) (decodedFrom (instructionFrom count) s (pred (wordAt (b ∷ s) 0)) .items)) (sym h) (ih e))
+        let h : u16At (b ∷ s) 0 ≡ suc (pred (u16At (b ∷ s) 0)) = omega (arith, z .least) in
+        next q (subst (λ (x : ℕ). Reads count (drop x (b ∷ s)) (decodedFrom (instructionFrom count) s (pred (u16At (b ∷ s) 0)) .items)) (sym h) (ih e))
 
 pub reads : (count : ℕ) (s : List ℕ) → instructions count s .fault ≡ 0 → Reads count s (instructions count s .items)
 unfolding decoded

@@ -15,7 +15,7 @@ use Rattle.mir.specs.declared.records.Instruction.{Instruction}
 use Rattle.mir.specs.Register.{re, im}
 use Rattle.mir.specs.Length.{lengthOf}
 use Rattle.mir.specs.Operation.{uniOps, binOps}
-use Rattle.mir.specs.Field.{wordAt, takesKind}
+use Rattle.mir.specs.Field.{u16At, takesKind}
 use Rattle.mir.specs.Decode.{decoded}
 use Rattle.mir.specs.Encode.{recordOf}
 use Rattle.sheet.specs.Setup.{setup}
@@ -40,7 +40,7 @@ use Rattle.leftovers.proofs.Sought.{none≢some}
 
 -- what is opened to lower a sheet, to stand at its points and to play on
 unfoldable lower : List ℕ → Lowered
-unfolding lowerSheet setup wordAt lowerFrom role later misplaced unequal passed decoded instructionFrom takesKind lengthOf uniOps rerun rerunUni byOne realLines recordOf c.directed c.half re im complexify then unlisted
+unfolding lowerSheet setup u16At lowerFrom role later misplaced unequal passed decoded instructionFrom takesKind lengthOf uniOps rerun rerunUni byOne realLines recordOf c.directed c.half re im complexify then unlisted
 lower bytes = lowered bytes 65536
 
 unfoldable stood : List ℕ → ℕ → Option Store

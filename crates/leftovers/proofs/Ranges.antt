@@ -13,7 +13,7 @@ use Rattle.mir.specs.Operation.{uniOps, binOps, arithOps, fusedOps, taken}
 use Rattle.mir.specs.Takes.{takesUni, takesBin, takesArith, takesFused}
 use Rattle.mir.specs.Read.{Read, got, refused, refuse, andThen, above, registers}
 use Rattle.mir.proofs.Passing.{or-left, or-right}
-use Rattle.mir.specs.Field.{byteAt, wordAt, takesKind, headFrom, placeAt, savePlace, condPlace}
+use Rattle.mir.specs.Field.{byteAt, u16At, takesKind, headFrom, placeAt, savePlace, condPlace}
 use Rattle.mir.specs.Decode.{onto, decodedFrom}
 use Rattle.sheet.specs.Instruction.{fieldsFrom, instructionFrom}
 use Rattle.records.proofs.Holding.{Saved, Stacked}
@@ -82,8 +82,8 @@ in-range count kind s =
     (λ l. parted (savePlace s 5) (λ p e. let q = saved-in p (save-held s 5 p e) in read {a = Instruction.Save (b 4) p} (l .0, q .0, q .1))))
     (chosen (eqb kind 6)
     (limited (b 4 ∷ [])
-    (λ l. tested (leb count (wordAt s 5)) 5
-    (λ e. read {a = Instruction.LoadConst (b 4) (wordAt s 5)} (l .0, leb-false count (wordAt s 5) e))))
+    (λ l. tested (leb count (u16At s 5)) 5
+    (λ e. read {a = Instruction.LoadConst (b 4) (u16At s 5)} (l .0, leb-false count (u16At s 5) e))))
     (chosen (eqb kind 7)
     (parted (taken (takesFused false) fusedOps (b 4)) (λ op e. limited (b 5 ∷ b 6 ∷ b 7 ∷ b 8 ∷ [])
     (λ l. read {a = Instruction.Fused op (b 5) (b 6) (b 7) (b 8)} (l .0, l .1 .0, l .1 .1 .0, l .1 .1 .1 .0))))
@@ -97,8 +97,8 @@ in-range count kind s =
     (λ l. parted (placeAt s 7) (λ p e. read {a = Instruction.LoadMath op (b 5) (b 6) p} (l .0, l .1 .0, place-in s 7 p e)))))
     (chosen (eqb kind 10)
     (parted (taken (takesArith) arithOps (b 4)) (λ op e. limited (b 5 ∷ b 6 ∷ [])
-    (λ l. tested (leb count (wordAt s 7)) 5
-    (λ e. read {a = Instruction.LoadConstMath op (b 5) (b 6) (wordAt s 7)} (l .0, l .1 .0, leb-false count (wordAt s 7) e)))))
+    (λ l. tested (leb count (u16At s 7)) 5
+    (λ e. read {a = Instruction.LoadConstMath op (b 5) (b 6) (u16At s 7)} (l .0, l .1 .0, leb-false count (u16At s 7) e)))))
     (chosen (eqb kind 14) (tested (ltb (b 4) 3) 10 (λ e. read {a = Instruction.Label (b 4)} (own (b 4) e)))
     (chosen (eqb kind 15) (tested (ltb (b 4) 3) 10 (λ e. read {a = Instruction.Branch (b 4)} (own (b 4) e)))
     (chosen (eqb kind 17)
@@ -116,9 +116,9 @@ unfolding decodedFrom
 all-in-range count [] k = tt
 all-in-range count (b ∷ s) (suc k) = all-in-range count s k
 all-in-range count (b ∷ s) zero =
-    go (instructionFrom count (b ∷ s)) (one-in-range count (b ∷ s)) (all-in-range count s (pred (wordAt (b ∷ s) 0)))
+    go (instructionFrom count (b ∷ s)) (one-in-range count (b ∷ s)) (all-in-range count s (pred (u16At (b ∷ s) 0)))
   where
-    go : (r : Read Instruction) → IfRead (InRange count) r → AllIn count (decodedFrom (instructionFrom count) s (pred (wordAt (b ∷ s) 0)) .items)
-        → AllIn count (onto r (λ a. decodedFrom (instructionFrom count) s (pred (wordAt (b ∷ s) 0))) .items)
+    go : (r : Read Instruction) → IfRead (InRange count) r → AllIn count (decodedFrom (instructionFrom count) s (pred (u16At (b ∷ s) 0)) .items)
+        → AllIn count (onto r (λ a. decodedFrom (instructionFrom count) s (pred (u16At (b ∷ s) 0))) .items)
     go (got i) (read h) ih = (h, ih)
     go (refused n) told ih = tt

@@ -5,19 +5,19 @@ use mathlib.Core.List.{List}
 use native.Mathlib.Nat.{sub-zero}
 use borrow.Author.Tests.{eq-eqb, ne-eqb}
 use lib.ListN.{length, take, replicate}
-use Rattle.complexify.specs.declared.entry.Answer.{Answer}
+use Rattle.complexify.specs.declared.entry.LowerAnswer.{LowerAnswer}
 use Rattle.complexify.specs.Entry.{answer, listingAfter, constantsAfter}
 use Rattle.text.specs.Text.{refusedLine}
 use Rattle.listing.specs.Printed.{pageOf, textOf, printed}
 
-module _ (a : Answer) (constants listing : List ℕ) where
+module _ (a : LowerAnswer) (constants listing : List ℕ) where
   pub refused-text : (a .number ≡ 0 → ⊥) → refusedLine (a .number) (a .index) ≡ textOf a constants listing
   refused-text h = simp (ne-eqb _ _ h)
 
   pub accepted-text : a .number ≡ 0 → pageOf (take (a .count - 0) constants) (take (a .written - 0) listing) ≡ textOf a constants listing
   accepted-text h = simp (sub-zero, eq-eqb _ _ h)
 
-pub all-printed : (sheet : List ℕ) {a : Answer} {constants listing : List ℕ} → a ≡ answer sheet (replicate 65536 0) (replicate 256 0)
+pub all-printed : (sheet : List ℕ) {a : LowerAnswer} {constants listing : List ℕ} → a ≡ answer sheet (replicate 65536 0) (replicate 256 0)
     → listing ≡ listingAfter sheet (replicate 65536 0) (replicate 256 0) → constants ≡ constantsAfter sheet (replicate 65536 0) (replicate 256 0)
     → textOf a constants listing ≡ printed sheet
 unfolding printed

@@ -12,7 +12,7 @@ use Rattle.mir.specs.Length.{lengthOf}
 use Rattle.mir.specs.Encode.{recordOf, encode}
 use Rattle.mir.specs.Read.{Read, got, refused, refuse, andThen, above, registers}
 use Rattle.mir.specs.Operation.{uniOps, binOps, arithOps, fusedOps, taken}
-use Rattle.mir.specs.Field.{wordAt, takesKind, headFrom, placeAt, savePlace, condPlace}
+use Rattle.mir.specs.Field.{u16At, takesKind, headFrom, placeAt, savePlace, condPlace}
 use Rattle.mir.specs.Decode.{readAt}
 use Rattle.mir.proofs.Passing.{either, passed, then, got-same, clash}
 use Rattle.mir.proofs.Heads.{headed}
@@ -60,7 +60,7 @@ module _ (count : ℕ) (s : List ℕ) where
       (chosen 3 kind (named 65 (byte 4 ∷ byte 5 ∷ []) (made (Record.Work (Work.Mov (byte 4) (byte 5))) refl))
       (chosen 4 kind (named 65 (byte 4 ∷ []) (after (placeAt s 5) (λ loc. made (Record.Work (Work.Load (byte 4) loc)) refl)))
       (chosen 5 kind (named 65 (byte 4 ∷ []) (after (savePlace s 5) (λ loc. made (Record.Work (Work.Save (byte 4) loc)) refl)))
-      (chosen 6 kind (named 65 (byte 4 ∷ []) (tested (leb count (wordAt s 5)) 5 (made (Record.Work (Work.LoadConst (byte 4) (wordAt s 5))) refl)))
+      (chosen 6 kind (named 65 (byte 4 ∷ []) (tested (leb count (u16At s 5)) 5 (made (Record.Work (Work.LoadConst (byte 4) (u16At s 5))) refl)))
       (chosen 7 kind (after (taken (takesFused true) fusedOps (byte 4)) (λ op. named 65 (byte 5 ∷ byte 6 ∷ byte 7 ∷ byte 8 ∷ []) (made (Record.Work (Work.Fused op (byte 5) (byte 6) (byte 7) (byte 8))) refl)))
       (chosen 8 kind (named 65 (byte 4 ∷ byte 5 ∷ byte 6 ∷ []) (after (condPlace s 7) (λ loc. made (Record.Work (Work.IfElse (byte 4) (byte 5) (byte 6) loc)) refl)))
       (chosen 11 kind (named 65 (byte 4 ∷ byte 5 ∷ []) (after (placeAt s 6) (λ loc. made (Record.Work (Work.LoadComplex (byte 4) (byte 5) loc)) refl)))
@@ -77,7 +77,7 @@ pub sized : (count : ℕ) (s : List ℕ) (at : ℕ) (r : Record) (next : ℕ) �
     → at + length (encode r) ≡ next
 unfolding readAt recordFrom
 sized count s at r next e =
-    let t = then (recordFrom count (drop at s)) (λ a. got (record { item = a; next = at + wordAt (drop at s) 0 })) (record { item = r; next = next }) e in
+    let t = then (recordFrom count (drop at s)) (λ a. got (record { item = a; next = at + u16At (drop at s) 0 })) (record { item = r; next = next }) e in
     let y = got-same _ _ (t .rest) in
     let h = then (headFrom (takesKind true) (drop at s)) (λ kind. fieldsFrom count kind (drop at s)) (t .first) (t .found) in
     let k = headed (takesKind true) (drop at s) (h .first) (h .found) in

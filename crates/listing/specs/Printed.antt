@@ -5,7 +5,7 @@ use mathlib.Core.List.{List}
 use lib.ListN.{length, take, replicate}
 use lib.Dec.{eqb}
 use Rattle.records.specs.Record.{records}
-use Rattle.complexify.specs.declared.entry.Answer.{Answer}
+use Rattle.complexify.specs.declared.entry.LowerAnswer.{LowerAnswer}
 use Rattle.complexify.specs.Entry.{answer, listingAfter, constantsAfter}
 use Rattle.text.specs.Text.{page, refusedLine}
 
@@ -14,7 +14,7 @@ abbrev pub pageOf : List ℕ → List ℕ → List ℕ
 pageOf constants listing = page constants (records (length constants) listing .items) (length listing)
 
 -- by the answer of lowering and the two slices after it; "A refusal prints only `refused`, its number and index."
-abbrev pub textOf : Answer → List ℕ → List ℕ → List ℕ
+abbrev pub textOf : LowerAnswer → List ℕ → List ℕ → List ℕ
 textOf a constants listing =
     cond (eqb (a .number) 0) (pageOf (take (a .count) constants) (take (a .written) listing)) (refusedLine (a .number) (a .index))
 

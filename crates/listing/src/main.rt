@@ -7,7 +7,7 @@ ghost use Rattle.listing.specs.Printed.{textOf, printed};
 
 mod page;
 
-use complexify::entry::Answer;
+use complexify::entry::LowerAnswer;
 use complexify::entry::lower;
 use files::read_all;
 use libc::STDIN_FILENO;
@@ -17,7 +17,7 @@ use page::put_page;
 use text::lines::refused_line;
 
 // The text for what lowering gave back: of the first `count` words and the first `written` bytes.
-fn put_text(out: &mut [u8], a: Answer, constants: &[u64], listing: &[u8]) -> usize
+fn put_text(out: &mut [u8], a: LowerAnswer, constants: &[u64], listing: &[u8]) -> usize
     requires { ⌜ 80 * length (now constants) + 5 * length (now listing) + 160 ≤ length (now out) ⌝ }
     requires { ⌜ (a .count ≤ length (now constants)) × (a .written ≤ length (now listing)) ⌝ }
     ensures { λ r. ⌜ Puts (now (out .entry)) 0 (textOf a (now (constants .entry)) (now (listing .entry))) (now (out .exit)) r ⌝ }

@@ -13,7 +13,7 @@ use Rattle.mir.specs.Length.{lengthOf}
 use Rattle.mir.specs.Operation.{uniOps, binOps, arithOps, fusedOps, taken}
 use Rattle.mir.specs.Takes.{takesUni, takesBin, takesArith, takesFused}
 use Rattle.mir.specs.Read.{Read, got, refused, refuse, andThen, above}
-use Rattle.mir.specs.Field.{byteAt, bytesAt, wordAt, takesKind, headFrom, placeAt, savePlace, condPlace}
+use Rattle.mir.specs.Field.{byteAt, bytesAt, u16At, takesKind, headFrom, placeAt, savePlace, condPlace}
 use Rattle.mir.specs.Decode.{ahead, decodedFrom, decoded}
 use Rattle.mir.proofs.Passing.{then, clash}
 use Rattle.mir.proofs.Heads.{headed}
@@ -71,7 +71,7 @@ module _ (count kind : ℕ) (s : List ℕ) where
       (chosen (eqb kind 4) (λ e. tested (above 31 (bytesAt s 4 1)) 3 (parted (placeAt s 5) (λ p. read (other 4 e refl))))
       (chosen (eqb kind 5) (λ e. tested (above 31 (bytesAt s 4 1)) 3 (parted (savePlace s 5) (λ p. read (other 5 e refl))))
       (chosen (eqb kind 6)
-      (λ e. tested (above 31 (bytesAt s 4 1)) 3 (tested (leb count (wordAt s 5)) 5 (read (other 6 e refl))))
+      (λ e. tested (above 31 (bytesAt s 4 1)) 3 (tested (leb count (u16At s 5)) 5 (read (other 6 e refl))))
       (chosen (eqb kind 7)
       (λ e. parted (taken (takesFused false) fusedOps (b 4)) (λ op. tested (above 31 (bytesAt s 5 4)) 3 (read (other 7 e refl))))
       (chosen (eqb kind 8) (λ e. tested (above 31 (bytesAt s 4 3)) 3 (parted (condPlace s 7) (λ p. read (other 8 e refl))))
@@ -80,7 +80,7 @@ module _ (count kind : ℕ) (s : List ℕ) where
       (λ op. tested (above 31 (bytesAt s 5 2)) 3 (parted (placeAt s 7) (λ p. read (other 9 e refl)))))
       (chosen (eqb kind 10)
       (λ e. parted (taken takesArith arithOps (b 4))
-      (λ op. tested (above 31 (bytesAt s 5 2)) 3 (tested (leb count (wordAt s 7)) 5 (read (other 10 e refl)))))
+      (λ op. tested (above 31 (bytesAt s 5 2)) 3 (tested (leb count (u16At s 7)) 5 (read (other 10 e refl)))))
       (chosen (eqb kind 14) (λ e. tested (ltb (b 4) 3) 10 (read (rw e refl)))
       (chosen (eqb kind 15) (λ e. tested (ltb (b 4) 3) 10 (read (other 15 e refl)))
       (chosen (eqb kind 17)
@@ -105,22 +105,22 @@ one-seen count s i e =
     let k = h .same in
     rw (
       le-ltb (length s) 4 (omega (arith, z .least, z .inside)),
-      le-ltb (wordAt s 0) 4 (z .least),
-      le-ltb (length s) (wordAt s 0) (z .inside),
+      le-ltb (u16At s 0) 4 (z .least),
+      le-ltb (length s) (u16At s 0) (z .inside),
       ap (takesKind false) (sym k) ∙ h .taken,
-      eq-eqb (lengthOf (wordAt s 2)) (wordAt s 0) (z .rule),
+      eq-eqb (lengthOf (u16At s 2)) (u16At s 0) (z .rule),
     )
     (ap got (ap (λ x. seenAt x s) (sym k) ∙ sym l))
 
 -- ---- the first, then those behind it
 
 -- a record that is no torn one
-pub ahead-one : (s : List ℕ) (o : Option ℕ) → labelSeen s ≡ got o → 4 ≤ wordAt s 0 → wordAt s 0 ≤ length s
+pub ahead-one : (s : List ℕ) (o : Option ℕ) → labelSeen s ≡ got o → 4 ≤ u16At s 0 → u16At s 0 ≤ length s
     → decoded labelSeen s ≡ ahead o (decoded labelSeen (past s))
 unfolding decoded decodedFrom
 ahead-one [] o e least inside = absurd (omega (arith, least, inside))
 ahead-one (b ∷ s) o e least inside =
-    let n = wordAt (b ∷ s) 0 in
+    let n = u16At (b ∷ s) 0 in
     let h : n ≡ suc (pred n) = omega (arith, least) in
     rw e (ap (ahead o) (decoded-skip labelSeen s (pred n)) ∙ ap (λ (k : ℕ). ahead o (decoded labelSeen (drop k (b ∷ s)))) (sym h))
 

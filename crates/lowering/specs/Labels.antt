@@ -9,7 +9,7 @@ use lib.Dec.{ltb, eqb}
 use Rattle.mir.specs.declared.records.Instruction.{Instruction}
 use Rattle.mir.specs.Length.{lengthOf}
 use Rattle.mir.specs.Read.{Read, got, refuse}
-use Rattle.mir.specs.Field.{byteAt, wordAt, takesKind}
+use Rattle.mir.specs.Field.{byteAt, u16At, takesKind}
 use Rattle.mir.specs.Decode.{decoded}
 use Rattle.lowering.specs.declared.realness.Realness.{Realness}
 
@@ -54,13 +54,13 @@ noneStanding = record { labels = []; branches = [] }
 -- A record by its length: "Looking ahead for a label stops at the first torn record", one that earns 1. What is seen of it is the label,
 -- where it is a Label.
 unfoldable pub labelSeen : List ℕ → Read (Option ℕ)
-unfolding wordAt takesKind lengthOf
+unfolding u16At takesKind lengthOf
 labelSeen s =
     refuse (ltb (length s) 4) 1
-    (refuse (ltb (wordAt s 0) 4) 1
-    (refuse (ltb (length s) (wordAt s 0)) 1
-    (refuse (takesKind false (wordAt s 2) && not (eqb (lengthOf (wordAt s 2)) (wordAt s 0))) 1
-    (got (cond (eqb (wordAt s 2) 14) (some (byteAt s 4)) none)))))
+    (refuse (ltb (u16At s 0) 4) 1
+    (refuse (ltb (length s) (u16At s 0)) 1
+    (refuse (takesKind false (u16At s 2) && not (eqb (lengthOf (u16At s 2)) (u16At s 0))) 1
+    (got (cond (eqb (u16At s 2) 14) (some (byteAt s 4)) none)))))
 
 -- is Label l seen there, and in any of several records?
 abbrev pub sees : ℕ → Option ℕ → Bool

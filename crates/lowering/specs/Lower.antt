@@ -13,7 +13,7 @@ use Rattle.mir.specs.Operation.{uniNumber, binNumber}
 use Rattle.mir.specs.Takes.{oneOf}
 use Rattle.mir.specs.Register.{Ret, Temp}
 use Rattle.mir.specs.Encode.{encodeAll}
-use Rattle.mir.specs.Field.{wordAt}
+use Rattle.mir.specs.Field.{u16At}
 use Rattle.sheet.specs.declared.setup.Mode.{Mode}
 use Rattle.sheet.specs.Setup.{isStable, setup, constantsOf}
 use Rattle.sheet.specs.Instruction.{instructions}
@@ -92,7 +92,7 @@ byFirst (t ∷ ts) refused on = cond (t .0) (refused (t .1)) (byFirst ts refused
 
 -- the bytes behind the record that stands first
 abbrev pub past : List ℕ → List ℕ
-past rest = drop (wordAt rest 0) rest
+past rest = drop (u16At rest 0) rest
 
 -- "The first refused record ends the work." `rest` are the sheet's bytes from the first instruction on, b the labels and branches before
 -- it, and `fault` refuses what stands behind the decoded ones (0: nothing does). A refused instruction leaves nothing: "the counts and

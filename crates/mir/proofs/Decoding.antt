@@ -8,7 +8,7 @@ use native.Mathlib.Omega.{arith}
 use lib.ListN.{length, getD, take, drop, drop-of-length-le, length-drop}
 use lib.Seq.{drop-drop}
 use Rattle.mir.specs.Read.{Read, got, refused, andThen}
-use Rattle.mir.specs.Field.{wordAt}
+use Rattle.mir.specs.Field.{u16At}
 use Rattle.mir.specs.Decode.{readAt, Decoded, ahead, onto, decodedFrom, decoded}
 use Rattle.mir.proofs.Parts.{part}
 use Rattle.mir.proofs.Passing.{then, stopped, got-same}
@@ -17,16 +17,16 @@ use Rattle.mir.proofs.Heads.{Sized}
 -- what the code knows of a reader's answer at a position
 module _ {A : Type 0} (read : List ℕ → Read A) (s : List ℕ) (at : ℕ) where
   pub next-got : (a : A) (n : ℕ) → read (take (length s - at) (drop at s)) ≡ got a
-      → n ≡ wordAt (take (length s - at) (drop at s)) 0
+      → n ≡ u16At (take (length s - at) (drop at s)) 0
       → readAt read s at ≡ got (record { item = a; next = at + n })
   unfolding readAt
   next-got a n e w =
-      ap (λ l. andThen (read l) (λ a. got (record { item = a; next = at + wordAt l 0 }))) (sym (part s at)) ∙ simp (e, ← w)
+      ap (λ l. andThen (read l) (λ a. got (record { item = a; next = at + u16At l 0 }))) (sym (part s at)) ∙ simp (e, ← w)
 
   pub next-refused : (n : ℕ) → read (take (length s - at) (drop at s)) ≡ refused n → readAt read s at ≡ refused n
   unfolding readAt
   next-refused n e =
-      ap (λ l. andThen (read l) (λ a. got (record { item = a; next = at + wordAt l 0 }))) (sym (part s at)) ∙ simp e
+      ap (λ l. andThen (read l) (λ a. got (record { item = a; next = at + u16At l 0 }))) (sym (part s at)) ∙ simp e
 
   pub next-past : read [] ≡ refused 1 → length s ≤ at → readAt read s at ≡ refused 1
   unfolding readAt
@@ -54,12 +54,12 @@ module _ {A : Type 0} (read : List ℕ → Read A) where
   decoded-torn (b ∷ s) n e h = simp e
 
   pub decoded-got : Whole read → (s : List ℕ) (a : A) → read s ≡ got a
-      → decoded read s ≡ ahead a (decoded read (drop (wordAt s 0) s))
+      → decoded read s ≡ ahead a (decoded read (drop (u16At s 0) s))
   unfolding decoded decodedFrom
   decoded-got whole [] a e = let z = whole .sized [] a e in absurd (omega (arith, z .least, z .inside))
   decoded-got whole (b ∷ s) a e =
       let z = whole .sized (b ∷ s) a e in
-      let n = wordAt (b ∷ s) 0 in
+      let n = u16At (b ∷ s) 0 in
       let h : n ≡ suc (pred n) = omega (arith, z .least) in
       simp e (ap (ahead a) (decoded-skip s (pred n)) ∙ ap (λ k. ahead a (decoded read (drop k (b ∷ s)))) (sym h))
 
@@ -87,8 +87,8 @@ module _ {A : Type 0} (read : List ℕ → Read A) (s : List ℕ) (at : ℕ) whe
   pub here : Whole read → (x : A) (next : ℕ) → readAt read s at ≡ got (record { item = x; next = next }) → Here read s at x next
   unfolding readAt
   here whole x next e =
-      let t = then (read (drop at s)) (λ a. got (record { item = a; next = at + wordAt (drop at s) 0 })) (record { item = x; next = next }) e in
-      let n = wordAt (drop at s) 0 in
+      let t = then (read (drop at s)) (λ a. got (record { item = a; next = at + u16At (drop at s) 0 })) (record { item = x; next = next }) e in
+      let n = u16At (drop at s) 0 in
       let y = got-same _ _ (t .rest) in
       let a : t .first ≡ x = ap (λ y. y .item) y in
       let b : at + n ≡ next = ap (λ y. y .next) y in
@@ -110,7 +110,7 @@ module _ {A : Type 0} (read : List ℕ → Read A) (s : List ℕ) (at : ℕ) whe
   unfolding readAt
   torn k e h =
       let g = length-drop at s in
-      let d = decoded-torn read (drop at s) k (stopped (λ a. record { item = a; next = at + wordAt (drop at s) 0 }) (read (drop at s)) k e) (omega arith) in
+      let d = decoded-torn read (drop at s) k (stopped (λ a. record { item = a; next = at + u16At (drop at s) 0 }) (read (drop at s)) k e) (omega arith) in
       record { same = ap (λ d. d .items) d; why = ap (λ d. d .fault) d }
 
   pub ended : length s ≤ at → Done read s at 0
@@ -139,8 +139,8 @@ module _ {A : Type 0} (P : A → Type 0) (read : List ℕ → Read A) (good : (s
   unfolding decodedFrom
   each-from [] k h = none
   each-from (b ∷ s) zero h =
-      onto-each P (read (b ∷ s)) (λ a. decodedFrom read s (pred (wordAt (b ∷ s) 0))) (λ a e. good (b ∷ s) a h e)
-      (λ a. each-from s (pred (wordAt (b ∷ s) 0)) (λ i. h (suc i)))
+      onto-each P (read (b ∷ s)) (λ a. decodedFrom read s (pred (u16At (b ∷ s) 0))) (λ a e. good (b ∷ s) a h e)
+      (λ a. each-from s (pred (u16At (b ∷ s) 0)) (λ i. h (suc i)))
   each-from (b ∷ s) (suc k) h = each-from s k (λ i. h (suc i))
 
   pub each : (s : List ℕ) → Bytes s → Each P (items read s)

@@ -10,7 +10,7 @@ use Rattle.mir.specs.declared.records.Loc.{Loc}
 use Rattle.mir.specs.Length.{lengthOf}
 use Rattle.mir.specs.Operation.{taken}
 use Rattle.mir.specs.Read.{Read, got, refused, refuse, andThen, above, registers}
-use Rattle.mir.specs.Field.{byteAt, wordAt, headFrom, placeAt, savedTo, savePlace, onStack, condPlace}
+use Rattle.mir.specs.Field.{byteAt, u16At, headFrom, placeAt, savedTo, savePlace, onStack, condPlace}
 use Rattle.mir.proofs.Passing.{clash}
 
 -- what was read, or refused by a number that is not 0
@@ -47,7 +47,7 @@ operation takes (op ∷ ops) (suc n) = operation takes ops n
 pub place : (s : List ℕ) (i : ℕ) → Numbered (placeAt s i)
 unfolding placeAt
 place s i =
-    tested (ltb 255 (wordAt s (i + 1))) 3
+    tested (ltb 255 (u16At s (i + 1))) 3
     (chosen (eqb (byteAt s i) 0) read (chosen (eqb (byteAt s i) 1) read (chosen (eqb (byteAt s i) 2) read told)))
 
 saved : (p : Loc) → Numbered (savedTo p)
@@ -72,6 +72,6 @@ pub head : (takes : ℕ → Bool) (s : List ℕ) → Numbered (headFrom takes s)
 unfolding headFrom
 head takes s =
     tested (ltb (length s) 4) 0
-    (tested (ltb (wordAt s 0) 4) 0
-    (tested (ltb (length s) (wordAt s 0)) 0
-    (tested (not (takes (wordAt s 2))) 1 (tested (not (eqb (lengthOf (wordAt s 2)) (wordAt s 0))) 0 read))))
+    (tested (ltb (u16At s 0) 4) 0
+    (tested (ltb (length s) (u16At s 0)) 0
+    (tested (not (takes (u16At s 2))) 1 (tested (not (eqb (lengthOf (u16At s 2)) (u16At s 0))) 0 read))))

@@ -10,7 +10,7 @@ use Rattle.mir.specs.declared.records.Loc.{Loc}
 use Rattle.mir.specs.Place.{class, index}
 use Rattle.mir.specs.Length.{lengthOf}
 use Rattle.mir.specs.Read.{got, andThen}
-use Rattle.mir.specs.Field.{wordAt, headFrom, placeAt, savedTo, savePlace, onStack, condPlace}
+use Rattle.mir.specs.Field.{u16At, headFrom, placeAt, savedTo, savePlace, onStack, condPlace}
 use Rattle.mir.specs.Encode.{recordOf}
 
 -- two bytes are a number again
@@ -18,12 +18,12 @@ pub two : (n : ℕ) → n % 256 + 256 * (n / 256) ≡ n
 two n = omega arith
 
 module _ (kind : ℕ) (f rest : List ℕ) where
-  pub length-back : wordAt (recordOf kind f ++ rest) 0 ≡ lengthOf kind
-  unfolding recordOf wordAt
+  pub length-back : u16At (recordOf kind f ++ rest) 0 ≡ lengthOf kind
+  unfolding recordOf u16At
   length-back = two (lengthOf kind)
 
-  pub kind-back : wordAt (recordOf kind f ++ rest) 2 ≡ kind
-  unfolding recordOf wordAt
+  pub kind-back : u16At (recordOf kind f ++ rest) 2 ≡ kind
+  unfolding recordOf u16At
   kind-back = two kind
 
   pub length-of : length (recordOf kind f) ≡ 4 + length f
@@ -43,7 +43,7 @@ module _ (kind : ℕ) (f rest : List ℕ) where
       simp (le-ltb (length s) 4 h, length-back, le-ltb (lengthOf kind) 4 k, le-ltb (length s) (lengthOf kind) l, kind-back, t, eq-eqb (lengthOf kind) (lengthOf kind) refl)
 
 module _ (s : List ℕ) (i : ℕ) where
-  pub place-back : (p : Loc) → getD s i 0 ≡ class p → wordAt s (i + 1) ≡ index p → index p ≤ 255 → placeAt s i ≡ got p
+  pub place-back : (p : Loc) → getD s i 0 ≡ class p → u16At s (i + 1) ≡ index p → index p ≤ 255 → placeAt s i ≡ got p
   unfolding placeAt
   place-back (Loc.Stack n) c w h = simp (c, w, le-ltb 255 n h)
   place-back (Loc.Mem n) c w h = simp (c, w, le-ltb 255 n h)

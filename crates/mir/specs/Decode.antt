@@ -3,7 +3,7 @@ use Prim.Native.Nat.{ℕ, zero, suc, pred, _+_}
 use mathlib.Core.List.{List, [], _∷_}
 use lib.ListN.{drop}
 use Rattle.mir.specs.Read.{Read, got, refused, andThen}
-use Rattle.mir.specs.Field.{wordAt}
+use Rattle.mir.specs.Field.{u16At}
 
 -- an item and the position after it: its first two bytes are its length
 pub record Item (A : Type 0) : Type 0 where
@@ -11,8 +11,8 @@ pub record Item (A : Type 0) : Type 0 where
   pub next : ℕ
 
 unfoldable pub readAt : {A : Type 0} → (List ℕ → Read A) → List ℕ → ℕ → Read (Item A)
-unfolding wordAt
-readAt read s at = andThen (read (drop at s)) (λ a. got (record { item = a; next = at + wordAt (drop at s) 0 }))
+unfolding u16At
+readAt read s at = andThen (read (drop at s)) (λ a. got (record { item = a; next = at + u16At (drop at s) 0 }))
 
 -- "The first refused record ends the work": the items up to it, and the number that refuses it (0: none is refused)
 pub record Decoded (A : Type 0) : Type 0 where
@@ -28,9 +28,9 @@ onto (refused n) f = record { items = []; fault = n }
 
 -- what stands behind the first k bytes; an item's first byte is followed by the rest of its length
 unfoldable pub decodedFrom : {A : Type 0} → (List ℕ → Read A) → List ℕ → ℕ → Decoded A
-unfolding wordAt
+unfolding u16At
 decodedFrom read [] k = record { items = []; fault = 0 }
-decodedFrom read (b ∷ s) zero = onto (read (b ∷ s)) (λ a. decodedFrom read s (pred (wordAt (b ∷ s) 0)))
+decodedFrom read (b ∷ s) zero = onto (read (b ∷ s)) (λ a. decodedFrom read s (pred (u16At (b ∷ s) 0)))
 decodedFrom read (b ∷ s) (suc k) = decodedFrom read s k
 
 unfoldable pub decoded : {A : Type 0} → (List ℕ → Read A) → List ℕ → Decoded A

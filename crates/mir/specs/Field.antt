@@ -19,8 +19,8 @@ bytesAt s i zero = []
 bytesAt s i (suc n) = byteAt s i ∷ bytesAt s (suc i) n
 
 -- "all little-endian"
-unfoldable pub wordAt : List ℕ → ℕ → ℕ
-wordAt s i = getD s i 0 + 256 * getD s (i + 1) 0
+unfoldable pub u16At : List ℕ → ℕ → ℕ
+u16At s i = getD s i 0 + 256 * getD s (i + 1) 0
 
 -- "Sheets take kinds 0 to 10"; "Listings take kinds 1 to 8 and 11 to 16"; with document 02, d) "Sheets take Label, Branch [..] and a new
 -- kind 17", which listings take too
@@ -37,11 +37,11 @@ takesKind true kind = among 1 8 kind || among 11 17 kind
 unfoldable pub headFrom : (ℕ → Bool) → List ℕ → Read ℕ
 headFrom takes s =
     refuse (ltb (length s) 4) 1
-    (refuse (ltb (wordAt s 0) 4) 1
-    (refuse (ltb (length s) (wordAt s 0)) 1
-    (refuse (not (takes (wordAt s 2))) 2
-    (refuse (not (eqb (lengthOf (wordAt s 2)) (wordAt s 0))) 1
-    (got (wordAt s 2))))))
+    (refuse (ltb (u16At s 0) 4) 1
+    (refuse (ltb (length s) (u16At s 0)) 1
+    (refuse (not (takes (u16At s 2))) 2
+    (refuse (not (eqb (lengthOf (u16At s 2)) (u16At s 0))) 1
+    (got (u16At s 2))))))
 
 -- a place by its class
 abbrev pub classed : ℕ → ℕ → Read Loc
@@ -51,7 +51,7 @@ classed class index =
 
 -- 4, "bad place": "class above 2, index above 255"
 unfoldable pub placeAt : List ℕ → ℕ → Read Loc
-placeAt s i = refuse (ltb 255 (wordAt s (i + 1))) 4 (classed (getD s i 0) (wordAt s (i + 1)))
+placeAt s i = refuse (ltb 255 (u16At s (i + 1))) 4 (classed (getD s i 0) (u16At s (i + 1)))
 
 -- 4: "a save to Param"
 abbrev pub savedTo : Loc → Read Loc

@@ -3,7 +3,7 @@ ghost use mathlib.Core.Path.{_≡_};
 ghost use Prim.Native.Nat.{_+_, _*_};
 ghost use lib.ListN.{getD};
 ghost use Rattle.mir.specs.Read as Read;
-ghost use Rattle.mir.specs.Field.{byteAt, bytesAt, wordAt, among, takesKind, headFrom, placeAt, savePlace, condPlace, asHead, asPlace};
+ghost use Rattle.mir.specs.Field.{byteAt, bytesAt, u16At, among, takesKind, headFrom, placeAt, savePlace, condPlace, asHead, asPlace};
 use super::lengths::length_of;
 use super::records::Loc;
 
@@ -30,8 +30,8 @@ pub fn above(s: &[u8], i: u8, n: u8, last: u8) -> bool
 }
 
 // Two bytes, little-endian.
-pub fn word(s: &[u8], i: u8) -> u16
-    ensures { λ r. ⌜ r ≡ wordAt (now (s .entry)) i ⌝ }
+pub fn u16_at(s: &[u8], i: u8) -> u16
+    ensures { λ r. ⌜ r ≡ u16At (now (s .entry)) i ⌝ }
 {
     let at = i as usize;
     let low = byte(s, at);
@@ -78,14 +78,14 @@ pub fn read_head(s: &[u8], in_listing: bool) -> Head
     if s.len() < 4 {
         return Head::Refused(1);
     }
-    let n = word(s, 0);
+    let n = u16_at(s, 0);
     if n < 4 {
         return Head::Refused(1);
     }
     if s.len() < n as usize {
         return Head::Refused(1);
     }
-    let kind = word(s, 2);
+    let kind = u16_at(s, 2);
     if takes_kind(in_listing, kind) {
         if length_of(kind) as u16 != n {
             return Head::Refused(1);

@@ -205,35 +205,3 @@ pub fn push_branch_if(out: &mut [u8], at: usize, cond: u8, label: u8, is_else: b
     let e = flag_byte(is_else);
     put(out, at, 17, [cond, label, e, 0, 0, 0, 0])
 }
-
-// A record that works on words.
-pub fn write_work(out: &mut [u8], at: usize, work: Work) -> usize
-    ensures { λ r. ⌜ buf (now (out .exit)) r ≡ pushed (buf (now (out .entry)) at) (Record.Work work) ⌝ }
-{
-    match work {
-        Work::Uni { op, dst, s1 } => push_uni(out, at, op, dst, s1),
-        Work::Bi { op, dst, s1, s2 } => push_bi(out, at, op, dst, s1, s2),
-        Work::Mov { dst, s1 } => push_mov(out, at, dst, s1),
-        Work::Load { dst, loc } => push_load(out, at, dst, loc),
-        Work::Save { src, loc } => push_save(out, at, src, loc),
-        Work::LoadConst { dst, idx } => push_load_const(out, at, dst, idx),
-        Work::Fused { op, dst, a, b, c } => push_fused(out, at, op, dst, a, b, c),
-        Work::IfElse {
-            dst,
-            true_val,
-            false_val,
-            cond,
-        } => push_if_else(out, at, dst, true_val, false_val, cond),
-        Work::LoadComplex { xd, yd, loc } => push_load_complex(out, at, xd, yd, loc),
-        Work::SaveComplex { xs, ys, loc } => push_save_complex(out, at, xs, ys, loc),
-        Work::ComplexBi {
-            op,
-            xd,
-            yd,
-            x1,
-            y1,
-            x2,
-            y2,
-        } => push_complex_bi(out, at, op, xd, yd, x1, y1, x2, y2),
-    }
-}

@@ -7,7 +7,7 @@ ghost use Rattle.play_replay.specs.Case.{Whole, cut, fillAt, changedAt, 
 ghost use Rattle.replay.specs.Numbers.{u32At};
 ghost use Rattle.player.specs.Values.{whole};
 use crate::stores::patch;
-use player::Answer;
+use player::PlayAnswer;
 use replay::numbers::count_at;
 use replay::same::same_words;
 use words::load;
@@ -74,7 +74,7 @@ pub struct Outcome {
 }
 
 // Whether an answer and a store are the expected ones.
-fn agrees(s: &[u8], a: Answer, store: &[u64], after: &[u64]) -> bool
+fn agrees(s: &[u8], a: PlayAnswer, store: &[u64], after: &[u64]) -> bool
     requires { ⌜ now after ≡ Case.after (now s) ⌝ }
     ensures { λ r. ⌜ r ≡ expected (now (s .entry)) (whole a (now (store .entry))) ⌝ }
 {

@@ -1,4 +1,4 @@
-mod Spelling
+mod Encoding
 mod Steps
 mod Walks
 mod Looks

@@ -12,14 +12,14 @@ use lib.Seq.{getD-set-same, getD-set-other}
 use borrow.Author.Tests.{eqb-true, eqb-false, eq-eqb, ne-eqb, lt-ltb, le-ltb}
 use Rattle.mir.specs.declared.records.Work.{Work}
 use Rattle.mir.specs.declared.records.Record.{Record}
-use Rattle.mir.specs.Field.{byteAt, wordAt}
+use Rattle.mir.specs.Field.{byteAt, u16At}
 use Rattle.mir.proofs.Decoding.{Done}
 use Rattle.records.specs.Record.{recordFrom}
 use Rattle.player_machine.specs.Machine.{isLabel}
 use Rattle.player_machine.specs.Jumps.{bit, tally, has, isReturn, inBlock, breaks, breachFrom, breach}
-use Rattle.player.specs.Spelled.{jumpSpelled, jumpIn, such}
+use Rattle.player.specs.Encoded.{jumpEncoded, jumpIn, such}
 use Rattle.player.specs.Positions.{left, fault, Counted, AllCounted, Tables, BreaksRule}
-use Rattle.player.proofs.Spelling.{label-of, a-jump, a-branch-if, such-label, such-return}
+use Rattle.player.proofs.Encoding.{label-of, a-jump, a-branch-if, such-label, such-return}
 use Rattle.player.proofs.Walks.{bit-small, tally-on, tally-none}
 use Rattle.player.proofs.Looks.{Stands}
 
@@ -33,7 +33,7 @@ counted-at t l m true e h =
 counted-at t l m false e h =
     getD-set-other t l m (getD t l 0 + 1) 0 (λ f. eqb-false l m e (sym f)) ∙ sym (add-zero (getD t m 0))
 
-pub counted-one : (s t : List ℕ) (l : ℕ) → wordAt s 2 ≡ 14 → l ≡ byteAt s 4 → l < length t → Counted s t (set t l (getD t l 0 + 1))
+pub counted-one : (s t : List ℕ) (l : ℕ) → u16At s 2 ≡ 14 → l ≡ byteAt s 4 → l < length t → Counted s t (set t l (getD t l 0 + 1))
 counted-one s t l k e h =
     record {
       long = length-set t l (getD t l 0 + 1);
@@ -41,23 +41,23 @@ counted-one s t l k e h =
           counted-at t l m (eqb l m) refl h
           ∙ ap (λ x. getD t m 0 + bit (eqb x m)) e
           ∙ ap (λ b. getD t m 0 + bit (cond b (eqb (byteAt s 4) m) false)) (sym (eq-eqb _ _ k))
-          ∙ ap (λ b. getD t m 0 + bit b) (sym (label-of (wordAt s 2) s m));
+          ∙ ap (λ b. getD t m 0 + bit b) (sym (label-of (u16At s 2) s m));
     }
 
-pub counted-none : (s t : List ℕ) → (wordAt s 2 ≡ 14 → ⊥) → Counted s t t
+pub counted-none : (s t : List ℕ) → (u16At s 2 ≡ 14 → ⊥) → Counted s t t
 counted-none s t k =
     record {
       long = refl;
       each = λ m.
           sym (add-zero (getD t m 0))
           ∙ ap (λ b. getD t m 0 + bit (cond b (eqb (byteAt s 4) m) false)) (sym (ne-eqb _ _ k))
-          ∙ ap (λ b. getD t m 0 + bit b) (sym (label-of (wordAt s 2) s m));
+          ∙ ap (λ b. getD t m 0 + bit b) (sym (label-of (u16At s 2) s m));
     }
 
 pub counted-few : {s t u : List ℕ} → Counted s t u → (m : ℕ) → getD u m 0 ≤ getD t m 0 + 1
 counted-few {s} c m =
     let i = c .each m in
-    let j = bit-small (such (isLabel m) (jumpSpelled s)) in
+    let j = bit-small (such (isLabel m) (jumpEncoded s)) in
     omega (arith, i, j)
 
 -- the Labels and Branches 0 before a position, counted
@@ -76,10 +76,10 @@ from s at = take (length s - at) (drop at s)
 
 module _ {count : ℕ} {s : List ℕ} {at : ℕ} where
   pub counted-on : {k m n : ℕ} {t u : List ℕ} → Stands count s at k → CountedTo count s at t m → Counted (from s at) t u
-      → n ≡ m + bit (such isReturn (jumpSpelled (from s at))) → CountedTo count s (at + k) u n
+      → n ≡ m + bit (such isReturn (jumpEncoded (from s at))) → CountedTo count s (at + k) u n
   counted-on {k} {m} {n} {t} {u} w c d f =
       let h = w .here in
-      let e = w .spells in
+      let e = w .encodes in
       record {
         labels = λ l.
             let a = tally-on (isLabel l) h in
@@ -186,7 +186,7 @@ module _ {before behind : List Record} {t u : List ℕ} {b : Bool} {m n : ℕ} w
       ∙ ap (λ x. not (eqb l 1) || (x || not (has (isLabel 1) before || has (isLabel 1) behind))) (k .inside)
       ∙ ap (λ x. not (eqb l 1) || (inBlock before || x)) (sym (or-false (not (has (isLabel 1) before || has (isLabel 1) behind))))
 
--- no jump is spelled: a working record, which breaks no rule
+-- no jump is encoded: a working record, which breaks no rule
 told-work : (before behind : List Record) (rec : Record) → none ≡ jumpIn rec → false ≡ breaks before rec behind
 unfolding breaks
 told-work before behind (Record.Work w) e = refl
@@ -197,37 +197,37 @@ told-work before behind (Record.BranchIf c l x) e = cc
 
 -- by the kind and the label of the bytes
 module _ (part : List ℕ) {before behind : List Record} {t u : List ℕ} {b : Bool} {m n : ℕ} (l : ℕ) (rec : Record)
-    (k : Tables before (rec ∷ behind) t u b m n) (e : jumpSpelled part ≡ jumpIn rec) where
+    (k : Tables before (rec ∷ behind) t u b m n) (e : jumpEncoded part ≡ jumpIn rec) where
   known : {r : Record} → rec ≡ r → Tables before (r ∷ behind) t u b m n
   known f = subst (λ r. Tables before (r ∷ behind) t u b m n) f k
 
-  pub told-of-label : l ≡ byteAt part 4 → wordAt part 2 ≡ 14
+  pub told-of-label : l ≡ byteAt part 4 → u16At part 2 ≡ 14
       → (eqb l 0 || ltb 0 (getD u l 0) || (b || (eqb l 1 && not (ltb n m)))) ≡ breaks before rec behind
   told-of-label label h =
       let f = a-jump part rec e 14 h (ap (λ l. some (Record.Label l)) (sym label)) in
       told-label l (known f) ∙ ap (λ r. breaks before r behind) (sym f)
 
-  pub told-of-branch : l ≡ byteAt part 4 → wordAt part 2 ≡ 15
+  pub told-of-branch : l ≡ byteAt part 4 → u16At part 2 ≡ 15
       → (ltb 1 l && not (ltb (getD u l 0) (getD t l 0)) || (ltb 2 l && ltb 0 (getD u l 0) || (eqb l 1 || (not (eqb l 0) && b))))
       ≡ breaks before rec behind
   told-of-branch label h =
       let f = a-jump part rec e 15 h (ap (λ l. some (Record.Branch l)) (sym label)) in
       told-branch l (known f) ∙ ap (λ r. breaks before r behind) (sym f)
 
-  pub told-of-call : l ≡ byteAt part 4 → wordAt part 2 ≡ 16
+  pub told-of-call : l ≡ byteAt part 4 → u16At part 2 ≡ 16
       → (not (eqb l 1) || (b || not (ltb 0 (getD t 1 0)))) ≡ breaks before rec behind
   told-of-call label h =
       let f = a-jump part rec e 16 h (ap (λ l. some (Record.Call l)) (sym label)) in
       told-call l (known f) ∙ ap (λ r. breaks before r behind) (sym f)
 
-  pub told-of-branch-if : l ≡ byteAt part 5 → wordAt part 2 ≡ 17
+  pub told-of-branch-if : l ≡ byteAt part 5 → u16At part 2 ≡ 17
       → (ltb 1 l && not (ltb (getD u l 0) (getD t l 0)) || (ltb 2 l && ltb 0 (getD u l 0) || (ltb l 3 || b))) ≡ breaks before rec behind
   told-of-branch-if label h =
       let f = a-branch-if part rec e h label in
       told-branch-if (byteAt part 4) l (eqb (byteAt part 6) 1) (known f) ∙ ap (λ r. breaks before r behind) (sym f)
 
-pub told-of-work : (part : List ℕ) → (wordAt part 2 ≡ 14 → ⊥) → (wordAt part 2 ≡ 15 → ⊥) → (wordAt part 2 ≡ 16 → ⊥) → (wordAt part 2 ≡ 17 → ⊥)
-    → (before : List Record) (rec : Record) (behind : List Record) → jumpSpelled part ≡ jumpIn rec → false ≡ breaks before rec behind
+pub told-of-work : (part : List ℕ) → (u16At part 2 ≡ 14 → ⊥) → (u16At part 2 ≡ 15 → ⊥) → (u16At part 2 ≡ 16 → ⊥) → (u16At part 2 ≡ 17 → ⊥)
+    → (before : List Record) (rec : Record) (behind : List Record) → jumpEncoded part ≡ jumpIn rec → false ≡ breaks before rec behind
 told-of-work part x y z w before rec behind e =
     told-work before behind rec (sym (simp (ne-eqb _ _ x, ne-eqb _ _ y, ne-eqb _ _ z, ne-eqb _ _ w)) ∙ e)
 
@@ -275,7 +275,7 @@ module _ {count : ℕ} {s : List ℕ} {at index m n : ℕ} {t u : List ℕ} {b :
     breach-at =
         ap (breachFrom (x .before)) (w .here .same)
         ∙ ap (λ y. cond y 0 (suc (breachFrom (w .rec ∷ x .before) (left count s (at + k)))))
-        (sym (told (x .before) (w .rec) (left count s (at + k)) named (w .spells)))
+        (sym (told (x .before) (w .rec) (left count s (at + k)) named (w .encodes)))
 
     pub ruled-stop : r ≡ true → index ≡ breach (left count s 0)
     ruled-stop e =
@@ -283,8 +283,8 @@ module _ {count : ℕ} {s : List ℕ} {at index m n : ℕ} {t u : List ℕ} {b :
         let g = x .same in
         omega (arith, f, g)
 
-    pub ruled-on : {p : ℕ} {v : List ℕ} {c : Bool} → r ≡ false → Counted (from s at) u v → p ≡ n + bit (such isReturn (jumpSpelled (from s at)))
-        → c ≡ (such (isLabel 1) (jumpSpelled (from s at)) || (not (such isReturn (jumpSpelled (from s at))) && b))
+    pub ruled-on : {p : ℕ} {v : List ℕ} {c : Bool} → r ≡ false → Counted (from s at) u v → p ≡ n + bit (such isReturn (jumpEncoded (from s at)))
+        → c ≡ (such (isLabel 1) (jumpEncoded (from s at)) || (not (such isReturn (jumpEncoded (from s at))) && b))
         → Ruled count s (at + k) (index + 1) t v c m p
     unfolding tally inBlock
     ruled-on e v i o =
@@ -298,15 +298,15 @@ module _ {count : ℕ} {s : List ℕ} {at index m n : ℕ} {t u : List ℕ} {b :
             all = λ l. let y = d .all l in omega (arith, y);
             stood = λ l.
                 let y = d .stood l in
-                let z = v .each l ∙ ap (λ b. getD u l 0 + bit b) (such-label part (w .rec) (w .spells) l) in
+                let z = v .each l ∙ ap (λ b. getD u l 0 + bit b) (such-label part (w .rec) (w .encodes) l) in
                 omega (arith, y, z);
-            inside = o ∙ ap (λ y. y || (not (such isReturn (jumpSpelled part)) && b)) (such-label part (w .rec) (w .spells) 1)
-                ∙ ap (λ y. isLabel 1 (w .rec) || (not y && b)) (such-return part (w .rec) (w .spells))
+            inside = o ∙ ap (λ y. y || (not (such isReturn (jumpEncoded part)) && b)) (such-label part (w .rec) (w .encodes) 1)
+                ∙ ap (λ y. isLabel 1 (w .rec) || (not y && b)) (such-return part (w .rec) (w .encodes))
                 ∙ ap (λ y. isLabel 1 (w .rec) || (not (isReturn (w .rec)) && y)) (d .inside);
             returns = let y = d .returns in omega (arith, y);
             returned =
                 let y = d .returned in
-                let z = i ∙ ap (λ b. n + bit b) (such-return part (w .rec) (w .spells)) in
+                let z = i ∙ ap (λ b. n + bit b) (such-return part (w .rec) (w .encodes)) in
                 omega (arith, y, z);
           };
           same = omega (arith, f, g);

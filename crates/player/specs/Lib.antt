@@ -1,3 +1,3 @@
 pub mod Values
-pub mod Spelled
+pub mod Encoded
 pub mod Positions

@@ -8,13 +8,13 @@ use lib.Dec.{eqb}
 use Rattle.mir.specs.declared.records.Work.{Work}
 use Rattle.mir.specs.declared.records.Record.{Record}
 use Rattle.mir.specs.Read.{got}
-use Rattle.records.specs.declared.reader.Sight.{Sight}
+use Rattle.records.specs.declared.reader.Summary.{Summary}
 use Rattle.records.specs.Record.{recordFrom, records}
 use Rattle.player_machine.specs.Machine.{Store, End, execs, works, isLabel, seek, ticks, play, going}
 use Rattle.player_machine.specs.Jumps.{bit, tally, isJump, isReturn, inBlock, breaks, breach}
 use Rattle.player.specs.declared.passes.Examination.{Examination}
 use Rattle.player.specs.declared.run.Progress.{Progress}
-use Rattle.player.specs.Spelled.{jumpSpelled, jumpIn, such}
+use Rattle.player.specs.Encoded.{jumpEncoded, jumpIn, such}
 
 -- the records from a position on, and the number that refuses the one behind them
 abbrev pub left : ℕ → List ℕ → ℕ → List Record
@@ -45,11 +45,11 @@ pub record Jumps (count : ℕ) (s : List ℕ) (at : ℕ) : Type 0 where
   pub here : recordFrom count (drop at s) ≡ got rec
   pub jump : isJump rec ≡ true
 
--- what a record's sight tells of it
-abbrev pub jumpSeen : Sight → Bool
+-- what a record's summary tells of it
+abbrev pub jumpSeen : Summary → Bool
 jumpSeen q = not (eqb (q .what) 0)
 
-abbrev pub labelSeen : ℕ → Sight → Bool
+abbrev pub labelSeen : ℕ → Summary → Bool
 labelSeen l q = cond (eqb (q .what) 1) (eqb (q .label) l) false
 
 -- the record behind the first Label 1, where the block begins
@@ -69,7 +69,7 @@ pub record Examined (count : ℕ) (s : List ℕ) (x : Examination) : Type 0 wher
 -- one table behind another: a record's Label counted
 pub record Counted (s t u : List ℕ) : Type 0 where
   pub long : length u ≡ length t
-  pub each : (l : ℕ) → getD u l 0 ≡ getD t l 0 + bit (such (isLabel l) (jumpSpelled s))
+  pub each : (l : ℕ) → getD u l 0 ≡ getD t l 0 + bit (such (isLabel l) (jumpEncoded s))
 
 -- all Labels of the listing counted, and the Branches 0
 pub record AllCounted (s t : List ℕ) (r : ℕ) : Type 0 where
@@ -90,7 +90,7 @@ pub record Tables (before behind : List Record) (t u : List ℕ) (b : Bool) (m n
 abbrev pub BreaksRule : List ℕ → List ℕ → List ℕ → Bool → ℕ → ℕ → Bool → Type 0
 BreaksRule s t u b m n r =
     (before : List Record) (rec : Record) (behind : List Record) → Tables before (rec ∷ behind) t u b m n
-    → jumpSpelled s ≡ jumpIn rec → r ≡ breaks before rec behind
+    → jumpEncoded s ≡ jumpIn rec → r ≡ breaks before rec behind
 
 -- the first breach of the jump rules, of a listing that was examined
 abbrev pub FirstBreach : List ℕ → ℕ → Type 0

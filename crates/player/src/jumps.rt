@@ -6,21 +6,21 @@ ghost use lib.Dec.{eqb, ltb};
 ghost use lib.ListN.{length};
 ghost use Rattle.player_machine.specs.Machine.{isLabel};
 ghost use Rattle.player_machine.specs.Jumps.{isReturn};
-ghost use Rattle.player.specs.Spelled.{jumpSpelled, such};
+ghost use Rattle.player.specs.Encoded.{jumpEncoded, such};
 ghost use Rattle.player.specs.Positions.{Sound, Table, Counted, AllCounted, BreaksRule, FirstBreach, BreachOf};
 use super::passes::Examination;
+use super::passes::encodes_label;
+use super::passes::encodes_return;
 use super::passes::one_if;
-use super::passes::spells_label;
-use super::passes::spells_return;
 use mir::fields::byte;
-use mir::fields::word;
+use mir::fields::u16_at;
 
 // Counts the record that bytes begin with, where it is a Label.
 fn count_label(s: &[u8], table: &mut [usize])
     requires { ⌜ Table 65536 (now table) ⌝ }
     ensures { λ r. ⌜ Counted (now (s .entry)) (now (table .entry)) (now (table .exit)) ⌝ }
 {
-    if word(s, 2) == 14 {
+    if u16_at(s, 2) == 14 {
         let l = byte(s, 4) as usize;
         table[l] += 1;
     }
@@ -38,8 +38,8 @@ fn count_labels(listing: &[u8], table: &mut [usize]) -> usize
     while at < listing.len() {
         let s = &listing[at..];
         count_label(s, table);
-        returns += one_if(spells_return(s));
-        let n = word(s, 0);
+        returns += one_if(encodes_return(s));
+        let n = u16_at(s, 0);
         at += n as usize;
     }
     returns
@@ -116,7 +116,7 @@ fn breaks_rule(
     requires { ⌜ (length (now all) ≡ 256) × (length (now stood) ≡ 256) ⌝ }
     ensures { λ r. ⌜ BreaksRule (now (s .entry)) (now (all .entry)) (now (stood .entry)) inside returns returned r ⌝ }
 {
-    let kind = word(s, 2);
+    let kind = u16_at(s, 2);
     let label = byte(s, 4);
     let l = label as usize;
     if kind == 14 {
@@ -138,12 +138,12 @@ fn breaks_rule(
 
 // Whether the block is open behind the record that bytes begin with.
 fn block_open(s: &[u8], inside: bool) -> bool
-    ensures { λ r. ⌜ r ≡ (such (isLabel 1) (jumpSpelled (now (s .entry))) || (not (such isReturn (jumpSpelled (now (s .entry)))) && inside)) ⌝ }
+    ensures { λ r. ⌜ r ≡ (such (isLabel 1) (jumpEncoded (now (s .entry))) || (not (such isReturn (jumpEncoded (now (s .entry)))) && inside)) ⌝ }
 {
-    if spells_label(s, 1) {
+    if encodes_label(s, 1) {
         return true;
     }
-    if spells_return(s) {
+    if encodes_return(s) {
         return false;
     }
     inside
@@ -168,9 +168,9 @@ fn first_breach(listing: &[u8]) -> usize
             return index;
         }
         count_label(s, &mut stood);
-        returned += one_if(spells_return(s));
+        returned += one_if(encodes_return(s));
         inside = block_open(s, inside);
-        let n = word(s, 0);
+        let n = u16_at(s, 0);
         at += n as usize;
         index += 1;
     }

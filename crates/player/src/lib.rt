@@ -14,16 +14,16 @@ use passes::skip;
 use run::run;
 
 // What playing gives back: 0 and the count of records with how many were played, or a refusal's number and index.
-pub struct Answer {
+pub struct PlayAnswer {
     pub number: u8,
     pub index: usize,
     pub played: usize,
 }
 
-fn refuse(number: u8, index: usize) -> Answer
+fn refuse(number: u8, index: usize) -> PlayAnswer
     ensures { λ r. ⌜ r ≡ record { number = number; index = index; played = 0 } ⌝ }
 {
-    Answer {
+    PlayAnswer {
         number: number,
         index: index,
         played: 0,
@@ -31,7 +31,7 @@ fn refuse(number: u8, index: usize) -> Answer
 }
 
 // Plays a listing with its constants from a record on.
-pub fn play(listing: &[u8], constants: &[u64], store: &mut [u64], start: usize) -> Answer
+pub fn play(listing: &[u8], constants: &[u64], store: &mut [u64], start: usize) -> PlayAnswer
     ensures { λ r. ⌜ whole r (now (store .exit)) ≡ answer (now (listing .entry)) (now (constants .entry)) start (now (store .entry)) ⌝ }
 {
     if 65536 < listing.len() {
@@ -57,7 +57,7 @@ pub fn play(listing: &[u8], constants: &[u64], store: &mut [u64], start: usize) 
     }
     let from = skip(listing, 0, start);
     let played = run(listing, constants, x.body, from, store);
-    Answer {
+    PlayAnswer {
         number: 0,
         index: x.index,
         played: played,

@@ -5,18 +5,18 @@ ghost use Rattle.player_machine.specs.Machine.{isLabel};
 ghost use Rattle.player_machine.specs.Jumps.{bit, isReturn};
 ghost use mathlib.Core.Bool.{cond};
 ghost use lib.Dec.{eqb};
-ghost use Rattle.player.specs.Spelled.{jumpSpelled, such};
+ghost use Rattle.player.specs.Encoded.{jumpEncoded, such};
 ghost use Rattle.player.specs.Positions.{AtLabel, Behind, Examined, Sound, jumpSeen, labelSeen};
 use mir::fields::byte;
-use mir::fields::word;
-use records::reader::Sight;
+use mir::fields::u16_at;
+use records::reader::Summary;
 use records::reader::look;
 
 // Whether the record that bytes begin with is a Label of that number.
-pub fn spells_label(s: &[u8], label: u8) -> bool
-    ensures { λ r. ⌜ r ≡ such (isLabel label) (jumpSpelled (now (s .entry))) ⌝ }
+pub fn encodes_label(s: &[u8], label: u8) -> bool
+    ensures { λ r. ⌜ r ≡ such (isLabel label) (jumpEncoded (now (s .entry))) ⌝ }
 {
-    if word(s, 2) == 14 {
+    if u16_at(s, 2) == 14 {
         byte(s, 4) == label
     } else {
         false
@@ -24,10 +24,10 @@ pub fn spells_label(s: &[u8], label: u8) -> bool
 }
 
 // Whether it is a Branch 0.
-pub fn spells_return(s: &[u8]) -> bool
-    ensures { λ r. ⌜ r ≡ such isReturn (jumpSpelled (now (s .entry))) ⌝ }
+pub fn encodes_return(s: &[u8]) -> bool
+    ensures { λ r. ⌜ r ≡ such isReturn (jumpEncoded (now (s .entry))) ⌝ }
 {
-    if word(s, 2) == 15 {
+    if u16_at(s, 2) == 15 {
         byte(s, 4) == 0
     } else {
         false
@@ -48,10 +48,10 @@ pub(crate) fn find(listing: &[u8], at: usize, label: u8) -> usize
     let mut i = at;
     while i < listing.len() {
         let s = &listing[i..];
-        if spells_label(s, label) {
+        if encodes_label(s, label) {
             return i;
         }
-        let n = word(s, 0);
+        let n = u16_at(s, 0);
         i += n as usize;
     }
     i
@@ -69,22 +69,22 @@ pub(crate) fn skip(listing: &[u8], from: usize, k: usize) -> usize
             return at;
         }
         let s = &listing[at..];
-        let length = word(s, 0);
+        let length = u16_at(s, 0);
         at += length as usize;
         n -= 1;
     }
     at
 }
 
-// A Label, a Branch, a Call or a BranchIf, by its sight.
-fn jump_seen(q: Sight) -> bool
+// A Label, a Branch, a Call or a BranchIf, by its summary.
+fn jump_seen(q: Summary) -> bool
     ensures { λ r. ⌜ r ≡ jumpSeen q ⌝ }
 {
     q.what != 0
 }
 
-// A Label of that number, by its sight.
-fn label_seen(q: Sight, label: u8) -> bool
+// A Label of that number, by its summary.
+fn label_seen(q: Summary, label: u8) -> bool
     ensures { λ r. ⌜ r ≡ labelSeen label q ⌝ }
 {
     if q.what == 1 { q.label == label } else { false }
@@ -131,7 +131,7 @@ pub fn examine(listing: &[u8], count: usize) -> Examination
                 body: body,
             };
         }
-        let n = word(s, 0);
+        let n = u16_at(s, 0);
         at += n as usize;
         index += 1;
         jumps += one_if(jump_seen(q));

@@ -8,7 +8,7 @@ ghost use Rattle.player_machine.specs.Machine.{at, branches};
 ghost use Rattle.player.specs.Positions.{fault, Jumps, BlockPlayed, RecordPlayed, Played};
 use super::passes::find;
 use mir::fields::byte;
-use mir::fields::word;
+use mir::fields::u16_at;
 use player_work::exec;
 use player_work::words::get_register;
 
@@ -33,7 +33,7 @@ fn run_block(listing: &[u8], constants: &[u64], body: usize, store: &mut [u64]) 
         if !worked {
             return n;
         }
-        let k = word(s, 0);
+        let k = u16_at(s, 0);
         at += k as usize;
         n += 1;
     }
@@ -74,9 +74,9 @@ fn run_jump(
     ensures { λ r. ⌜ RecordPlayed (now (constants .entry)) (now (listing .entry)) body at (now (store .entry)) (now (store .exit)) r ⌝ }
 {
     let s = &listing[at..];
-    let kind = word(s, 2);
+    let kind = u16_at(s, 2);
     let label = byte(s, 4);
-    let n = word(s, 0);
+    let n = u16_at(s, 0);
     let next = at + n as usize;
     if kind == 14 {
         return reached(false, next, 1);
@@ -114,7 +114,7 @@ fn run_record(
     let s = &listing[at..];
     let worked = exec(store, constants, s);
     if worked {
-        let k = word(s, 0);
+        let k = u16_at(s, 0);
         return Progress {
             done: false,
             at: at + k as usize,

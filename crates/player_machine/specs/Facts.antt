@@ -15,7 +15,7 @@ use Rattle.mir.specs.declared.records.Work.{Work}
 use Rattle.mir.specs.declared.records.Record.{Record}
 use Rattle.mir.specs.Length.{lengths, lengthOf}
 use Rattle.mir.specs.Operation.{uniOps, binOps, arithOps, fusedOps}
-use Rattle.mir.specs.Field.{wordAt, among, takesKind, headFrom, placeAt, savePlace, condPlace}
+use Rattle.mir.specs.Field.{u16At, among, takesKind, headFrom, placeAt, savePlace, condPlace}
 use Rattle.mir.specs.Encode.{recordOf, encodeAll}
 use Rattle.mir.specs.Decode.{decodedFrom, decoded}
 use Rattle.records.specs.Record.{uniFrom, biFrom, movFrom, loadFrom, saveFrom, loadConstFrom, fusedFrom, ifElseFrom, loadComplexFrom, saveComplexFrom, complexBiFrom, labelFrom, branchFrom, callFrom, branchIfFrom, fieldsFrom, recordFrom}
@@ -203,5 +203,5 @@ wanted [] = []
 wanted (row ∷ rows) = row .1 ∷ wanted rows
 
 pub holds : given table ≡ wanted table
-unfolding ofBits toBits add sub mul fusedMultiplyAdd lengths lengthOf uniOps binOps arithOps fusedOps wordAt among takesKind headFrom placeAt savePlace condPlace recordOf decodedFrom decoded uniFrom biFrom movFrom loadFrom saveFrom loadConstFrom fusedFrom ifElseFrom loadComplexFrom saveComplexFrom complexBiFrom labelFrom branchFrom callFrom branchIfFrom fieldsFrom recordFrom uniWord binWord fusedWord complexWords writes put exec execs works isLabel seek block ticks play breach answer
+unfolding ofBits toBits add sub mul fusedMultiplyAdd lengths lengthOf uniOps binOps arithOps fusedOps u16At among takesKind headFrom placeAt savePlace condPlace recordOf decodedFrom decoded uniFrom biFrom movFrom loadFrom saveFrom loadConstFrom fusedFrom ifElseFrom loadComplexFrom saveComplexFrom complexBiFrom labelFrom branchFrom callFrom branchIfFrom fieldsFrom recordFrom uniWord binWord fusedWord complexWords writes put exec execs works isLabel seek block ticks play breach answer
 holds = refl

@@ -3,7 +3,7 @@
 ghost use mathlib.Core.Path.{_≡_};
 ghost use mathlib.Core.List.{List};
 ghost use Prim.Native.Nat.{ℕ};
-ghost use Rattle.player_work.specs.Spelled.{hasWork, worked, uniSpelled, biSpelled, movSpelled, loadSpelled, saveSpelled, loadConstSpelled, fusedSpelled, ifElseSpelled, loadComplexSpelled, saveComplexSpelled, complexBiSpelled};
+ghost use Rattle.player_work.specs.Encoded.{hasWork, worked, uniEncoded, biEncoded, movEncoded, loadEncoded, saveEncoded, loadConstEncoded, fusedEncoded, ifElseEncoded, loadComplexEncoded, saveComplexEncoded, complexBiEncoded};
 use super::kinds::bi;
 use super::kinds::complex_bi;
 use super::kinds::fused;
@@ -18,7 +18,7 @@ use super::kinds::uni;
 use mir::fields::Place;
 use mir::fields::byte;
 use mir::fields::read_place;
-use mir::fields::word;
+use mir::fields::u16_at;
 use mir::ops::FoundArith;
 use mir::ops::FoundBin;
 use mir::ops::FoundFused;
@@ -29,7 +29,7 @@ use mir::ops::fused_op;
 use mir::ops::uni_op;
 
 pub fn play_uni(store: &mut [u64], s: &[u8]) -> bool
-    ensures { λ r. ⌜ (r ≡ hasWork (uniSpelled (now (s .entry)))) × ((constants : List ℕ) → now (store .exit) ≡ worked constants (uniSpelled (now (s .entry))) (now (store .entry))) ⌝ }
+    ensures { λ r. ⌜ (r ≡ hasWork (uniEncoded (now (s .entry)))) × ((constants : List ℕ) → now (store .exit) ≡ worked constants (uniEncoded (now (s .entry))) (now (store .entry))) ⌝ }
 {
     match uni_op(byte(s, 4), true) {
         FoundUni::Op(op) => {
@@ -41,7 +41,7 @@ pub fn play_uni(store: &mut [u64], s: &[u8]) -> bool
 }
 
 pub fn play_bi(store: &mut [u64], s: &[u8]) -> bool
-    ensures { λ r. ⌜ (r ≡ hasWork (biSpelled (now (s .entry)))) × ((constants : List ℕ) → now (store .exit) ≡ worked constants (biSpelled (now (s .entry))) (now (store .entry))) ⌝ }
+    ensures { λ r. ⌜ (r ≡ hasWork (biEncoded (now (s .entry)))) × ((constants : List ℕ) → now (store .exit) ≡ worked constants (biEncoded (now (s .entry))) (now (store .entry))) ⌝ }
 {
     match bin_op(byte(s, 4), true) {
         FoundBin::Op(op) => {
@@ -53,14 +53,14 @@ pub fn play_bi(store: &mut [u64], s: &[u8]) -> bool
 }
 
 pub fn play_mov(store: &mut [u64], s: &[u8]) -> bool
-    ensures { λ r. ⌜ (r ≡ hasWork (movSpelled (now (s .entry)))) × ((constants : List ℕ) → now (store .exit) ≡ worked constants (movSpelled (now (s .entry))) (now (store .entry))) ⌝ }
+    ensures { λ r. ⌜ (r ≡ hasWork (movEncoded (now (s .entry)))) × ((constants : List ℕ) → now (store .exit) ≡ worked constants (movEncoded (now (s .entry))) (now (store .entry))) ⌝ }
 {
     mov(store, byte(s, 4), byte(s, 5));
     true
 }
 
 pub fn play_load(store: &mut [u64], s: &[u8]) -> bool
-    ensures { λ r. ⌜ (r ≡ hasWork (loadSpelled (now (s .entry)))) × ((constants : List ℕ) → now (store .exit) ≡ worked constants (loadSpelled (now (s .entry))) (now (store .entry))) ⌝ }
+    ensures { λ r. ⌜ (r ≡ hasWork (loadEncoded (now (s .entry)))) × ((constants : List ℕ) → now (store .exit) ≡ worked constants (loadEncoded (now (s .entry))) (now (store .entry))) ⌝ }
 {
     match read_place(s, 5) {
         Place::At(loc) => {
@@ -72,7 +72,7 @@ pub fn play_load(store: &mut [u64], s: &[u8]) -> bool
 }
 
 pub fn play_save(store: &mut [u64], s: &[u8]) -> bool
-    ensures { λ r. ⌜ (r ≡ hasWork (saveSpelled (now (s .entry)))) × ((constants : List ℕ) → now (store .exit) ≡ worked constants (saveSpelled (now (s .entry))) (now (store .entry))) ⌝ }
+    ensures { λ r. ⌜ (r ≡ hasWork (saveEncoded (now (s .entry)))) × ((constants : List ℕ) → now (store .exit) ≡ worked constants (saveEncoded (now (s .entry))) (now (store .entry))) ⌝ }
 {
     match read_place(s, 5) {
         Place::At(loc) => {
@@ -84,14 +84,14 @@ pub fn play_save(store: &mut [u64], s: &[u8]) -> bool
 }
 
 pub fn play_load_const(store: &mut [u64], constants: &[u64], s: &[u8]) -> bool
-    ensures { λ r. ⌜ (r ≡ hasWork (loadConstSpelled (now (s .entry)))) × (now (store .exit) ≡ worked (now (constants .entry)) (loadConstSpelled (now (s .entry))) (now (store .entry))) ⌝ }
+    ensures { λ r. ⌜ (r ≡ hasWork (loadConstEncoded (now (s .entry)))) × (now (store .exit) ≡ worked (now (constants .entry)) (loadConstEncoded (now (s .entry))) (now (store .entry))) ⌝ }
 {
-    load_const(store, constants, byte(s, 4), word(s, 5));
+    load_const(store, constants, byte(s, 4), u16_at(s, 5));
     true
 }
 
 pub fn play_fused(store: &mut [u64], s: &[u8]) -> bool
-    ensures { λ r. ⌜ (r ≡ hasWork (fusedSpelled (now (s .entry)))) × ((constants : List ℕ) → now (store .exit) ≡ worked constants (fusedSpelled (now (s .entry))) (now (store .entry))) ⌝ }
+    ensures { λ r. ⌜ (r ≡ hasWork (fusedEncoded (now (s .entry)))) × ((constants : List ℕ) → now (store .exit) ≡ worked constants (fusedEncoded (now (s .entry))) (now (store .entry))) ⌝ }
 {
     match fused_op(byte(s, 4), true) {
         FoundFused::Op(op) => {
@@ -103,7 +103,7 @@ pub fn play_fused(store: &mut [u64], s: &[u8]) -> bool
 }
 
 pub fn play_if_else(store: &mut [u64], s: &[u8]) -> bool
-    ensures { λ r. ⌜ (r ≡ hasWork (ifElseSpelled (now (s .entry)))) × ((constants : List ℕ) → now (store .exit) ≡ worked constants (ifElseSpelled (now (s .entry))) (now (store .entry))) ⌝ }
+    ensures { λ r. ⌜ (r ≡ hasWork (ifElseEncoded (now (s .entry)))) × ((constants : List ℕ) → now (store .exit) ≡ worked constants (ifElseEncoded (now (s .entry))) (now (store .entry))) ⌝ }
 {
     match read_place(s, 7) {
         Place::At(loc) => {
@@ -115,7 +115,7 @@ pub fn play_if_else(store: &mut [u64], s: &[u8]) -> bool
 }
 
 pub fn play_load_complex(store: &mut [u64], s: &[u8]) -> bool
-    ensures { λ r. ⌜ (r ≡ hasWork (loadComplexSpelled (now (s .entry)))) × ((constants : List ℕ) → now (store .exit) ≡ worked constants (loadComplexSpelled (now (s .entry))) (now (store .entry))) ⌝ }
+    ensures { λ r. ⌜ (r ≡ hasWork (loadComplexEncoded (now (s .entry)))) × ((constants : List ℕ) → now (store .exit) ≡ worked constants (loadComplexEncoded (now (s .entry))) (now (store .entry))) ⌝ }
 {
     match read_place(s, 6) {
         Place::At(loc) => {
@@ -127,7 +127,7 @@ pub fn play_load_complex(store: &mut [u64], s: &[u8]) -> bool
 }
 
 pub fn play_save_complex(store: &mut [u64], s: &[u8]) -> bool
-    ensures { λ r. ⌜ (r ≡ hasWork (saveComplexSpelled (now (s .entry)))) × ((constants : List ℕ) → now (store .exit) ≡ worked constants (saveComplexSpelled (now (s .entry))) (now (store .entry))) ⌝ }
+    ensures { λ r. ⌜ (r ≡ hasWork (saveComplexEncoded (now (s .entry)))) × ((constants : List ℕ) → now (store .exit) ≡ worked constants (saveComplexEncoded (now (s .entry))) (now (store .entry))) ⌝ }
 {
     match read_place(s, 6) {
         Place::At(loc) => {
@@ -139,7 +139,7 @@ pub fn play_save_complex(store: &mut [u64], s: &[u8]) -> bool
 }
 
 pub fn play_complex_bi(store: &mut [u64], s: &[u8]) -> bool
-    ensures { λ r. ⌜ (r ≡ hasWork (complexBiSpelled (now (s .entry)))) × ((constants : List ℕ) → now (store .exit) ≡ worked constants (complexBiSpelled (now (s .entry))) (now (store .entry))) ⌝ }
+    ensures { λ r. ⌜ (r ≡ hasWork (complexBiEncoded (now (s .entry)))) × ((constants : List ℕ) → now (store .exit) ≡ worked constants (complexBiEncoded (now (s .entry))) (now (store .entry))) ⌝ }
 {
     match arith_op(byte(s, 4)) {
         FoundArith::Op(op) => {

@@ -1,6 +1,6 @@
 // What a working record does to the store, read from the bytes that begin with it.
 ghost use mathlib.Core.Path.{_≡_};
-ghost use Rattle.player_work.specs.Spelled.{spelled, hasWork, worked};
+ghost use Rattle.player_work.specs.Encoded.{encoded, hasWork, worked};
 use bytes::play_bi;
 use bytes::play_complex_bi;
 use bytes::play_fused;
@@ -12,18 +12,18 @@ use bytes::play_mov;
 use bytes::play_save;
 use bytes::play_save_complex;
 use bytes::play_uni;
-use mir::fields::word;
+use mir::fields::u16_at;
 
 mod bytes;
 mod kinds;
 mod operations;
 pub mod words;
 
-// Whether the bytes spell work; the store is then what the work makes of it.
+// Whether the bytes encode work; the store is then what the work makes of it.
 pub fn exec(store: &mut [u64], constants: &[u64], s: &[u8]) -> bool
-    ensures { λ r. ⌜ (r ≡ hasWork (spelled (now (s .entry)))) × (now (store .exit) ≡ worked (now (constants .entry)) (spelled (now (s .entry))) (now (store .entry))) ⌝ }
+    ensures { λ r. ⌜ (r ≡ hasWork (encoded (now (s .entry)))) × (now (store .exit) ≡ worked (now (constants .entry)) (encoded (now (s .entry))) (now (store .entry))) ⌝ }
 {
-    match word(s, 2) {
+    match u16_at(s, 2) {
         1 => play_uni(store, s),
         2 => play_bi(store, s),
         3 => play_mov(store, s),

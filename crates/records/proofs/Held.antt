@@ -13,7 +13,7 @@ use Rattle.mir.specs.declared.records.Record.{Record}
 use Rattle.mir.specs.Place.{index}
 use Rattle.mir.specs.Operation.{uniOps, binOps, arithOps, fusedOps, taken}
 use Rattle.mir.specs.Read.{Read, got, refused, above, registers}
-use Rattle.mir.specs.Field.{byteAt, wordAt, takesKind, headFrom, classed, placeAt, savedTo, savePlace, onStack, condPlace}
+use Rattle.mir.specs.Field.{byteAt, u16At, takesKind, headFrom, classed, placeAt, savedTo, savePlace, onStack, condPlace}
 use Rattle.mir.proofs.Passing.{passed, then, got-same, clash, or-left, or-right}
 use Rattle.mir.proofs.Decoding.{Bytes, items, each}
 use Rattle.mir.specs.Takes.{takesUni, takesBin, takesArith, takesFused}
@@ -62,7 +62,7 @@ classed-index c w p e =
 pub place-index : (s : List ℕ) (i : ℕ) (p : Loc) → placeAt s i ≡ got p → index p ≤ 255
 unfolding placeAt
 place-index s i p e =
-    let w = wordAt s (i + 1) in
+    let w = u16At s (i + 1) in
     let q = passed (ltb 255 w) 4 (classed (getD s i 0) w) p e in
     let h = ltb-false 255 w (q .test) in
     omega (arith, classed-index (getD s i 0) w p (q .rest))
@@ -125,12 +125,12 @@ module _ (count : ℕ) (s : List ℕ) (r : Record) where
       subst (Holds count) (got-same _ r (t .rest)) (l .low 0 (omega arith), save-held s 5 (t .first) (t .found))
 
   held-load-const : Bytes s → loadConstFrom count s ≡ got r → Holds count r
-  unfolding loadConstFrom wordAt
+  unfolding loadConstFrom u16At
   held-load-const b e =
       let l = lows 65 (byteAt s 4 ∷ []) _ r e in
-      let p = passed (leb count (wordAt s 5)) 5 _ r (l .rest) in
+      let p = passed (leb count (u16At s 5)) 5 _ r (l .rest) in
       subst (Holds count) (got-same _ r (p .rest))
-      (l .low 0 (omega arith), leb-false count (wordAt s 5) (p .test), omega (arith, b 5, b 6))
+      (l .low 0 (omega arith), leb-false count (u16At s 5) (p .test), omega (arith, b 5, b 6))
 
   held-fused : fusedFrom s ≡ got r → Holds count r
   unfolding fusedFrom

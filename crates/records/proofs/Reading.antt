@@ -6,7 +6,7 @@ use mathlib.Core.List.{List}
 use lib.ListN.{length, drop}
 use Rattle.mir.specs.declared.records.Record.{Record}
 use Rattle.mir.specs.Read.{Read, got, refused, andThen}
-use Rattle.mir.specs.Field.{wordAt, takesKind, headFrom}
+use Rattle.mir.specs.Field.{u16At, takesKind, headFrom}
 use Rattle.mir.specs.Decode.{Item, readAt}
 use Rattle.mir.proofs.Passing.{then}
 use Rattle.mir.proofs.Heads.{headed}
@@ -35,12 +35,12 @@ module _ (count : ℕ) (s : List ℕ) (at : ℕ) {r : NextRecord} where
 module _ (count : ℕ) (s : List ℕ) (at : ℕ) where
   -- what is read, and the position after it
   abbrev after : Read Record → Read (Item Record)
-  after r = andThen r (λ x. got (record { item = x; next = at + wordAt (drop at s) 0 }))
+  after r = andThen r (λ x. got (record { item = x; next = at + u16At (drop at s) 0 }))
 
   pub here-read : (rec : Record) → recordFrom count (drop at s) ≡ got rec
-      → Here (recordFrom count) s at rec (at + wordAt (drop at s) 0)
+      → Here (recordFrom count) s at rec (at + u16At (drop at s) 0)
   unfolding readAt
-  here-read rec e = here (recordFrom count) s at (whole count) rec (at + wordAt (drop at s) 0) (ap after e)
+  here-read rec e = here (recordFrom count) s at (whole count) rec (at + u16At (drop at s) 0) (ap after e)
 
   pub torn-read : (n : ℕ) → recordFrom count (drop at s) ≡ refused n → at < length s → Done (recordFrom count) s at n
   unfolding readAt

@@ -1,4 +1,4 @@
--- No record is refused by 0: a record whose sight has the number 0 was read.
+-- No record is refused by 0: a record whose summary has the number 0 was read.
 use Prim.Native.Nat.{ℕ}
 use mathlib.Core.Path.{_≡_, refl, ap, _∙_}
 use mathlib.Core.Bool.{true}
@@ -7,11 +7,11 @@ use lib.Dec.{ltb, leb, eqb}
 use Rattle.mir.specs.declared.records.Record.{Record}
 use Rattle.mir.specs.Operation.{uniOps, binOps, arithOps, fusedOps}
 use Rattle.mir.specs.Read.{Read, got, refused}
-use Rattle.mir.specs.Field.{byteAt, wordAt, takesKind}
+use Rattle.mir.specs.Field.{byteAt, u16At, takesKind}
 use Rattle.mir.specs.Takes.{takesUni, takesBin, takesArith, takesFused}
 use Rattle.mir.proofs.Refusals.{Numbered, read, told, not-zero, tested, parted, chosen, limited, operation, place, save, condition, head}
 use Rattle.records.specs.Record.{fieldsFrom, recordFrom}
-use Rattle.records.specs.Sight.{sightOf}
+use Rattle.records.specs.Summary.{summaryOf}
 
 -- kind by kind
 fields : (count kind : ℕ) (s : List ℕ) → Numbered (fieldsFrom count kind s)
@@ -23,7 +23,7 @@ fields count kind s =
     (chosen (eqb kind 3) (limited 65 (b 4 ∷ b 5 ∷ []) read)
     (chosen (eqb kind 4) (limited 65 (b 4 ∷ []) (parted (place s 5) (λ loc. read)))
     (chosen (eqb kind 5) (limited 65 (b 4 ∷ []) (parted (save s 5) (λ loc. read)))
-    (chosen (eqb kind 6) (limited 65 (b 4 ∷ []) (tested (leb count (wordAt s 5)) 4 read))
+    (chosen (eqb kind 6) (limited 65 (b 4 ∷ []) (tested (leb count (u16At s 5)) 4 read))
     (chosen (eqb kind 7) (parted (operation (takesFused true) fusedOps (b 4)) (λ op. limited 65 (b 5 ∷ b 6 ∷ b 7 ∷ b 8 ∷ []) read))
     (chosen (eqb kind 8) (limited 65 (b 4 ∷ b 5 ∷ b 6 ∷ []) (parted (condition s 7) (λ loc. read)))
     (chosen (eqb kind 11) (limited 65 (b 4 ∷ b 5 ∷ []) (parted (place s 6) (λ loc. read)))
@@ -47,10 +47,10 @@ module _ (count : ℕ) (s : List ℕ) where
     pub rec : Record
     pub is : recordFrom count s ≡ got rec
 
-  found : (r : Read Record) → recordFrom count s ≡ r → sightOf r .number ≡ 0 → Found
+  found : (r : Read Record) → recordFrom count s ≡ r → summaryOf r .number ≡ 0 → Found
   found (got rec) e h = record { rec = rec; is = e }
   found (refused n) e h = absurd (refused-by (e ∙ ap refused h))
 
-  -- where the sight has the number 0, there is a record
-  pub looked : sightOf (recordFrom count s) .number ≡ 0 → Found
+  -- where the summary has the number 0, there is a record
+  pub looked : summaryOf (recordFrom count s) .number ≡ 0 → Found
   looked h = found (recordFrom count s) refl h

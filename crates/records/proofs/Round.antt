@@ -14,7 +14,7 @@ use Rattle.mir.specs.Length.{lengthOf}
 use Rattle.mir.specs.Operation.{uniNumber, binNumber, arithNumber, fusedNumber}
 use Rattle.mir.specs.Takes.{takesUni, takesBin, takesArith, takesFused}
 use Rattle.mir.specs.Read.{Read, got, refuse, andThen}
-use Rattle.mir.specs.Field.{wordAt, among, takesKind, headFrom, savedTo, onStack}
+use Rattle.mir.specs.Field.{u16At, among, takesKind, headFrom, savedTo, onStack}
 use Rattle.mir.specs.Decode.{Decoded, ahead, decoded}
 use Rattle.mir.specs.Encode.{twoBytes, placeBytes, flagByte, recordOf, encode, encodeAll}
 use Rattle.mir.proofs.Numbering.{uni-at, bin-at, arith-at, fused-at}
@@ -54,10 +54,10 @@ formed (Record.Call l) = form 16 (l ∷ []) refl refl
 formed (Record.BranchIf c l e) = form 17 (c ∷ l ∷ flagByte e ∷ []) refl refl
 
 -- the length of a record's bytes is what stands first in them
-pub encoded-length : (r : Record) (rest : List ℕ) → wordAt (encode r ++ rest) 0 ≡ length (encode r)
+pub encoded-length : (r : Record) (rest : List ℕ) → u16At (encode r ++ rest) 0 ≡ length (encode r)
 encoded-length r rest =
     let w = formed r in
-    ap (λ l. wordAt (l ++ rest) 0) (w .same)
+    ap (λ l. u16At (l ++ rest) 0) (w .same)
     ∙ length-back (w .kind) (w .fields) rest
     ∙ sym (w .sized)
     ∙ sym (length-of (w .kind) (w .fields) rest)
@@ -90,7 +90,7 @@ named takes op e h = e ∙ ap (λ t. refuse (not t) 2 (got op)) h
 module _ (count : ℕ) where
   -- the fields are read from a record's bytes
   fields-back : (r : Record) (rest : List ℕ) → Holds count r → fieldsFrom count (formed r .kind) (encode r ++ rest) ≡ got r
-  unfolding formed form fieldsFrom recordOf wordAt
+  unfolding formed form fieldsFrom recordOf u16At
   fields-back (Record.Work (Work.Uni op dst s1)) rest h = simp (named (takesUni true) op (uni-at (takesUni true) op) (h .0), le-ltb 65 dst (h .1), le-ltb 65 s1 (h .2))
   fields-back (Record.Work (Work.Bi op dst s1 s2)) rest h =
       simp (named (takesBin true) op (bin-at (takesBin true) op) (h .0), le-ltb 65 dst (h .1), le-ltb 65 s1 (h .2), le-ltb 65 s2 (h .3))
@@ -150,7 +150,7 @@ module _ (count : ℕ) where
       let l = encodeAll rs ++ rest in
       ap (decoded (recordFrom count)) (append-assoc (encode r) (encodeAll rs) rest)
       ∙ decoded-got (recordFrom count) (whole count) (encode r ++ l) r (read-back count r l h)
-      ∙ ap (λ x. ahead r (decoded (recordFrom count) x)) (drop-at (encode r) l (wordAt (encode r ++ l) 0) (sym (encoded-length r l)))
+      ∙ ap (λ x. ahead r (decoded (recordFrom count) x)) (drop-at (encode r) l (u16At (encode r ++ l) 0) (sym (encoded-length r l)))
       ∙ ap (ahead r) (round-ahead rs rest k)
 
   pub round : (rs : List Record) → AllHold count rs → decoded (recordFrom count) (encodeAll rs) ≡ record { items = rs; fault = 0 }

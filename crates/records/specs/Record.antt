@@ -9,7 +9,7 @@ use Rattle.mir.specs.declared.records.Record.{Record}
 use Rattle.mir.specs.Operation.{uniOps, binOps, arithOps, fusedOps, taken}
 use Rattle.mir.specs.Takes.{takesUni, takesBin, takesArith, takesFused}
 use Rattle.mir.specs.Read.{Read, got, refused, refuse, andThen, registers, constant}
-use Rattle.mir.specs.Field.{byteAt, bytesAt, wordAt, takesKind, headFrom, placeAt, savePlace, condPlace}
+use Rattle.mir.specs.Field.{byteAt, bytesAt, u16At, takesKind, headFrom, placeAt, savePlace, condPlace}
 use Rattle.mir.specs.Decode.{Item, readAt, Decoded, decoded}
 use Rattle.records.specs.declared.reader.ReadRecord.{ReadRecord}
 use Rattle.records.specs.declared.reader.NextRecord.{NextRecord}
@@ -45,7 +45,7 @@ saveFrom s =
 unfoldable pub loadConstFrom : ℕ → List ℕ → Read Record
 loadConstFrom count s =
     registers 65 (bytesAt s 4 1)
-    (constant count (wordAt s 5) (got (Record.Work (Work.LoadConst (byteAt s 4) (wordAt s 5)))))
+    (constant count (u16At s 5) (got (Record.Work (Work.LoadConst (byteAt s 4) (u16At s 5)))))
 
 -- 7 Fused: op, dst, a, b, c
 unfoldable pub fusedFrom : List ℕ → Read Record

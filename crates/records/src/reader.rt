@@ -1,7 +1,7 @@
 // A listing's record, read at a position.
 ghost use mathlib.Core.Path.{_≡_};
 ghost use Rattle.records.specs.Record.{uniFrom, biFrom, movFrom, loadFrom, saveFrom, loadConstFrom, fusedFrom, ifElseFrom, loadComplexFrom, saveComplexFrom, complexBiFrom, labelFrom, branchFrom, callFrom, branchIfFrom, fieldsFrom, recordFrom, recordAt, asRead, asNext};
-ghost use Rattle.records.specs.Sight.{sightOf};
+ghost use Rattle.records.specs.Summary.{summaryOf};
 use mir::fields::Head;
 use mir::fields::Place;
 use mir::fields::above;
@@ -10,7 +10,7 @@ use mir::fields::read_cond_place;
 use mir::fields::read_head;
 use mir::fields::read_place;
 use mir::fields::read_save_place;
-use mir::fields::word;
+use mir::fields::u16_at;
 use mir::ops::FoundArith;
 use mir::ops::FoundBin;
 use mir::ops::FoundFused;
@@ -39,7 +39,7 @@ pub enum NextRecord {
 
 // What a pass over a listing needs of a record: the number that refuses it (0: none), what it is (0 a working record, 1 a Label, 2 a
 // Branch, 3 a Call, 4 a BranchIf) and its label.
-pub struct Sight {
+pub struct Summary {
     pub number: u8,
     pub what: u8,
     pub label: u8,
@@ -130,7 +130,7 @@ fn read_load_const(s: &[u8], count: usize) -> ReadRecord
     if above(s, 4, 1, LAST) {
         return ReadRecord::Refused(3);
     }
-    let idx = word(s, 5);
+    let idx = u16_at(s, 5);
     if count <= idx as usize {
         return ReadRecord::Refused(5);
     }
@@ -310,18 +310,18 @@ pub fn read_record(listing: &[u8], at: usize, count: usize) -> NextRecord
     let s = &listing[at..];
     match read_first(s, count) {
         ReadRecord::Got(record) => {
-            let n = word(s, 0);
+            let n = u16_at(s, 0);
             NextRecord::Got(record, at + n as usize)
         }
         ReadRecord::Refused(n) => NextRecord::Refused(n),
     }
 }
 
-// A sight from its three numbers.
-fn sighted(number: u8, what: u8, label: u8) -> Sight
+// A summary from its three numbers.
+fn summarized(number: u8, what: u8, label: u8) -> Summary
     ensures { λ r. ⌜ r ≡ record { number = number; what = what; label = label } ⌝ }
 {
-    Sight {
+    Summary {
         number: number,
         what: what,
         label: label,
@@ -329,28 +329,28 @@ fn sighted(number: u8, what: u8, label: u8) -> Sight
 }
 
 // What a pass needs of what was read.
-fn look_at(q: ReadRecord) -> Sight
-    ensures { λ r. ⌜ r ≡ sightOf (asRead q) ⌝ }
+fn look_at(q: ReadRecord) -> Summary
+    ensures { λ r. ⌜ r ≡ summaryOf (asRead q) ⌝ }
 {
     match q {
         ReadRecord::Got(rec) => match rec {
-            Record::Work(w) => sighted(0, 0, 0),
-            Record::Label(l) => sighted(0, 1, l),
-            Record::Branch(l) => sighted(0, 2, l),
-            Record::Call(l) => sighted(0, 3, l),
+            Record::Work(w) => summarized(0, 0, 0),
+            Record::Label(l) => summarized(0, 1, l),
+            Record::Branch(l) => summarized(0, 2, l),
+            Record::Call(l) => summarized(0, 3, l),
             Record::BranchIf {
                 cond,
                 label,
                 is_else,
-            } => sighted(0, 4, label),
+            } => summarized(0, 4, label),
         },
-        ReadRecord::Refused(n) => sighted(n, 0, 0),
+        ReadRecord::Refused(n) => summarized(n, 0, 0),
     }
 }
 
 // The fields of a kind, looked at.
-fn look_fields(s: &[u8], kind: u16, count: usize) -> Sight
-    ensures { λ r. ⌜ r ≡ sightOf (fieldsFrom count kind (now (s .entry))) ⌝ }
+fn look_fields(s: &[u8], kind: u16, count: usize) -> Summary
+    ensures { λ r. ⌜ r ≡ summaryOf (fieldsFrom count kind (now (s .entry))) ⌝ }
 {
     match kind {
         1 => look_at(read_uni(s)),
@@ -368,16 +368,16 @@ fn look_fields(s: &[u8], kind: u16, count: usize) -> Sight
         15 => look_at(read_branch(s)),
         16 => look_at(read_call(s)),
         17 => look_at(read_branch_if(s)),
-        _ => sighted(2, 0, 0),
+        _ => summarized(2, 0, 0),
     }
 }
 
 // The record that bytes begin with, looked at.
-pub fn look(s: &[u8], count: usize) -> Sight
-    ensures { λ r. ⌜ r ≡ sightOf (recordFrom count (now (s .entry))) ⌝ }
+pub fn look(s: &[u8], count: usize) -> Summary
+    ensures { λ r. ⌜ r ≡ summaryOf (recordFrom count (now (s .entry))) ⌝ }
 {
     match read_head(s, true) {
         Head::Kind(kind) => look_fields(s, kind, count),
-        Head::Refused(n) => sighted(n, 0, 0),
+        Head::Refused(n) => summarized(n, 0, 0),
     }
 }

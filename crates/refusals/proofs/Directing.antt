@@ -11,7 +11,7 @@ use Rattle.mir.specs.declared.records.Instruction.{Instruction}
 use Rattle.mir.specs.Operation.{uniOps, binOps, arithOps, fusedOps, taken}
 use Rattle.mir.specs.Takes.{takesUni, takesBin, takesArith, takesFused}
 use Rattle.mir.specs.Read.{Read, got, refused, refuse, andThen, above}
-use Rattle.mir.specs.Field.{byteAt, bytesAt, wordAt, takesKind, headFrom, placeAt, savePlace, condPlace}
+use Rattle.mir.specs.Field.{byteAt, bytesAt, u16At, takesKind, headFrom, placeAt, savePlace, condPlace}
 use Rattle.mir.proofs.Parts.{part}
 use Rattle.mir.proofs.Heads.{headed}
 use Rattle.sheet.specs.Instruction.{branchIfFrom, fieldsFrom, instructionFrom}
@@ -54,7 +54,7 @@ module _ (count kind : ℕ) (s : List ℕ) (label : kind ≡ 14 → ⊥) (branch
       (chosen (eqb kind 3) (λ e. tested (above 31 (bytesAt s 4 2)) 3 (read refl))
       (chosen (eqb kind 4) (λ e. tested (above 31 (bytesAt s 4 1)) 3 (parted (placeAt s 5) (λ p. read refl)))
       (chosen (eqb kind 5) (λ e. tested (above 31 (bytesAt s 4 1)) 3 (parted (savePlace s 5) (λ p. read refl)))
-      (chosen (eqb kind 6) (λ e. tested (above 31 (bytesAt s 4 1)) 3 (tested (leb count (wordAt s 5)) 5 (read refl)))
+      (chosen (eqb kind 6) (λ e. tested (above 31 (bytesAt s 4 1)) 3 (tested (leb count (u16At s 5)) 5 (read refl)))
       (chosen (eqb kind 7)
       (λ e. parted (taken (takesFused false) fusedOps (b 4)) (λ op. tested (above 31 (bytesAt s 5 4)) 3 (read refl)))
       (chosen (eqb kind 8) (λ e. tested (above 31 (bytesAt s 4 3)) 3 (parted (condPlace s 7) (λ p. read refl)))
@@ -63,7 +63,7 @@ module _ (count kind : ℕ) (s : List ℕ) (label : kind ≡ 14 → ⊥) (branch
       (λ op. tested (above 31 (bytesAt s 5 2)) 3 (parted (placeAt s 7) (λ p. read refl))))
       (chosen (eqb kind 10)
       (λ e. parted (taken takesArith arithOps (b 4))
-      (λ op. tested (above 31 (bytesAt s 5 2)) 3 (tested (leb count (wordAt s 7)) 5 (read refl))))
+      (λ op. tested (above 31 (bytesAt s 5 2)) 3 (tested (leb count (u16At s 7)) 5 (read refl))))
       (chosen (eqb kind 14) (λ e. absurd (label (eqb-true kind 14 e)))
       (chosen (eqb kind 15) (λ e. absurd (branch (eqb-true kind 15 e)))
       (chosen (eqb kind 17) (λ e. absurd (branchIf (eqb-true kind 17 e))) told)))))))))))))
@@ -90,7 +90,7 @@ module _ (count : ℕ) (s : List ℕ) (at : ℕ) where
   at-torn n e = here e
 
   -- a kind below a label's and a branch's
-  pub at-low : {k : ℕ} → k ≡ wordAt from 2 → k < 14 → roleRead (instructionFrom count (drop at s)) ≡ Labels.works
+  pub at-low : {k : ℕ} → k ≡ u16At from 2 → k < 14 → roleRead (instructionFrom count (drop at s)) ≡ Labels.works
   at-low {k} w h = go (headFrom (takesKind false) from) refl
     where
       go : (r : Read ℕ) → headFrom (takesKind false) from ≡ r → roleRead (instructionFrom count (drop at s)) ≡ Labels.works

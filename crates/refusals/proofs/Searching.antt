@@ -12,7 +12,7 @@ use lib.Seq.{drop-drop, getD-drop}
 use Rattle.mir.specs.Length.{lengthOf}
 use Rattle.mir.specs.Read.{Read, got, refused, refuse}
 use Rattle.mir.specs.Encode.{flagByte}
-use Rattle.mir.specs.Field.{byteAt, wordAt, takesKind, headFrom}
+use Rattle.mir.specs.Field.{byteAt, u16At, takesKind, headFrom}
 use Rattle.mir.specs.Decode.{decoded}
 use Rattle.mir.proofs.Parts.{part}
 use Rattle.mir.proofs.Passing.{either, passed, got-same}
@@ -44,8 +44,8 @@ by-tests false false false true false k o = refl
 pub head-seen : (s : List ℕ) → labelSeen s ≡ onHead (labelHere s) (headFrom (takesKind false) s)
 unfolding labelSeen headFrom
 head-seen s =
-    by-tests (ltb (length s) 4) (ltb (wordAt s 0) 4) (ltb (length s) (wordAt s 0)) (takesKind false (wordAt s 2))
-    (eqb (lengthOf (wordAt s 2)) (wordAt s 0)) (wordAt s 2) (labelHere s)
+    by-tests (ltb (length s) 4) (ltb (u16At s 0) 4) (ltb (length s) (u16At s 0)) (takesKind false (u16At s 2))
+    (eqb (lengthOf (u16At s 2)) (u16At s 0)) (u16At s 2) (labelHere s)
 
 pub head-read : (s : List ℕ) (k : ℕ) → headFrom (takesKind false) s ≡ got k → labelSeen s ≡ got (labelHere s)
 head-read s k e = head-seen s ∙ ap (onHead (labelHere s)) e
@@ -55,16 +55,16 @@ head-refused s n e = head-seen s ∙ ap (onHead (labelHere s)) e
 
 -- the length of a record that is not torn
 record Long (s : List ℕ) : Type 0 where
-  least : 4 ≤ wordAt s 0
-  inside : wordAt s 0 ≤ length s
+  least : 4 ≤ u16At s 0
+  inside : u16At s 0 ≤ length s
 
 long : (s : List ℕ) (o : Option ℕ) → labelSeen s ≡ got o → Long s
 unfolding labelSeen
 long s o e =
     let a = passed (ltb (length s) 4) 1 _ o e in
-    let b = passed (ltb (wordAt s 0) 4) 1 _ o (a .rest) in
-    let c = passed (ltb (length s) (wordAt s 0)) 1 _ o (b .rest) in
-    record { least = ltb-false (wordAt s 0) 4 (b .test); inside = ltb-false (length s) (wordAt s 0) (c .test) }
+    let b = passed (ltb (u16At s 0) 4) 1 _ o (a .rest) in
+    let c = passed (ltb (length s) (u16At s 0)) 1 _ o (b .rest) in
+    record { least = ltb-false (u16At s 0) 4 (b .test); inside = ltb-false (length s) (u16At s 0) (c .test) }
 
 -- it is torn, or it is not
 pub torn-seen : (s : List ℕ) {r : Bool} → labelSeen s ≡ cond r (refused 1) (got (labelHere s)) → r ≡ true → labelSeen s ≡ refused 1
@@ -74,13 +74,13 @@ pub whole-seen : (s : List ℕ) {r : Bool} → labelSeen s ≡ cond r (refused 1
 whole-seen s e f = e ∙ ap (λ (q : Bool). cond q (refused 1) (got (labelHere s))) f
 
 -- a Label is marked, another record is not
-pub is-label : (s marks : List ℕ) {marks' : List ℕ} → eqb (wordAt s 2) 14 ≡ true → marks' ≡ set marks (byteAt s 4) 1
+pub is-label : (s marks : List ℕ) {marks' : List ℕ} → eqb (u16At s 2) 14 ≡ true → marks' ≡ set marks (byteAt s 4) 1
     → (true ≡ isLabel (labelHere s)) × (marks' ≡ markSeen (labelHere s) marks)
 is-label s marks e f =
     let k : labelHere s ≡ some (byteAt s 4) = ap (λ (q : Bool). cond q (some (byteAt s 4)) none) e in
     (ap isLabel (sym k), f ∙ ap (λ o. markSeen o marks) (sym k))
 
-pub is-other : (s marks : List ℕ) → eqb (wordAt s 2) 14 ≡ false → (false ≡ isLabel (labelHere s)) × (marks ≡ markSeen (labelHere s) marks)
+pub is-other : (s marks : List ℕ) → eqb (u16At s 2) 14 ≡ false → (false ≡ isLabel (labelHere s)) × (marks ≡ markSeen (labelHere s) marks)
 is-other s marks e =
     let k : labelHere s ≡ none = ap (λ (q : Bool). cond q (some (byteAt s 4)) none) e in
     (ap isLabel (sym k), ap (λ o. markSeen o marks) (sym k))
@@ -96,19 +96,19 @@ module _ (sheet : List ℕ) (at : ℕ) where
     z : Long (drop at sheet)
     z = long (drop at sheet) o (ap labelSeen (sym (part sheet at)) ∙ e)
 
-    pub step-on : (n : ℕ) → n ≡ wordAt (from sheet at) 0 → (at < at + n) × (at + n ≤ length sheet)
+    pub step-on : (n : ℕ) → n ≡ u16At (from sheet at) 0 → (at < at + n) × (at + n ≤ length sheet)
     step-on n k =
-        let f = ap (λ s. wordAt s 0) (part sheet at) in
+        let f = ap (λ s. u16At s 0) (part sheet at) in
         let a = z .least in
         let b = z .inside in
         let g = length-drop at sheet in
         (omega (arith, k, f, a), omega (arith, k, f, a, b, g))
 
-    pub step-seen : (n : ℕ) → n ≡ wordAt (from sheet at) 0 → seenIn (drop at sheet) ≡ o ∷ seenIn (drop (at + n) sheet)
+    pub step-seen : (n : ℕ) → n ≡ u16At (from sheet at) 0 → seenIn (drop at sheet) ≡ o ∷ seenIn (drop (at + n) sheet)
     step-seen n k =
-        let f = k ∙ ap (λ s. wordAt s 0) (part sheet at) in
+        let f = k ∙ ap (λ s. u16At s 0) (part sheet at) in
         ap (λ d. d .items) (ahead-one (drop at sheet) o (ap labelSeen (sym (part sheet at)) ∙ e) (z .least) (z .inside))
-        ∙ ap (λ s. o ∷ seenIn s) (drop-drop (wordAt (drop at sheet) 0) at sheet ∙ ap (λ k. drop (at + k) sheet) (sym f))
+        ∙ ap (λ s. o ∷ seenIn s) (drop-drop (u16At (drop at sheet) 0) at sheet ∙ ap (λ k. drop (at + k) sheet) (sym f))
 
   -- it is, or none stands there
   pub torn-none : (n : ℕ) → at < length sheet → labelSeen (from sheet at) ≡ refused n → seenIn (drop at sheet) ≡ []
@@ -164,10 +164,10 @@ seen-byte : (s : List ℕ) (o : Option ℕ) → Bytes s → labelSeen s ≡ got 
 unfolding labelSeen
 seen-byte s o h e =
     let a = passed (ltb (length s) 4) 1 _ o e in
-    let b = passed (ltb (wordAt s 0) 4) 1 _ o (a .rest) in
-    let c = passed (ltb (length s) (wordAt s 0)) 1 _ o (b .rest) in
-    let d = passed (takesKind false (wordAt s 2) && not (eqb (lengthOf (wordAt s 2)) (wordAt s 0))) 1 _ o (c .rest) in
-    subst IsByte (got-same _ _ (d .rest)) (go (eqb (wordAt s 2) 14))
+    let b = passed (ltb (u16At s 0) 4) 1 _ o (a .rest) in
+    let c = passed (ltb (length s) (u16At s 0)) 1 _ o (b .rest) in
+    let d = passed (takesKind false (u16At s 2) && not (eqb (lengthOf (u16At s 2)) (u16At s 0))) 1 _ o (c .rest) in
+    subst IsByte (got-same _ _ (d .rest)) (go (eqb (u16At s 2) 14))
   where
     go : (q : Bool) → IsByte (cond q (some (byteAt s 4)) none)
     go true = h 4

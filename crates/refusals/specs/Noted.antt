@@ -9,7 +9,7 @@ use lib.Dec.{ltb, eqb}
 use Rattle.mir.specs.declared.records.Instruction.{Instruction}
 use Rattle.mir.specs.Encode.{flagByte}
 use Rattle.mir.specs.Read.{Read, got, refused}
-use Rattle.mir.specs.Field.{byteAt, bytesAt, wordAt}
+use Rattle.mir.specs.Field.{byteAt, bytesAt, u16At}
 use Rattle.mir.specs.Decode.{decoded}
 use Rattle.words.specs.Bytes.{stored}
 use Rattle.sheet.specs.Instruction.{fieldsFrom, instructionFrom}
@@ -19,7 +19,7 @@ use Rattle.lowering.specs.Labels.{Role, role, Standing, labelSeen, later, stand
 
 -- the label in a record's bytes, where it is a Label
 abbrev pub labelHere : List ℕ → Option ℕ
-labelHere s = cond (eqb (wordAt s 2) 14) (some (byteAt s 4)) none
+labelHere s = cond (eqb (u16At s 2) 14) (some (byteAt s 4)) none
 
 -- a record of realness in 96 bytes: the registers' flags, then the places
 abbrev pub recordBytes : Realness → List ℕ

@@ -15,7 +15,7 @@ use lowering::realness::Realness;
 use mir::fields::Head;
 use mir::fields::byte;
 use mir::fields::read_head;
-use mir::fields::word;
+use mir::fields::u16_at;
 use mir::writer::flag_byte;
 use words::put_bytes;
 
@@ -58,7 +58,7 @@ fn mark_label(s: &[u8], marks: &mut [u8]) -> bool
     ensures { λ r. ⌜ (r ≡ isLabel (labelHere (now (s .entry))))
         × (now (marks .exit) ≡ markSeen (labelHere (now (s .entry))) (now (marks .entry))) ⌝ }
 {
-    if word(s, 2) == 14 {
+    if u16_at(s, 2) == 14 {
         set_mark(marks, byte(s, 4), AHEAD);
         return true;
     }
@@ -85,7 +85,7 @@ pub fn find_labels(sheet: &[u8], start: usize, marks: &mut [u8]) -> bool
         }
         let found = mark_label(s, marks);
         any = either(any, found);
-        let n = word(s, 0);
+        let n = u16_at(s, 0);
         at += n as usize;
     }
     any
@@ -233,7 +233,7 @@ pub fn pass_at(sheet: &[u8], at: usize, real: Realness, marks: &mut [u8], rows: 
         return 0;
     }
     let s = &sheet[at..];
-    if word(s, 2) < 14 {
+    if u16_at(s, 2) < 14 {
         return 0;
     }
     match read_head(s, false) {

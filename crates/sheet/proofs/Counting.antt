@@ -10,7 +10,7 @@ use lib.Dec.{ltb, eqb}
 use lib.Seq.{drop-drop}
 use borrow.Author.Tests.{ltb-false}
 use Rattle.mir.specs.Read.{Read, got, refused}
-use Rattle.mir.specs.Field.{wordAt}
+use Rattle.mir.specs.Field.{u16At}
 use Rattle.mir.proofs.Parts.{part}
 use Rattle.mir.proofs.Passing.{clash, either}
 use Rattle.sheet.specs.Setup.{isConstant, isBroken, oneMore, constantsFrom}
@@ -32,7 +32,7 @@ or-right true b e = cc
 or-right false b e = e
 
 unbroken : (s : List ℕ) → isBroken s ≡ false → 12 ≤ length s
-unbroken s f = ltb-false (length s) 12 (or-right (not (eqb (wordAt s 0) 12)) (ltb (length s) 12) f)
+unbroken s f = ltb-false (length s) 12 (or-right (not (eqb (u16At s 0) 12)) (ltb (length s) 12) f)
 
 pub ended : (k : ℕ) (s : List ℕ) → isConstant s ≡ false → constantsFrom k s ≡ got 0
 unfolding constantsFrom

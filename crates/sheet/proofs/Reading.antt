@@ -7,7 +7,7 @@ use lib.ListN.{length, drop}
 use lib.Seq.{drop-drop}
 use Rattle.mir.specs.declared.records.Instruction.{Instruction}
 use Rattle.mir.specs.Read.{got}
-use Rattle.mir.specs.Field.{wordAt, takesKind, headFrom}
+use Rattle.mir.specs.Field.{u16At, takesKind, headFrom}
 use Rattle.mir.specs.Decode.{readAt}
 use Rattle.mir.proofs.Passing.{then, got-same}
 use Rattle.mir.proofs.Heads.{headed}
@@ -30,10 +30,10 @@ module _ (count : ℕ) (s : List ℕ) (at : ℕ) {r : NextInstruction} where
 
   -- its length leads to the next position
   pub past-instruction : {i : Instruction} {next : ℕ} → asNext r ≡ instructionAt count s at → r ≡ NextInstruction.Got i next
-      → drop (wordAt (drop at s) 0) (drop at s) ≡ drop next s
+      → drop (u16At (drop at s) 0) (drop at s) ≡ drop next s
   unfolding readAt
   past-instruction {i} {next} e f =
-      let n = wordAt (drop at s) 0 in
+      let n = u16At (drop at s) 0 in
       let t = then (instructionFrom count (drop at s)) (λ i. got (record { item = i; next = at + n })) (record { item = i; next = next })
       (sym e ∙ ap asNext f) in
       drop-drop n at s ∙ ap (λ y. drop (y .next) s) (got-same _ _ (t .rest))

@@ -6,7 +6,7 @@ use mathlib.Core.List.{List, [], _∷_}
 use lib.Dec.{ltb, leb, eqb}
 use Rattle.mir.specs.Operation.{uniOps, binOps, arithOps, fusedOps}
 use Rattle.mir.specs.Read.{refused}
-use Rattle.mir.specs.Field.{byteAt, wordAt, takesKind}
+use Rattle.mir.specs.Field.{byteAt, u16At, takesKind}
 use Rattle.mir.specs.Takes.{takesUni, takesBin, takesArith, takesFused}
 use Rattle.mir.proofs.Refusals.{Numbered, read, told, not-zero, tested, parted, chosen, limited, operation, place, save, condition, head}
 use Rattle.sheet.specs.Instruction.{fieldsFrom, instructionFrom}
@@ -22,12 +22,12 @@ fields count kind s =
     (chosen (eqb kind 3) (limited 31 (b 4 ∷ b 5 ∷ []) read)
     (chosen (eqb kind 4) (limited 31 (b 4 ∷ []) (parted (place s 5) (λ loc. read)))
     (chosen (eqb kind 5) (limited 31 (b 4 ∷ []) (parted (save s 5) (λ loc. read)))
-    (chosen (eqb kind 6) (limited 31 (b 4 ∷ []) (tested (leb count (wordAt s 5)) 4 read))
+    (chosen (eqb kind 6) (limited 31 (b 4 ∷ []) (tested (leb count (u16At s 5)) 4 read))
     (chosen (eqb kind 7) (parted (operation (takesFused false) fusedOps (b 4)) (λ op. limited 31 (b 5 ∷ b 6 ∷ b 7 ∷ b 8 ∷ []) read))
     (chosen (eqb kind 8) (limited 31 (b 4 ∷ b 5 ∷ b 6 ∷ []) (parted (condition s 7) (λ loc. read)))
     (chosen (eqb kind 9) (parted (operation takesArith arithOps (b 4)) (λ op. limited 31 (b 5 ∷ b 6 ∷ []) (parted (place s 7) (λ loc. read))))
     (chosen (eqb kind 10)
-    (parted (operation takesArith arithOps (b 4)) (λ op. limited 31 (b 5 ∷ b 6 ∷ []) (tested (leb count (wordAt s 7)) 4 read)))
+    (parted (operation takesArith arithOps (b 4)) (λ op. limited 31 (b 5 ∷ b 6 ∷ []) (tested (leb count (u16At s 7)) 4 read)))
     (chosen (eqb kind 14) (tested (ltb (b 4) 3) 9 read)
     (chosen (eqb kind 15) (tested (ltb (b 4) 3) 9 read)
     (chosen (eqb kind 17) (limited 31 (b 4 ∷ []) (tested (ltb (b 5) 3) 9 (tested (ltb 1 (b 6)) 9 read)))

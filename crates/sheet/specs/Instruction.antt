@@ -8,7 +8,7 @@ use Rattle.mir.specs.declared.records.Instruction.{Instruction}
 use Rattle.mir.specs.Operation.{uniOps, binOps, arithOps, fusedOps, taken}
 use Rattle.mir.specs.Takes.{takesUni, takesBin, takesArith, takesFused}
 use Rattle.mir.specs.Read.{Read, got, refused, refuse, andThen, registers, constant}
-use Rattle.mir.specs.Field.{byteAt, bytesAt, wordAt, takesKind, headFrom, placeAt, savePlace, condPlace}
+use Rattle.mir.specs.Field.{byteAt, bytesAt, u16At, takesKind, headFrom, placeAt, savePlace, condPlace}
 use Rattle.mir.specs.Decode.{Item, readAt, Decoded, decoded}
 use Rattle.sheet.specs.declared.reader.ReadInstruction.{ReadInstruction}
 use Rattle.sheet.specs.declared.reader.NextInstruction.{NextInstruction}
@@ -42,7 +42,7 @@ saveFrom s = registers 31 (bytesAt s 4 1) (andThen (savePlace s 5) (λ loc. got 
 -- 6 LoadConst: dst, constant
 unfoldable pub loadConstFrom : ℕ → List ℕ → Read Instruction
 loadConstFrom count s =
-    registers 31 (bytesAt s 4 1) (constant count (wordAt s 5) (got (Instruction.LoadConst (byteAt s 4) (wordAt s 5))))
+    registers 31 (bytesAt s 4 1) (constant count (u16At s 5) (got (Instruction.LoadConst (byteAt s 4) (u16At s 5))))
 
 -- 7 Fused: op, dst, a, b, c
 unfoldable pub fusedFrom : List ℕ → Read Instruction
@@ -72,7 +72,7 @@ loadConstMathFrom count s =
     andThen (taken takesArith arithOps (byteAt s 4))
     (λ op.
     registers 31 (bytesAt s 5 2)
-    (constant count (wordAt s 7) (got (Instruction.LoadConstMath op (byteAt s 5) (byteAt s 6) (wordAt s 7)))))
+    (constant count (u16At s 7) (got (Instruction.LoadConstMath op (byteAt s 5) (byteAt s 6) (u16At s 7)))))
 
 -- document 02, d): "10 [..] for a label outside 3 to 255, or a third byte above 1"
 abbrev pub ownLabel : ℕ → Read Instruction → Read Instruction

@@ -6,7 +6,7 @@ use lib.ListN.{length, take, drop, replicate}
 use lib.Dec.{ltb, leb, eqb}
 use Rattle.words.specs.Bytes as Words
 use Rattle.mir.specs.Read.{Read, got, refused, refuse}
-use Rattle.mir.specs.Field.{byteAt, wordAt}
+use Rattle.mir.specs.Field.{byteAt, u16At}
 use Rattle.sheet.specs.declared.setup.Mode.{Mode}
 use Rattle.sheet.specs.declared.setup.Setup.{Setup}
 use Rattle.sheet.specs.declared.setup.Header.{Header}
@@ -27,17 +27,17 @@ unfoldable pub headerFrom : List ℕ → Read Mode
 headerFrom s =
     refuse (ltb 16384 (length s)) 8
     (refuse (ltb (length s) 69) 8
-    (refuse (not (eqb (wordAt s 0) 69)) 8
-    (refuse (not (eqb (wordAt s 2) 32)) 8
+    (refuse (not (eqb (u16At s 0) 69)) 8
+    (refuse (not (eqb (u16At s 2) 32)) 8
     (modeFrom (byteAt s 4)))))
 
 -- a constant stands first: four bytes can be read, and their kind is 33
 abbrev pub isConstant : List ℕ → Bool
-isConstant s = leb 4 (length s) && eqb (wordAt s 2) 33
+isConstant s = leb 4 (length s) && eqb (u16At s 2) 33
 
 -- "a kind 33 before the instructions whose length is not 12 or runs past the end"
 abbrev pub isBroken : List ℕ → Bool
-isBroken s = not (eqb (wordAt s 0) 12) || ltb (length s) 12
+isBroken s = not (eqb (u16At s 0) 12) || ltb (length s) 12
 
 abbrev pub oneMore : Read ℕ → Read ℕ
 oneMore (got n) = got (suc n)

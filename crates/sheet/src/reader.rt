@@ -9,7 +9,7 @@ use mir::fields::read_cond_place;
 use mir::fields::read_head;
 use mir::fields::read_place;
 use mir::fields::read_save_place;
-use mir::fields::word;
+use mir::fields::u16_at;
 use mir::ops::FoundArith;
 use mir::ops::FoundBin;
 use mir::ops::FoundFused;
@@ -123,7 +123,7 @@ fn read_load_const(s: &[u8], count: usize) -> ReadInstruction
     if above(s, 4, 1, LAST) {
         return ReadInstruction::Refused(3);
     }
-    let idx = word(s, 5);
+    let idx = u16_at(s, 5);
     if count <= idx as usize {
         return ReadInstruction::Refused(5);
     }
@@ -200,7 +200,7 @@ fn read_load_const_math(s: &[u8], count: usize) -> ReadInstruction
             if above(s, 5, 2, LAST) {
                 return ReadInstruction::Refused(3);
             }
-            let idx = word(s, 7);
+            let idx = u16_at(s, 7);
             if count <= idx as usize {
                 return ReadInstruction::Refused(5);
             }
@@ -299,7 +299,7 @@ pub fn read_instruction(sheet: &[u8], at: usize, count: usize) -> NextInstructio
     let s = &sheet[at..];
     match read_first(s, count) {
         ReadInstruction::Got(instruction) => {
-            let n = word(s, 0);
+            let n = u16_at(s, 0);
             NextInstruction::Got(instruction, at + n as usize)
         }
         ReadInstruction::Refused(n) => NextInstruction::Refused(n),

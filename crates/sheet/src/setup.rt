@@ -4,7 +4,7 @@ ghost use Prim.Native.Nat.{_≤_};
 ghost use lib.ListN.{length, take, drop};
 ghost use Rattle.sheet.specs.Setup.{modeFrom, isStable, headerFrom, isConstant, isBroken, constantsFrom, wrong, setup, constantAt, asHeader, asCounted};
 use mir::fields::byte;
-use mir::fields::word;
+use mir::fields::u16_at;
 use words::put_bytes;
 use words::word_at;
 
@@ -66,10 +66,10 @@ fn read_header(sheet: &[u8]) -> Header
     if sheet.len() < 69 {
         return Header::Wrong;
     }
-    if word(sheet, 0) != 69 {
+    if u16_at(sheet, 0) != 69 {
         return Header::Wrong;
     }
-    if word(sheet, 2) != 32 {
+    if u16_at(sheet, 2) != 32 {
         return Header::Wrong;
     }
     let mode = byte(sheet, 4);
@@ -81,7 +81,7 @@ fn is_constant(s: &[u8]) -> bool
     ensures { λ r. ⌜ r ≡ isConstant (now (s .entry)) ⌝ }
 {
     if 4 <= s.len() {
-        let kind = word(s, 2);
+        let kind = u16_at(s, 2);
         return kind == 33;
     }
     false
@@ -91,7 +91,7 @@ fn is_constant(s: &[u8]) -> bool
 fn is_broken(s: &[u8]) -> bool
     ensures { λ r. ⌜ r ≡ isBroken (now (s .entry)) ⌝ }
 {
-    let n = word(s, 0);
+    let n = u16_at(s, 0);
     if n != 12 {
         return true;
     }

@@ -7,7 +7,7 @@ use native.Mathlib.Omega.{arith}
 use borrow.Author.Tests.{ltb-false, eq-eqb}
 use lib.ListN.{length, take, drop, replicate}
 use lib.Dec.{ltb, eqb}
-use Rattle.complexify.specs.declared.entry.Answer.{Answer}
+use Rattle.complexify.specs.declared.entry.LowerAnswer.{LowerAnswer}
 use Rattle.complexify.specs.Entry as Entry
 use Rattle.words.specs.Bytes.{wordsOf, stored}
 use Rattle.replay.specs.Numbers.{u32At}
@@ -41,7 +41,7 @@ is-whole s e =
 part-of : (s : List ℕ) {at stop k : ℕ} (n : ℕ) → at ≡ k → stop ≡ k + n → take (stop - at) (drop at s) ≡ take n (drop k s)
 part-of s {at} {stop} {k} n e f = let m : stop - at ≡ n = omega arith in rw (m, e)
 
-module _ (s : List ℕ) (a : Answer) where
+module _ (s : List ℕ) (a : LowerAnswer) where
   -- the last of the four numbers decides
   pub count-decides : {n i w c : ℕ}
       → n ≡ u32At s 12
@@ -84,7 +84,7 @@ module _ (s : List ℕ) {at : ℕ} {l₀ c₀ : List ℕ} (ha : at ≡ listingAt
       ap (λ (n : ℕ). f (take n (drop 124 s)) l₀ c₀) e
       ∙ (ap (λ (l : List ℕ). f (sheet s) l c₀) (p .bytes) ∙ ap (f (sheet s) (lentBytes (room s))) (p .words))
 
-  pub judged : {a : Answer} {l c : List ℕ} {g : Bool}
+  pub judged : {a : LowerAnswer} {l c : List ℕ} {g : Bool}
       → a ≡ Entry.answer (take (at - 124) (drop 124 s)) l₀ c₀
       → l ≡ Entry.listingAfter (take (at - 124) (drop 124 s)) l₀ c₀
       → c ≡ Entry.constantsAfter (take (at - 124) (drop 124 s)) l₀ c₀
@@ -95,9 +95,9 @@ module _ (s : List ℕ) {at : ℕ} {l₀ c₀ : List ℕ} (ha : at ≡ listingAt
       let x : a ≡ answered s = ea ∙ of-case Entry.answer in
       let y : l ≡ listingAfter s = el ∙ of-case Entry.listingAfter in
       let z : c ≡ constantsAfter s = ec ∙ of-case Entry.constantsAfter in (
-        ap (λ (b : Answer). b .number) x,
+        ap (λ (b : LowerAnswer). b .number) x,
         ap not
             (eg
-            ∙ (ap (λ (b : Answer). expected s b l c) x
+            ∙ (ap (λ (b : LowerAnswer). expected s b l c) x
             ∙ (ap (λ (m : List ℕ). expected s (answered s) m c) y ∙ ap (expected s (answered s) (listingAfter s)) z))),
       )

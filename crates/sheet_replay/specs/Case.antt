@@ -7,7 +7,7 @@ use mathlib.Core.Path.{_≡_}
 use lib.ListN.{length, take, drop, replicate}
 use lib.Dec.{eqb, ltb}
 use Rattle.lowering.specs.declared.realness.Realness.{Realness}
-use Rattle.complexify.specs.declared.entry.Answer.{Answer}
+use Rattle.complexify.specs.declared.entry.LowerAnswer.{LowerAnswer}
 use Rattle.complexify.specs.Entry as Entry
 use Rattle.words.specs.Bytes.{wordsOf, stored}
 use Rattle.replay.specs.Numbers.{u32At}
@@ -68,7 +68,7 @@ unfoldable pub sheet : List ℕ → List ℕ
 sheet s = take (sheetLength s) (drop 124 s)
 
 -- what lowering answers, and both slices after it
-unfoldable pub answered : List ℕ → Answer
+unfoldable pub answered : List ℕ → LowerAnswer
 answered s = Entry.answer (sheet s) (lentBytes (room s)) (lentWords (tableLength s))
 
 unfoldable pub listingAfter : List ℕ → List ℕ
@@ -78,7 +78,7 @@ unfoldable pub constantsAfter : List ℕ → List ℕ
 constantsAfter s = Entry.constantsAfter (sheet s) (lentBytes (room s)) (lentWords (tableLength s))
 
 -- whether number, index, bytes written and count of constants are the expected ones
-unfoldable pub numbersAgree : List ℕ → Answer → Bool
+unfoldable pub numbersAgree : List ℕ → LowerAnswer → Bool
 numbersAgree s a =
     eqb (a .number) (u32At s 12) && (eqb (a .index) (u32At s 16) && (eqb (a .written) (written s) && eqb (a .count) (count s)))
 
@@ -97,7 +97,7 @@ listingExpected s = stored (lentBytes (room s)) 0 (take (written s) (drop (listi
 unfoldable pub constantsExpected : List ℕ → List ℕ
 constantsExpected s = stored (lentWords (tableLength s)) 0 (wordsOf (take (8 * count s) (drop (constantsAt s) s)))
 
-unfoldable pub expected : List ℕ → Answer → List ℕ → List ℕ → Bool
+unfoldable pub expected : List ℕ → LowerAnswer → List ℕ → List ℕ → Bool
 expected s a listing constants =
     numbersAgree s a && (realAgrees s (a .real) && (same listing (listingExpected s) && same constants (constantsExpected s)))
 

@@ -5,7 +5,7 @@ ghost use lib.ListN.{length};
 ghost use Rattle.sheet_replay.specs.Case as Case;
 ghost use Rattle.sheet_replay.specs.Case.{Whole, Lent, cut, lentBytes, lentWords, answered, differs, expected, numbersAgree, realAgrees, listingExpected, constantsExpected};
 use crate::compare::flags_agree;
-use complexify::entry::Answer;
+use complexify::entry::LowerAnswer;
 use complexify::entry::lower;
 use lowering::realness::Realness;
 use replay::numbers::count_at;
@@ -52,7 +52,7 @@ pub fn is_cut(s: &[u8]) -> bool
 }
 
 // Whether number, index, bytes written and count of constants are the expected ones.
-fn numbers_agree(s: &[u8], a: Answer) -> bool
+fn numbers_agree(s: &[u8], a: LowerAnswer) -> bool
     ensures { λ r. ⌜ r ≡ numbersAgree (now (s .entry)) a ⌝ }
 {
     if a.number as usize != count_at(s, 12) {
@@ -83,7 +83,7 @@ fn real_agrees(s: &[u8], real: Realness) -> bool
 // Whether an answer and both slices are the expected ones.
 fn agrees(
     s: &[u8],
-    a: Answer,
+    a: LowerAnswer,
     listing: &[u8],
     constants: &[u64],
     bytes: &[u8],

@@ -8,7 +8,7 @@ use native.Mathlib.Omega.{arith}
 use lib.ListN.{length, drop, length-drop}
 use Rattle.mir.specs.declared.records.Instruction.{Instruction}
 use Rattle.mir.specs.Read.{Read, got}
-use Rattle.mir.specs.Field.{wordAt}
+use Rattle.mir.specs.Field.{u16At}
 use Rattle.mir.specs.Decode.{readAt}
 use Rattle.mir.proofs.Passing.{then, got-same}
 use Rattle.mir.proofs.Decoding.{items, Here, Done}
@@ -66,9 +66,9 @@ pub four : (count : ℕ) (s : List ℕ) (at : ℕ) (x : Instruction) (next : ℕ
     → at + 4 ≤ next
 unfolding readAt
 four count s at x next e =
-    let t = then (instructionFrom count (drop at s)) (λ a. got (record { item = a; next = at + wordAt (drop at s) 0 })) (record { item = x; next = next }) e in
+    let t = then (instructionFrom count (drop at s)) (λ a. got (record { item = a; next = at + u16At (drop at s) 0 })) (record { item = x; next = next }) e in
     let y = got-same _ _ (t .rest) in
-    let b : at + wordAt (drop at s) 0 ≡ next = ap (λ y. y .next) y in
+    let b : at + u16At (drop at s) 0 ≡ next = ap (λ y. y .next) y in
     let z = whole count .sized (drop at s) (t .first) (t .found) in
     omega (arith, z .least, b)
 

@@ -42,12 +42,12 @@ use denote.Triple.Table.{entered, cited}
 use denote.Triple.Walked.{says, Stays, stay-ref, stay-none-slice, gave-slice, walkOf, goes-ref, goes-none-slice, goes-gave-slice, Walks, ends-at, walked, walk-meets}
 use denote.Exit.{yes}
 use Rattle.complexify.specs.Entry.{answer, listingAfter, constantsAfter}
-use Rattle.complexify.specs.declared.entry.Answer.{Answer}
+use Rattle.complexify.specs.declared.entry.LowerAnswer.{LowerAnswer}
 use Rattle.lowering.specs.declared.realness.Realness.{Realness}
 use Rattle.lowering.proofs.realness.Realness as T
 use Rattle.lowering.proofs.realness.Realness.Laws as T′
-use Rattle.complexify.proofs.entry.Answer as R
-use Rattle.complexify.proofs.entry.Answer.Laws as R′
+use Rattle.complexify.proofs.entry.LowerAnswer as R
+use Rattle.complexify.proofs.entry.LowerAnswer.Laws as R′
 use Rattle.complexify.proofs.entry.lower as g
 use Rattle.complexify.proofs.entry.lower.Symbol as g-def
 use Rattle.complexify.proofs.entry.lower.Symbol.{name as #g}
@@ -108,27 +108,27 @@ module _ {M : Type 1} (𝓤 : URA M) (H : Heap 𝓤) (A : Atoms 𝓤) (W : Given
       -- [the sheet's; the same; the other two; the record's; the token; the tokens]
       move ! (0 ∷ 2 ∷ []) $ fjoin ! $ move ! (4 ∷ 0 ∷ []) $ join ! $ nothing ! $ move ! (1 ∷ 0 ∷ []) $ join ! $ frame ! $ move ! (2 ∷ 1 ∷ 0 ∷ []) $ done !
 
-  abbrev Said : Answer → List ℕ → List ℕ → Type 0
+  abbrev Said : LowerAnswer → List ℕ → List ℕ → Type 0
   Said r ls ks = (r ≡ answer (now s) (now l) (now k)) × (ls ≡ listingAfter (now s) (now l) (now k)) × (ks ≡ constantsAfter (now s) (now l) (now k))
 
   -- what is had before the end: the record's borrow at the answer's record, its token, the others', the sheet's, what says the other two slices' last lists, and the result
-  abbrev left : Answer → List ℕ → List ℕ → Val → List (Item 𝓤)
+  abbrev left : LowerAnswer → List ℕ → List ℕ → Val → List (Item 𝓤)
   left r ls ks v = ‵ (fobs γ (T.the-row .coded .code (r .real))) ∷ ‵ (fbor κ (Body (stored T.the-row) b o γ)) ∷ ‵ (flft κ q) ∷ toks ∷ ‵ Sheet ∷ ‵ (finally u8 (l .name) ls) ∷ ‵ (finally u64 (k .name) ks) ∷ ‵ (N.the-row .own (numbersOf r) (v ∷ [])) ∷ []
 
-  exits : (r : Answer) (ls ks : List ℕ) (v : Val) → Said r ls ks → length ls ≡ length (now l) → length ks ≡ length (now k) → ent 𝓤 (⋆ 𝓤 H A (left r ls ks v)) (Post v)
+  exits : (r : LowerAnswer) (ls ks : List ℕ) (v : Val) → Said r ls ks → length ls ≡ length (now l) → length ks ≡ length (now k) → ent 𝓤 (⋆ 𝓤 H A (left r ls ks v)) (Post v)
   exits r ls ks v e el ek =
       qed W (left r ls ks v) ∵
       suffices ! _ (ends-at 𝓤 H A f.ended stayed (f.clauses 𝓤 H A mem run) W (((κ, κs), (q, qs), tt, a, vals), tt) v (numbersOf r) (r .real, (tt, (ls, (ks, tt)))) (tt, (tt, (el, (ek, tt))))) $
-      says ! (ap numbersOf (e .0), ap (λ (n : Answer). n .real) (e .0), e .1, e .2) $ move ! (2 ∷ 3 ∷ []) $ join ! $ frame ! $
+      says ! (ap numbersOf (e .0), ap (λ (n : LowerAnswer). n .real) (e .0), e .1, e .2) $ move ! (2 ∷ 3 ∷ []) $ join ! $ frame ! $
       feqI ! (List Val) (vptr b o ∷ []) (vptr b o ∷ []) refl $ fjoin3 ! $
       -- [the record's; the sheet's; the listing's; the constants'; the result]
       nothing ! $ move ! (4 ∷ 0 ∷ []) $ fjoin ! $ move ! (3 ∷ 0 ∷ []) $ fjoin ! $ move ! (2 ∷ 0 ∷ []) $ fjoin ! $ move ! (1 ∷ 0 ∷ []) $ fjoin ! $ frame ! $ done !
 
   -- what an answer's machine value tells of its parts
-  real-is : (r : Answer) (w : Val) → Is R.the-row r (w ∷ []) → Is T.the-row (r .real) (LL.vals T.the-type T′.the-laws (r .real))
+  real-is : (r : LowerAnswer) (w : Val) → Is R.the-row r (w ∷ []) → Is T.the-row (r .real) (LL.vals T.the-type T′.the-laws (r .real))
   real-is r w is = LL.owed R.the-type R′.the-laws r _ is .1 .1 .1 .1 .0
 
-  numbers-are : (r : Answer) (w : Val) → Is R.the-row r (w ∷ []) → Is N.the-row (numbersOf r) (LL.vals N.the-type N′.the-laws (numbersOf r))
+  numbers-are : (r : LowerAnswer) (w : Val) → Is R.the-row r (w ∷ []) → Is N.the-row (numbersOf r) (LL.vals N.the-type N′.the-laws (numbersOf r))
   numbers-are r w is =
       let fs = LL.owed R.the-type R′.the-laws r _ is in
       LL.owes N.the-type N′.the-laws (numbersOf r) (fs .0, (fs .1 .0, (fs .1 .1 .0, (fs .1 .1 .1 .0, tt))))
@@ -147,7 +147,7 @@ module _ {M : Type 1} (𝓤 : URA M) (H : Heap 𝓤) (A : Atoms 𝓤) (W : Given
         move ! (20 ∷ []) $ use1 W (raw (Core 𝓤 H A mem run .pre to-g) ⊛ (‵ (flft κ q) ⊛ (‵ Own ⊛ ‵ Sheet))) apart $ split ! $
         -- [what the core asks; what is kept at 1; _9 at 2; …; _7 at 6; …; the sheet at 16; …]
         calls-at ! fm (Core 𝓤 H A mem run) known to-g (and-then ! (load ! (from ! (stop !)) (look ! 16 refl)) (and-then ! (load ! (from ! (stop !)) (look ! 6 refl)) (and-then ! (load ! (from ! (stop !)) (look ! 2 refl)) (no-more !)))) (λ w.
-        use1 W (later (some (λ (r : Answer). (toks ⊛ ‵ (R.the-row .own r (w ∷ []))) ⊛ raw (ensured 𝓤 H A g.ended (g.clauses 𝓤 H A mem run) κs (s, (l, (k, tt))) tt r)))) (id⊢ 𝓤 _) $ await ! tt $ pick ! (λ r.
+        use1 W (later (some (λ (r : LowerAnswer). (toks ⊛ ‵ (R.the-row .own r (w ∷ []))) ⊛ raw (ensured 𝓤 H A g.ended (g.clauses 𝓤 H A mem run) κs (s, (l, (k, tt))) tt r)))) (id⊢ 𝓤 _) $ await ! tt $ pick ! (λ r.
         split ! $ move ! (1 ∷ []) $ use1 W (some (λ (zs : Unit {0} × (List ℕ × (List ℕ × Unit {0}))). ‵ (lasts g.ended κs (s, (l, (k, tt))) zs) ⊛ raw (fact 𝓤 (Said r (zs .1 .0) (zs .1 .1 .0))))) (id⊢ 𝓤 _) $ pick ! (λ zs.
         split ! $ move ! (1 ∷ []) $ heard ! (Said r (zs .1 .0) (zs .1 .1 .0)) (λ e. fsplit ! $ drop ! $ fsplit ! $ fsplit ! $ move ! (1 ∷ []) $ feqL ! (λ el. move ! (1 ∷ []) $ fsplit ! $ fsplit ! $ move ! (1 ∷ []) $ feqL ! (λ ek. move ! (1 ∷ []) $ drop ! $
         -- [the constants' last list; the listing's; the tokens and the answer; what is kept; _9 at 4; …]

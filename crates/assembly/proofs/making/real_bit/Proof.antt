@@ -12,22 +12,22 @@ real-bit-spec =
     (λ c κs. search needs) (λ c κs. search needs) (λ c. search needs)
     (λ c.
     let b = c .before .before in
-    let i = c .before .word in
+    let i = c .before .u16-at in
     too-far (b .before .before .args .b .now) (b .byte .result) (i .result) (b .byte .ensures) (i .ensures)
     (omega arith))
     (λ c.
     let b = c .before .before .before in
-    let i = c .before .before .word in
+    let i = c .before .before .u16-at in
     on-stack (b .before .before .args .b .now) (b .byte .result) (i .result) (b .byte .ensures) (i .ensures)
     (omega arith) (c .if2 .taken))
     (λ c. search needs)
     (λ c.
     let b = c .before .before .before .before in
-    let i = c .before .before .before .word in
+    let i = c .before .before .before .u16-at in
     in-param (b .before .before .args .b .now) (b .byte .result) (i .result) (b .byte .ensures) (i .ensures)
     (omega arith) (c .if3 .taken))
     (λ c.
     let b = c .before .before .before .before in
-    let i = c .before .before .before .word in
+    let i = c .before .before .before .u16-at in
     elsewhere (b .before .before .args .b .now) (b .byte .result) (i .result) (b .byte .ensures) (i .ensures)
     (omega arith) (c .before .if2 .left) (c .if3 .left)))

@@ -1,12 +1,12 @@
 -- `mir::fields::read_place` meets its contract.
 use borrow.Author.Needs.{needs}
 use borrow.Author.Tests.{eq-eqb, le-ltb, lt-ltb, ne-eqb}
-use Rattle.mir.specs.Field.{placeAt, wordAt}
+use Rattle.mir.specs.Field.{placeAt, u16At}
 use Rattle.mir.proofs.fields.read_place.Statement.{statement}
 use Rattle.mir.proofs.fields.read_place.Tie as tie
 
 pub read-place-spec : {M : Type 1} → statement M
-unfolding placeAt wordAt
+unfolding placeAt u16At
 read-place-spec =
     tie.close
     (tie.spec

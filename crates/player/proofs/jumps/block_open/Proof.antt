@@ -9,7 +9,7 @@ block-open-spec =
     tie.close
     (tie.spec
     (λ c κs. search needs)
-    (λ c. simp (sym (c .before .spells-label .ensures) ∙ c .if1 .taken))
+    (λ c. simp (sym (c .before .encodes-label .ensures) ∙ c .if1 .taken))
     (λ c κs. search needs)
-    (λ c. simp (sym (c .before .before .before .spells-label .ensures) ∙ c .before .before .if1 .left, sym (c .before .spells-return .ensures) ∙ c .if2 .taken))
-    (λ c. simp (sym (c .before .before .before .spells-label .ensures) ∙ c .before .before .if1 .left, sym (c .before .spells-return .ensures) ∙ c .if2 .left)))
+    (λ c. simp (sym (c .before .before .before .encodes-label .ensures) ∙ c .before .before .if1 .left, sym (c .before .encodes-return .ensures) ∙ c .if2 .taken))
+    (λ c. simp (sym (c .before .before .before .encodes-label .ensures) ∙ c .before .before .if1 .left, sym (c .before .encodes-return .ensures) ∙ c .if2 .left)))

@@ -12,23 +12,23 @@ breaks-rule-spec =
     (λ c κs. search needs) (λ c κs. search needs) (λ c. search needs) (λ c. search needs) (λ c. search needs) (λ c κs. search needs)
     (λ c.
     λ before rec behind t e.
-    c .label-breaks .ensures ∙ told-of-label _ _ rec t e (c .before .before .before .byte .ensures) (sym (c .before .before .before .before .word .ensures) ∙ c .before .before .if1 .taken))
+    c .label-breaks .ensures ∙ told-of-label _ _ rec t e (c .before .before .before .byte .ensures) (sym (c .before .before .before .before .u16-at .ensures) ∙ c .before .before .if1 .taken))
     (λ c. search needs) (λ c. search needs) (λ c. search needs) (λ c. search needs) (λ c. search needs) (λ c. search needs)
     (λ c κs. search needs)
     (λ c.
     λ before rec behind t e.
-    c .branch-breaks .ensures ∙ told-of-branch _ _ rec t e (c .before .before .before .before .before .before .byte .ensures) (sym (c .before .before .before .before .before .before .before .word .ensures) ∙ c .before .before .before .before .if2 .taken))
+    c .branch-breaks .ensures ∙ told-of-branch _ _ rec t e (c .before .before .before .before .before .before .byte .ensures) (sym (c .before .before .before .before .before .before .before .u16-at .ensures) ∙ c .before .before .before .before .if2 .taken))
     (λ c. search needs) (λ c κs. search needs)
     (λ c.
     λ before rec behind t e.
-    c .call-breaks .ensures ∙ told-of-call _ _ rec t e (c .before .before .before .before .before .byte .ensures) (sym (c .before .before .before .before .before .before .word .ensures) ∙ c .before .before .if3 .taken))
+    c .call-breaks .ensures ∙ told-of-call _ _ rec t e (c .before .before .before .before .before .byte .ensures) (sym (c .before .before .before .before .before .before .u16-at .ensures) ∙ c .before .before .if3 .taken))
     (λ c κs. search needs) (λ c. search needs) (λ c. search needs) (λ c. search needs) (λ c. search needs) (λ c. search needs)
     (λ c. search needs) (λ c. search needs) (λ c κs. search needs)
     (λ c.
     λ before rec behind t e.
-    c .branch-if-breaks .ensures ∙ told-of-branch-if _ _ rec t e (c .before .before .before .before .byte2 .ensures) (sym (c .before .before .before .before .before .before .before .before .before .before .word .ensures) ∙ c .before .before .before .before .before .if4 .taken))
+    c .branch-if-breaks .ensures ∙ told-of-branch-if _ _ rec t e (c .before .before .before .before .byte2 .ensures) (sym (c .before .before .before .before .before .before .before .before .before .before .u16-at .ensures) ∙ c .before .before .before .before .before .if4 .taken))
     (λ c.
     λ before rec behind t e.
-    let k = c .before .before .before .before .before .word .ensures in
+    let k = c .before .before .before .before .before .u16-at .ensures in
     told-of-work _ (λ h. c .before .before .before .if1 .left (k ∙ h)) (λ h. c .before .before .if2 .left (k ∙ h)) (λ h. c .before .if3 .left (k ∙ h)) (λ h. c .if4 .left (k ∙ h))
     before rec behind e))

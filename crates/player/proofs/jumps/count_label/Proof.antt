@@ -13,5 +13,5 @@ count-label-spec =
     (λ c κs. search needs) (λ c κs. search needs) (λ c. search needs) (λ c. search needs) (λ c. search needs)
     (λ c. let h = c .before .before .before .before .before .before .pre .1 (c .before .byte .result) in omega (arith, h))
     (λ c. search needs) (λ c. search needs)
-    (λ c. counted-one _ _ _ (sym (c .before .before .before .word .ensures) ∙ c .before .before .if1 .taken) (c .before .byte .ensures) (omega arith))
-    (λ c. counted-none _ _ (λ e. c .if1 .left (c .before .word .ensures ∙ e))))
+    (λ c. counted-one _ _ _ (sym (c .before .before .before .u16-at .ensures) ∙ c .before .before .if1 .taken) (c .before .byte .ensures) (omega arith))
+    (λ c. counted-none _ _ (λ e. c .if1 .left (c .before .u16-at .ensures ∙ e))))

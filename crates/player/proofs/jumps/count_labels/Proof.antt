@@ -39,27 +39,27 @@ count-labels-spec =
     let l = c .before .before .before .loop in
     (l .inv .3 .0, λ m. let h = l .inv .3 .1 m in omega (arith, h)))
     (λ c κs. search needs) (λ c κs. search needs)
-    (λ c. let h = bit-small (c .before .spells-return .result) in let e = c .one-if .ensures in omega (arith, h, e))
+    (λ c. let h = bit-small (c .before .encodes-return .result) in let e = c .one-if .ensures in omega (arith, h, e))
     (λ c κs. search needs) (λ c. search needs)
     (λ c.
     let a = c .before .before .before .before .before .before .before .before .before .before .before .before .args in
     let l = c .before .before .before .before .before .before .before .before .before .loop in
-    let w = stands (l .inv .2 .count) (l .inv .2 .none) (c .before .before .before .before .before .before .before .before .loop-test .taken) (c .word .ensures) in
+    let w = stands (l .inv .2 .count) (l .inv .2 .none) (c .before .before .before .before .before .before .before .before .loop-test .taken) (c .u16-at .ensures) in
     let h = w .here .inside in
     omega (arith, h))
     (λ c.
     let a = c .before .before .before .before .before .before .before .before .before .before .before .before .args in
     let l = c .before .before .before .before .before .before .before .before .before .loop in
-    let w = stands (l .inv .2 .count) (l .inv .2 .none) (c .before .before .before .before .before .before .before .before .loop-test .taken) (c .word .ensures) in
+    let w = stands (l .inv .2 .count) (l .inv .2 .none) (c .before .before .before .before .before .before .before .before .loop-test .taken) (c .u16-at .ensures) in
     let h = w .here .on in
     omega (arith, h))
     (λ c.
     let a = c .before .before .before .before .before .before .before .before .before .before .before .before .args in
     let l = c .before .before .before .before .before .before .before .before .before .loop in
-    let w = stands (l .inv .2 .count) (l .inv .2 .none) (c .before .before .before .before .before .before .before .before .loop-test .taken) (c .word .ensures) in
+    let w = stands (l .inv .2 .count) (l .inv .2 .none) (c .before .before .before .before .before .before .before .before .loop-test .taken) (c .u16-at .ensures) in
     let h = w .here in
     let g = h .on in
-    let b = bit-small (c .before .before .spells-return .result) in
+    let b = bit-small (c .before .before .encodes-return .result) in
     let e = c .before .one-if .ensures in
     let d = c .before .before .before .before .before .count-label .ensures in (
       omega (arith, g, b, e),
@@ -68,7 +68,7 @@ count-labels-spec =
       (d .long ∙ l .inv .3 .0, λ m. let i = l .inv .3 .1 m in let j = counted-few d m in omega (arith, g, i, j)),
       λ count z.
           let k = l .inv .4 count z in
-          counted-on (stands count (k .sound) (c .before .before .before .before .before .before .before .before .loop-test .taken) (c .word .ensures)) k d (ap (_+_ (l .returns)) (c .before .one-if .ensures ∙ ap bit (c .before .before .spells-return .ensures))),
+          counted-on (stands count (k .sound) (c .before .before .before .before .before .before .before .before .loop-test .taken) (c .u16-at .ensures)) k d (ap (_+_ (l .returns)) (c .before .one-if .ensures ∙ ap bit (c .before .before .encodes-return .ensures))),
     ))
     (λ c. search needs)
     (λ c.

@@ -52,28 +52,28 @@ first-breach-spec =
     let l = c .before .before .before .before .before .before .before .loop in
     (l .inv .3 .0, λ m. let h = l .inv .3 .1 m in omega (arith, h)))
     (λ c κs. search needs) (λ c κs. search needs)
-    (λ c. let h = bit-small (c .before .spells-return .result) in let e = c .one-if .ensures in omega (arith, h, e))
+    (λ c. let h = bit-small (c .before .encodes-return .result) in let e = c .one-if .ensures in omega (arith, h, e))
     (λ c κs. search needs) (λ c κs. search needs) (λ c. search needs)
     (λ c.
     let a = c .before .before .before .before .before .before .before .before .before .before .before .before .before .before .before .before .before .before .args in
     let l = c .before .before .before .before .before .before .before .before .before .before .before .before .before .loop in
-    let w = stands (l .inv .2 .count) (l .inv .2 .none) (c .before .before .before .before .before .before .before .before .before .before .before .before .loop-test .taken) (c .word .ensures) in
+    let w = stands (l .inv .2 .count) (l .inv .2 .none) (c .before .before .before .before .before .before .before .before .before .before .before .before .loop-test .taken) (c .u16-at .ensures) in
     let h = w .here .inside in
     omega (arith, h))
     (λ c. search needs)
     (λ c.
     let a = c .before .before .before .before .before .before .before .before .before .before .before .before .before .before .before .before .before .before .args in
     let l = c .before .before .before .before .before .before .before .before .before .before .before .before .before .loop in
-    let w = stands (l .inv .2 .count) (l .inv .2 .none) (c .before .before .before .before .before .before .before .before .before .before .before .before .loop-test .taken) (c .word .ensures) in
+    let w = stands (l .inv .2 .count) (l .inv .2 .none) (c .before .before .before .before .before .before .before .before .before .before .before .before .loop-test .taken) (c .u16-at .ensures) in
     let h = w .here .on in
     omega (arith, h))
     (λ c.
     let a = c .before .before .before .before .before .before .before .before .before .before .before .before .before .before .before .before .before .before .args in
     let l = c .before .before .before .before .before .before .before .before .before .before .before .before .before .loop in
-    let w = stands (l .inv .2 .count) (l .inv .2 .none) (c .before .before .before .before .before .before .before .before .before .before .before .before .loop-test .taken) (c .word .ensures) in
+    let w = stands (l .inv .2 .count) (l .inv .2 .none) (c .before .before .before .before .before .before .before .before .before .before .before .before .loop-test .taken) (c .u16-at .ensures) in
     let h = w .here in
     let g = h .on in
-    let b = bit-small (c .before .before .before .spells-return .result) in
+    let b = bit-small (c .before .before .before .encodes-return .result) in
     let e = c .before .before .one-if .ensures in
     let d = c .before .before .before .before .before .count-label .ensures in (
       (omega (arith, g), omega (arith, g, b, e)),
@@ -82,7 +82,7 @@ first-breach-spec =
       (d .long ∙ l .inv .3 .0, λ m. let i = l .inv .3 .1 m in let j = counted-few d m in omega (arith, g, i, j)),
       λ count z.
           let k = l .inv .4 count z in
-          ruled-on k (stands count (k .sound) (c .before .before .before .before .before .before .before .before .before .before .before .before .loop-test .taken) (c .word .ensures)) (c .before .before .before .before .before .before .before .before .breaks-rule .ensures) (c .before .before .before .before .before .before .before .if1 .left) d (ap (_+_ (l .returned)) (c .before .before .one-if .ensures ∙ ap bit (c .before .before .before .spells-return .ensures))) (c .before .block-open .ensures),
+          ruled-on k (stands count (k .sound) (c .before .before .before .before .before .before .before .before .before .before .before .before .loop-test .taken) (c .u16-at .ensures)) (c .before .before .before .before .before .before .before .before .breaks-rule .ensures) (c .before .before .before .before .before .before .before .if1 .left) d (ap (_+_ (l .returned)) (c .before .before .one-if .ensures ∙ ap bit (c .before .before .before .encodes-return .ensures))) (c .before .block-open .ensures),
     ))
     (λ c.
     let a = c .before .before .before .before .before .before .args in

@@ -10,7 +10,7 @@ use native.Mathlib.Nat.{zero-add}
 use Rattle.player_machine.specs.Jumps.{isJump, bit, tally}
 use Rattle.player.specs.Positions.{left, fault, labelSeen, jumpSeen}
 use Rattle.player.proofs.Walks.{bit-small, tally-on, Noted, not-yet, noted-on, examined-end}
-use Rattle.player.proofs.Looks.{label-seen, jump-seen, sighted, refused-sight}
+use Rattle.player.proofs.Looks.{label-seen, jump-seen, summarized, refused-summary}
 use Rattle.player.proofs.passes.examine.Statement.{statement}
 use Rattle.player.proofs.passes.examine.Tie as tie
 
@@ -37,12 +37,12 @@ examine-spec =
     let a = c .before .before .before .before .before .before .before .args in
     let l = c .before .before .before .before .before .loop in
     examined-end (l .inv .1) (l .inv .2) (l .inv .3) (l .inv .4)
-    (refused-sight (a .count) (a .listing .now) (l .at) (c .before .before .look .result) (c .before .before .look .ensures) (c .if1 .taken) (omega arith)))
+    (refused-summary (a .count) (a .listing .now) (l .at) (c .before .before .look .result) (c .before .before .look .ensures) (c .if1 .taken) (omega arith)))
     (λ c κs. search needs) (λ c. search needs)
     (λ c.
     let a = c .before .before .before .before .before .before .before .before .args in
     let l = c .before .before .before .before .before .before .loop in
-    let x = sighted (a .count) (a .listing .now) (l .at) (c .before .before .before .look .result) (c .before .before .before .look .ensures) (c .word .ensures) (c .before .if1 .left) in
+    let x = summarized (a .count) (a .listing .now) (l .at) (c .before .before .before .look .result) (c .before .before .before .look .ensures) (c .u16-at .ensures) (c .before .if1 .left) in
     let h = x .here .inside in
     omega (arith, h))
     (λ c. search needs) (λ c κs. search needs) (λ c κs. search needs)
@@ -51,22 +51,22 @@ examine-spec =
     (λ c.
     let a = c .before .before .before .before .before .before .before .before .before .before .before .before .args in
     let l = c .before .before .before .before .before .before .before .before .before .before .loop in
-    let x = sighted (a .count) (a .listing .now) (l .at) (c .before .before .before .before .before .before .before .look .result) (c .before .before .before .before .before .before .before .look .ensures) (c .before .before .before .before .word .ensures) (c .before .before .before .before .before .if1 .left) in
+    let x = summarized (a .count) (a .listing .now) (l .at) (c .before .before .before .before .before .before .before .look .result) (c .before .before .before .before .before .before .before .look .ensures) (c .before .before .before .before .u16-at .ensures) (c .before .before .before .before .before .if1 .left) in
     let h = x .here .on in
     omega (arith, h))
     (λ c.
     let a = c .before .before .before .before .before .before .before .before .before .before .before .before .args in
     let l = c .before .before .before .before .before .before .before .before .before .before .loop in
-    let x = sighted (a .count) (a .listing .now) (l .at) (c .before .before .before .before .before .before .before .look .result) (c .before .before .before .before .before .before .before .look .ensures) (c .before .before .before .before .word .ensures) (c .before .before .before .before .before .if1 .left) in
+    let x = summarized (a .count) (a .listing .now) (l .at) (c .before .before .before .before .before .before .before .look .result) (c .before .before .before .before .before .before .before .look .ensures) (c .before .before .before .before .u16-at .ensures) (c .before .before .before .before .before .if1 .left) in
     let h = x .here in
     let g = h .on in
     let k = ap length (h .same) in
     let i1 = l .inv .1 in
     let a3 = tally-on isJump h in
-    let b3 = c .before .before .one-if .ensures ∙ ap bit (c .before .before .before .jump-seen .ensures ∙ ap jumpSeen (x .sight) ∙ jump-seen (x .rec)) in
+    let b3 = c .before .before .one-if .ensures ∙ ap bit (c .before .before .before .jump-seen .ensures ∙ ap jumpSeen (x .summary) ∙ jump-seen (x .rec)) in
     let c3 = bit-small (isJump (x .rec)) in
     let i3 = l .inv .3 in
-    let e = sym (label-seen 1 (x .rec)) ∙ sym (ap (labelSeen 1) (x .sight)) ∙ sym (c .before .label-seen .ensures) in
+    let e = sym (label-seen 1 (x .rec)) ∙ sym (ap (labelSeen 1) (x .summary)) ∙ sym (c .before .label-seen .ensures) in
     ((omega (arith, g), omega (arith, g, b3, c3)), omega (arith, k, i1), sym (h .sound) ∙ l .inv .2, omega (arith, a3, b3, i3), subst (Noted (a .count) (a .listing .now) _) (sym (c .block-start .ensures)) (noted-on (c .before .label-seen .result) h (l .inv .2) e (l .inv .4))))
     (λ c.
     let a = c .before .before .before .args in

@@ -10,7 +10,7 @@ use Rattle.player_machine.specs.Machine.{seek}
 use Rattle.player.specs.Positions.{left, fault, Sound}
 use Rattle.player.proofs.Steps.{seek-on, seek-here, seek-none}
 use Rattle.player.proofs.Looks.{stands}
-use Rattle.player.proofs.Spelling.{such-label}
+use Rattle.player.proofs.Encoding.{such-label}
 use Rattle.player.proofs.passes.find.Statement.{statement}
 use Rattle.player.proofs.passes.find.Tie as tie
 
@@ -37,29 +37,29 @@ find-spec =
       same = λ count z.
           let i = l .inv .2 count z in
           let w = stands count (i .1) (c .before .before .before .loop-test .taken) refl in
-          seek-here _ (w .here) (sym (such-label _ (w .rec) (w .spells) _) ∙ sym (c .before .spells-label .ensures) ∙ c .if1 .taken) ∙ i .0;
+          seek-here _ (w .here) (sym (such-label _ (w .rec) (w .encodes) _) ∙ sym (c .before .encodes-label .ensures) ∙ c .if1 .taken) ∙ i .0;
       sound = λ count z. l .inv .2 count z .1;
       on = l .inv .0;
     })
     (λ c κs. search needs) (λ c. search needs)
     (λ c.
     let l = c .before .before .before .before .before .loop in
-    let h = stands (l .inv .1 .count) (l .inv .1 .none) (c .before .before .before .before .loop-test .taken) (c .word .ensures) .here .inside in
+    let h = stands (l .inv .1 .count) (l .inv .1 .none) (c .before .before .before .before .loop-test .taken) (c .u16-at .ensures) .here .inside in
     omega (arith, h))
     (λ c.
     let l = c .before .before .before .before .before .loop in
-    let h = stands (l .inv .1 .count) (l .inv .1 .none) (c .before .before .before .before .loop-test .taken) (c .word .ensures) .here .on in
+    let h = stands (l .inv .1 .count) (l .inv .1 .none) (c .before .before .before .before .loop-test .taken) (c .u16-at .ensures) .here .on in
     omega (arith, h))
     (λ c.
     let l = c .before .before .before .before .before .loop in
-    let h = stands (l .inv .1 .count) (l .inv .1 .none) (c .before .before .before .before .loop-test .taken) (c .word .ensures) .here in
+    let h = stands (l .inv .1 .count) (l .inv .1 .none) (c .before .before .before .before .loop-test .taken) (c .u16-at .ensures) .here in
     let g = h .on in (
       omega (arith, g),
       record { count = l .inv .1 .count; none = sym (h .sound) ∙ l .inv .1 .none },
       λ count z.
           let i = l .inv .2 count z in
-          let w = stands count (i .1) (c .before .before .before .before .loop-test .taken) (c .word .ensures) in
-          (seek-on _ (w .here) (sym (such-label _ (w .rec) (w .spells) _) ∙ sym (c .before .before .spells-label .ensures) ∙ c .before .if1 .left) ∙ i .0, sym (w .here .sound) ∙ i .1),
+          let w = stands count (i .1) (c .before .before .before .before .loop-test .taken) (c .u16-at .ensures) in
+          (seek-on _ (w .here) (sym (such-label _ (w .rec) (w .encodes) _) ∙ sym (c .before .before .encodes-label .ensures) ∙ c .before .if1 .left) ∙ i .0, sym (w .here .sound) ∙ i .1),
     ))
     (λ c.
     let a = c .before .before .before .args in

@@ -37,22 +37,22 @@ skip-spec =
     (λ c. search needs) (λ c. search needs) (λ c. search needs) (λ c κs. search needs) (λ c. search needs)
     (λ c.
     let l = c .before .before .before .before .loop in
-    let h = stands (l .inv .0 .count) (l .inv .0 .none) (c .before .before .before .loop-test .taken) (c .word .ensures) .here .inside in
+    let h = stands (l .inv .0 .count) (l .inv .0 .none) (c .before .before .before .loop-test .taken) (c .u16-at .ensures) .here .inside in
     omega (arith, h))
     (λ c. search needs)
     (λ c.
     let l = c .before .before .before .before .loop in
-    let h = stands (l .inv .0 .count) (l .inv .0 .none) (c .before .before .before .loop-test .taken) (c .word .ensures) .here .on in
+    let h = stands (l .inv .0 .count) (l .inv .0 .none) (c .before .before .before .loop-test .taken) (c .u16-at .ensures) .here .on in
     omega (arith, h))
     (λ c.
     let a = c .before .before .before .before .before .before .args in
     let l = c .before .before .before .before .loop in
-    let h = stands (l .inv .0 .count) (l .inv .0 .none) (c .before .before .before .loop-test .taken) (c .word .ensures) .here in
+    let h = stands (l .inv .0 .count) (l .inv .0 .none) (c .before .before .before .loop-test .taken) (c .u16-at .ensures) .here in
     let e : l .n ≡ suc (l .n - 1) = omega arith in (
       record { count = l .inv .0 .count; none = sym (h .sound) ∙ l .inv .0 .none },
       λ count z.
           let i = l .inv .1 count z in
-          let g = stands count (i .1) (c .before .before .before .loop-test .taken) (c .word .ensures) .here in
+          let g = stands count (i .1) (c .before .before .before .loop-test .taken) (c .u16-at .ensures) .here in
           (sym (skip-on (l .n - 1) g) ∙ ap (λ m. drop m (left count (a .listing .now) (l .at))) (sym e) ∙ i .0, sym (g .sound) ∙ i .1),
     ))
     (λ c.

@@ -54,7 +54,7 @@ run-block-spec =
     let x = c .before .before .before .before .exec .ensures in
     let t : Tried (a .constants .now) (a .listing .now) (l .at) _ (l .store) _ = record { went = x .0; after = x .1 } in
     let f = readable (length (a .constants .now)) (a .listing .now) (l .at) (l .inv .4) (omega arith) in
-    let d = did (a .constants .now) (a .listing .now) (l .at) f t (c .word .ensures) (not-false _ (c .before .if1 .left)) in
+    let d = did (a .constants .now) (a .listing .now) (l .at) f t (c .u16-at .ensures) (not-false _ (c .before .if1 .left)) in
     let h = d .here .inside in
     omega (arith, h))
     (λ c. search needs)
@@ -64,7 +64,7 @@ run-block-spec =
     let x = c .before .before .before .before .exec .ensures in
     let t : Tried (a .constants .now) (a .listing .now) (l .at) _ (l .store) _ = record { went = x .0; after = x .1 } in
     let f = readable (length (a .constants .now)) (a .listing .now) (l .at) (l .inv .4) (omega arith) in
-    let d = did (a .constants .now) (a .listing .now) (l .at) f t (c .word .ensures) (not-false _ (c .before .if1 .left)) in
+    let d = did (a .constants .now) (a .listing .now) (l .at) f t (c .u16-at .ensures) (not-false _ (c .before .if1 .left)) in
     let h = d .here .on in
     omega (arith, h))
     (λ c.
@@ -73,7 +73,7 @@ run-block-spec =
     let x = c .before .before .before .before .exec .ensures in
     let t : Tried (a .constants .now) (a .listing .now) (l .at) _ (l .store) _ = record { went = x .0; after = x .1 } in
     let f = readable (length (a .constants .now)) (a .listing .now) (l .at) (l .inv .4) (omega arith) in
-    let d = did (a .constants .now) (a .listing .now) (l .at) f t (c .word .ensures) (not-false _ (c .before .if1 .left)) in
+    let d = did (a .constants .now) (a .listing .now) (l .at) f t (c .u16-at .ensures) (not-false _ (c .before .if1 .left)) in
     let g = d .here .on in
     let w = d .here .inside in
     let e = works-on (d .here) in

@@ -18,7 +18,7 @@ run-record-spec =
     let x = c .before .before .before .before .exec .ensures in
     let t : Tried (a .constants .now) (a .listing .now) (a .at) _ (a .store .now) _ = record { went = x .0; after = x .1 } in
     let f = readable (length (a .constants .now)) (a .listing .now) (a .at) (p .1 .1 .0) (p .1 .1 .1) in
-    let d = did (a .constants .now) (a .listing .now) (a .at) f t (c .word .ensures) (c .before .if1 .taken) in
+    let d = did (a .constants .now) (a .listing .now) (a .at) f t (c .u16-at .ensures) (c .before .if1 .taken) in
     play-work (p .1 .1 .0) (d .here) (d .same))
     (λ c κs.
     let a = c .before .before .before .before .before .before .before .before .before .before .args in

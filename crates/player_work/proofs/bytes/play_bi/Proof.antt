@@ -1,12 +1,12 @@
 -- `work::bytes::play_bi` meets its contract.
 use borrow.Author.Needs.{needs}
 use Rattle.player_machine.specs.Machine as Machine
-use Rattle.player_work.specs.Spelled.{biSpelled}
+use Rattle.player_work.specs.Encoded.{biEncoded}
 use Rattle.player_work.proofs.bytes.play_bi.Statement.{statement}
 use Rattle.player_work.proofs.bytes.play_bi.Tie as tie
 
 pub play-bi-spec : {M : Type 1} → statement M
-unfolding biSpelled Machine.exec Machine.put Machine.writes
+unfolding biEncoded Machine.exec Machine.put Machine.writes
 play-bi-spec =
     tie.close
     (tie.spec

@@ -1,12 +1,12 @@
 -- `work::bytes::play_complex_bi` meets its contract.
 use borrow.Author.Needs.{needs}
 use Rattle.player_machine.specs.Machine as Machine
-use Rattle.player_work.specs.Spelled.{complexBiSpelled}
+use Rattle.player_work.specs.Encoded.{complexBiEncoded}
 use Rattle.player_work.proofs.bytes.play_complex_bi.Statement.{statement}
 use Rattle.player_work.proofs.bytes.play_complex_bi.Tie as tie
 
 pub play-complex-bi-spec : {M : Type 1} → statement M
-unfolding complexBiSpelled Machine.exec Machine.put Machine.writes
+unfolding complexBiEncoded Machine.exec Machine.put Machine.writes
 play-complex-bi-spec =
     tie.close
     (tie.spec

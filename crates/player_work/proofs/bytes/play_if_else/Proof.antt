@@ -1,12 +1,12 @@
 -- `work::bytes::play_if_else` meets its contract.
 use borrow.Author.Needs.{needs}
 use Rattle.player_machine.specs.Machine as Machine
-use Rattle.player_work.specs.Spelled.{ifElseSpelled}
+use Rattle.player_work.specs.Encoded.{ifElseEncoded}
 use Rattle.player_work.proofs.bytes.play_if_else.Statement.{statement}
 use Rattle.player_work.proofs.bytes.play_if_else.Tie as tie
 
 pub play-if-else-spec : {M : Type 1} → statement M
-unfolding ifElseSpelled Machine.exec Machine.put Machine.writes
+unfolding ifElseEncoded Machine.exec Machine.put Machine.writes
 play-if-else-spec =
     tie.close
     (tie.spec

@@ -1,12 +1,12 @@
 -- `work::bytes::play_load_complex` meets its contract.
 use borrow.Author.Needs.{needs}
 use Rattle.player_machine.specs.Machine as Machine
-use Rattle.player_work.specs.Spelled.{loadComplexSpelled}
+use Rattle.player_work.specs.Encoded.{loadComplexEncoded}
 use Rattle.player_work.proofs.bytes.play_load_complex.Statement.{statement}
 use Rattle.player_work.proofs.bytes.play_load_complex.Tie as tie
 
 pub play-load-complex-spec : {M : Type 1} → statement M
-unfolding loadComplexSpelled Machine.exec Machine.put Machine.writes
+unfolding loadComplexEncoded Machine.exec Machine.put Machine.writes
 play-load-complex-spec =
     tie.close
     (tie.spec

@@ -1,12 +1,12 @@
 -- `work::bytes::play_save_complex` meets its contract.
 use borrow.Author.Needs.{needs}
 use Rattle.player_machine.specs.Machine as Machine
-use Rattle.player_work.specs.Spelled.{saveComplexSpelled}
+use Rattle.player_work.specs.Encoded.{saveComplexEncoded}
 use Rattle.player_work.proofs.bytes.play_save_complex.Statement.{statement}
 use Rattle.player_work.proofs.bytes.play_save_complex.Tie as tie
 
 pub play-save-complex-spec : {M : Type 1} → statement M
-unfolding saveComplexSpelled Machine.exec Machine.put Machine.writes
+unfolding saveComplexEncoded Machine.exec Machine.put Machine.writes
 play-save-complex-spec =
     tie.close
     (tie.spec

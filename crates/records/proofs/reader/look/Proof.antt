@@ -11,4 +11,4 @@ look-spec =
     (tie.spec
     (λ c κs. search needs) (λ c. search needs) (λ c κs. search needs) (λ c. search needs) (λ c κs. search needs)
     (λ c. simp (← c .before .before .before .before .read-head .ensures, c .before .before .kind .given .1) (c .look-fields .ensures))
-    (λ c. simp (← c .before .before .before .before .read-head .ensures, c .before .before .n .given .1) (c .sighted .ensures)))
+    (λ c. simp (← c .before .before .before .before .read-head .ensures, c .before .before .n .given .1) (c .summarized .ensures)))

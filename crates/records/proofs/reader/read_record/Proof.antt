@@ -21,7 +21,7 @@ read-record-spec =
     sym
     (next-got (recordFrom (a .count)) (a .listing .now) (a .at) _ _
     (sym (c .before .before .before .before .read-first .ensures) ∙ ap asRead (c .before .before .«record» .given .1))
-    (c .word .ensures)))
+    (c .u16-at .ensures)))
     (λ c.
     let a = c .before .before .before .before .before .before .before .args in
     sym

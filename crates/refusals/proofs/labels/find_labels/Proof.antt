@@ -28,12 +28,12 @@ find-labels-spec =
     halfway-done (l .inv .1) (torn-none s (l .at) 1 (c .before .before .before .loop-test .taken) (torn-seen (from s (l .at)) (c .before .is-torn .ensures) (c .if1 .taken))))
     (λ c κs. search needs) (λ c κs. search needs) (λ c κs. search needs) (λ c. search needs)
     (λ c. let x = c .before .before .before .before .before .before in let s = from (x .before .before .before .before .before .before .before .args .sheet .now) (x .before .before .before .before .loop .at) in
-    let w = step-on (x .before .before .before .before .before .before .before .args .sheet .now) (x .before .before .before .before .loop .at) (labelHere s) (whole-seen s (x .before .is-torn .ensures) (x .if1 .left)) (c .word .result) (c .word .ensures) in omega (arith, w .0, w .1))
+    let w = step-on (x .before .before .before .before .before .before .before .args .sheet .now) (x .before .before .before .before .loop .at) (labelHere s) (whole-seen s (x .before .is-torn .ensures) (x .if1 .left)) (c .u16-at .result) (c .u16-at .ensures) in omega (arith, w .0, w .1))
     (λ c. let x = c .before .before .before .before .before .before in let s = from (x .before .before .before .before .before .before .before .args .sheet .now) (x .before .before .before .before .loop .at) in
-    let w = step-on (x .before .before .before .before .before .before .before .args .sheet .now) (x .before .before .before .before .loop .at) (labelHere s) (whole-seen s (x .before .is-torn .ensures) (x .if1 .left)) (c .word .result) (c .word .ensures) in omega (arith, w .0, w .1))
+    let w = step-on (x .before .before .before .before .before .before .before .args .sheet .now) (x .before .before .before .before .loop .at) (labelHere s) (whole-seen s (x .before .is-torn .ensures) (x .if1 .left)) (c .u16-at .result) (c .u16-at .ensures) in omega (arith, w .0, w .1))
     (λ c. let x = c .before .before .before .before .before .before in let l = x .before .before .before .before .loop in let s = from (x .before .before .before .before .before .before .before .args .sheet .now) (l .at) in let k = c .before .before .before .before .mark-label .ensures in (
       ap length (k .1) ∙ seen-length (labelHere s) (l .marks) ∙ l .inv .0,
-      halfway-on (l .inv .1) (step-seen (x .before .before .before .before .before .before .before .args .sheet .now) (l .at) (labelHere s) (whole-seen s (x .before .is-torn .ensures) (x .if1 .left)) (c .word .result) (c .word .ensures)) (k .0) (k .1) (c .before .either .ensures),
+      halfway-on (l .inv .1) (step-seen (x .before .before .before .before .before .before .before .args .sheet .now) (l .at) (labelHere s) (whole-seen s (x .before .is-torn .ensures) (x .if1 .left)) (c .u16-at .result) (c .u16-at .ensures)) (k .0) (k .1) (c .before .either .ensures),
     ))
     (λ c. search needs)
     (λ c. let s = c .before .before .before .before .args .sheet .now in let l = c .before .loop in halfway-done (l .inv .1) (ended-none s (l .at) (omega arith))))

@@ -13,6 +13,6 @@ mark-label-spec =
     (tie.spec
     (λ c κs. search needs) (λ c κs. search needs) (λ c κs. search needs) (λ c. search needs)
     (λ c. let a = c .before .before .before .before .before .before .before .before .before .args in
-    is-label (a .s .now) (a .marks .now) (eq-eqb _ _ (sym (c .before .before .before .before .before .before .word .ensures) ∙ c .before .before .before .before .before .if1 .taken))
+    is-label (a .s .now) (a .marks .now) (eq-eqb _ _ (sym (c .before .before .before .before .before .before .u16-at .ensures) ∙ c .before .before .before .before .before .if1 .taken))
     (c .before .before .set-mark .ensures ∙ ap (λ x. set (a .marks .now) x 1) (c .before .before .before .byte .ensures)))
-    (λ c. let a = c .before .before .before .before .args in is-other (a .s .now) (a .marks .now) (ne-eqb _ _ (λ h. c .if1 .left (c .before .word .ensures ∙ h)))))
+    (λ c. let a = c .before .before .before .before .args in is-other (a .s .now) (a .marks .now) (ne-eqb _ _ (λ h. c .if1 .left (c .before .u16-at .ensures ∙ h)))))

@@ -14,7 +14,7 @@ pass-at-spec =
     (tie.spec
     (λ c n. let a = c .before .before .before .before .args in let h = c .if1 .taken in passed-as (at-past n (a .sheet .now) (a .at) (omega (arith, h))) (works-passed (search needs) (search needs) _ _))
     (λ c. search needs) (λ c. search needs) (λ c. search needs) (λ c κs. search needs)
-    (λ c n. let a = c .before .before .before .before .before .before .before .args in passed-as (at-low n (a .sheet .now) (a .at) (c .before .word .ensures) (c .if2 .taken)) (works-passed (search needs) (search needs) _ _))
+    (λ c n. let a = c .before .before .before .before .before .before .before .args in passed-as (at-low n (a .sheet .now) (a .at) (c .before .u16-at .ensures) (c .if2 .taken)) (works-passed (search needs) (search needs) _ _))
     (λ c κs. search needs) (λ c. search needs) (λ c κs. search needs) (λ c. search needs) (λ c. search needs) (λ c. search needs)
     (λ c n. let a = c .before .before .before .before .before .before .before .before .before .before .before .before .before .before .before .before .before .before .args in
     passed-as (at-headed n (a .sheet .now) (a .at) _ (sym (c .before .before .before .before .before .before .before .before .before .before .read-head .ensures) ∙ ap asHead (c .before .before .before .before .before .before .before .before .kind .given .1))) (c .before .before .before .before .pass-kind .ensures n))

@@ -21,7 +21,7 @@ read-instruction-spec =
     sym
     (next-got (instructionFrom (a .count)) (a .sheet .now) (a .at) _ _
     (sym (c .before .before .before .before .read-first .ensures) ∙ ap asRead (c .before .before .instruction .given .1))
-    (c .word .ensures)))
+    (c .u16-at .ensures)))
     (λ c.
     let a = c .before .before .before .before .before .before .before .args in
     sym

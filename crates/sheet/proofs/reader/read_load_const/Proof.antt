@@ -13,6 +13,6 @@ read-load-const-spec =
     (λ c κs. search needs)
     (λ c. simp (← c .before .above .ensures, c .if1 .taken))
     (λ c κs. search needs) (λ c. search needs)
-    (λ c. simp (← c .before .before .before .above .ensures, c .before .before .if1 .left, ← c .before .word .ensures, le-leb _ _ (c .if2 .taken)))
+    (λ c. simp (← c .before .before .before .above .ensures, c .before .before .if1 .left, ← c .before .u16-at .ensures, le-leb _ _ (c .if2 .taken)))
     (λ c κs. search needs)
-    (λ c. simp (← c .before .before .before .before .above .ensures, c .before .before .before .if1 .left, ← c .before .before .word .ensures, lt-leb _ _ (c .before .if2 .left), c .byte .ensures)))
+    (λ c. simp (← c .before .before .before .before .above .ensures, c .before .before .before .if1 .left, ← c .before .before .u16-at .ensures, lt-leb _ _ (c .before .if2 .left), c .byte .ensures)))

@@ -9,5 +9,5 @@ is-broken-spec =
     tie.close
     (tie.spec
     (λ c κs. search needs)
-    (λ c. simp (← c .before .word .ensures, ne-eqb _ _ (c .if1 .taken)))
-    (λ c. simp (← c .before .word .ensures, eq-eqb _ _ (c .if1 .left))))
+    (λ c. simp (← c .before .u16-at .ensures, ne-eqb _ _ (c .if1 .taken)))
+    (λ c. simp (← c .before .u16-at .ensures, eq-eqb _ _ (c .if1 .left))))

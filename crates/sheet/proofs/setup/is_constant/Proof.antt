@@ -9,5 +9,5 @@ is-constant-spec =
     tie.close
     (tie.spec
     (λ c κs. search needs)
-    (λ c. simp (le-leb _ _ (c .before .if1 .taken), ← c .word .ensures))
+    (λ c. simp (le-leb _ _ (c .before .if1 .taken), ← c .u16-at .ensures))
     (λ c. simp (lt-leb _ _ (c .if1 .left))))

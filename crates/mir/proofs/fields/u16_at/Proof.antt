@@ -1,12 +1,12 @@
--- `mir::fields::word` meets its contract.
+-- `mir::fields::u16_at` meets its contract.
 use borrow.Author.Needs.{needs}
-use Rattle.mir.specs.Field.{wordAt}
-use Rattle.mir.proofs.fields.word.Statement.{statement}
-use Rattle.mir.proofs.fields.word.Tie as tie
+use Rattle.mir.specs.Field.{u16At}
+use Rattle.mir.proofs.fields.u16_at.Statement.{statement}
+use Rattle.mir.proofs.fields.u16_at.Tie as tie
 
-pub word-spec : {M : Type 1} → statement M
-unfolding wordAt
-word-spec =
+pub u16-at-spec : {M : Type 1} → statement M
+unfolding u16At
+u16-at-spec =
     tie.close
     (tie.spec
     (λ c κs. search needs) (λ c. search needs) (λ c κs. search needs) (λ c. search needs) (λ c. search needs) (λ c. search needs)

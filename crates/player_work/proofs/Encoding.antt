@@ -1,4 +1,4 @@
--- A record that is read from bytes is the record that they spell.
+-- A record that is read from bytes is the record that they encode.
 use Prim.Native.Nat.{ℕ}
 use mathlib.Core.Path.{_≡_, refl, sym, ap, _∙_}
 use mathlib.Core.Bool.{Bool, true, false, cond}
@@ -10,12 +10,12 @@ use Rattle.mir.specs.declared.records.Work.{Work}
 use Rattle.mir.specs.declared.records.Record.{Record}
 use Rattle.mir.specs.Operation.{uniOps, binOps, arithOps, fusedOps, taken}
 use Rattle.mir.specs.Read.{Read, got, refused, andThen, above, registers}
-use Rattle.mir.specs.Field.{byteAt, wordAt, takesKind, headFrom, placeAt, savedTo, savePlace, onStack, condPlace}
+use Rattle.mir.specs.Field.{byteAt, u16At, takesKind, headFrom, placeAt, savedTo, savePlace, onStack, condPlace}
 use Rattle.mir.proofs.Passing.{passed, then, got-same, clash}
 use Rattle.mir.proofs.Heads.{headed}
 use Rattle.mir.specs.Takes.{takesUni, takesBin, takesArith, takesFused}
 use Rattle.records.specs.Record.{uniFrom, biFrom, movFrom, loadFrom, saveFrom, loadConstFrom, fusedFrom, ifElseFrom, loadComplexFrom, saveComplexFrom, complexBiFrom, labelFrom, branchFrom, callFrom, branchIfFrom, fieldsFrom, recordFrom}
-use Rattle.player_work.specs.Spelled.{ofPart, workIn, uniSpelled, biSpelled, movSpelled, loadSpelled, saveSpelled, loadConstSpelled, fusedSpelled, ifElseSpelled, loadComplexSpelled, saveComplexSpelled, complexBiSpelled, spelled}
+use Rattle.player_work.specs.Encoded.{ofPart, workIn, uniEncoded, biEncoded, movEncoded, loadEncoded, saveEncoded, loadConstEncoded, fusedEncoded, ifElseEncoded, loadComplexEncoded, saveComplexEncoded, complexBiEncoded, encoded}
 
 -- registers that were not refused
 low : {A : Type 0} (xs : List ℕ) (r : Read A) (a : A) → registers 65 xs r ≡ got a → r ≡ got a
@@ -67,48 +67,48 @@ jump : (j r : Record) → none ≡ workIn j → got j ≡ got r → none ≡ wor
 jump j r n e = n ∙ ap workIn (got-same j r e)
 
 module _ (count : ℕ) (s : List ℕ) (r : Record) where
-  uni : uniFrom s ≡ got r → uniSpelled s ≡ workIn r
-  unfolding uniFrom uniSpelled
+  uni : uniFrom s ≡ got r → uniEncoded s ≡ workIn r
+  unfolding uniFrom uniEncoded
   uni e = with-operation (taken (takesUni true) uniOps (byteAt s 4)) (byteAt s 5 ∷ byteAt s 6 ∷ []) _ r e
 
-  bi : biFrom s ≡ got r → biSpelled s ≡ workIn r
-  unfolding biFrom biSpelled
+  bi : biFrom s ≡ got r → biEncoded s ≡ workIn r
+  unfolding biFrom biEncoded
   bi e = with-operation (taken (takesBin true) binOps (byteAt s 4)) (byteAt s 5 ∷ byteAt s 6 ∷ byteAt s 7 ∷ []) _ r e
 
-  mov : movFrom s ≡ got r → movSpelled s ≡ workIn r
-  unfolding movFrom movSpelled
+  mov : movFrom s ≡ got r → movEncoded s ≡ workIn r
+  unfolding movFrom movEncoded
   mov e = ap workIn (got-same _ r (low (byteAt s 4 ∷ byteAt s 5 ∷ []) _ r e))
 
-  load : loadFrom s ≡ got r → loadSpelled s ≡ workIn r
-  unfolding loadFrom loadSpelled
+  load : loadFrom s ≡ got r → loadEncoded s ≡ workIn r
+  unfolding loadFrom loadEncoded
   load e = with-place (placeAt s 5) (byteAt s 4 ∷ []) _ r e
 
-  save : saveFrom s ≡ got r → saveSpelled s ≡ workIn r
-  unfolding saveFrom saveSpelled savePlace
+  save : saveFrom s ≡ got r → saveEncoded s ≡ workIn r
+  unfolding saveFrom saveEncoded savePlace
   save e = with-classed (placeAt s 5) savedTo saved-same (byteAt s 4 ∷ []) _ r e
 
-  load-const : loadConstFrom count s ≡ got r → loadConstSpelled s ≡ workIn r
-  unfolding loadConstFrom loadConstSpelled
-  load-const e = ap workIn (got-same _ r (passed (leb count (wordAt s 5)) 5 _ r (low (byteAt s 4 ∷ []) _ r e) .rest))
+  load-const : loadConstFrom count s ≡ got r → loadConstEncoded s ≡ workIn r
+  unfolding loadConstFrom loadConstEncoded
+  load-const e = ap workIn (got-same _ r (passed (leb count (u16At s 5)) 5 _ r (low (byteAt s 4 ∷ []) _ r e) .rest))
 
-  fused : fusedFrom s ≡ got r → fusedSpelled s ≡ workIn r
-  unfolding fusedFrom fusedSpelled
+  fused : fusedFrom s ≡ got r → fusedEncoded s ≡ workIn r
+  unfolding fusedFrom fusedEncoded
   fused e = with-operation (taken (takesFused true) fusedOps (byteAt s 4)) (byteAt s 5 ∷ byteAt s 6 ∷ byteAt s 7 ∷ byteAt s 8 ∷ []) _ r e
 
-  if-else : ifElseFrom s ≡ got r → ifElseSpelled s ≡ workIn r
-  unfolding ifElseFrom ifElseSpelled condPlace
+  if-else : ifElseFrom s ≡ got r → ifElseEncoded s ≡ workIn r
+  unfolding ifElseFrom ifElseEncoded condPlace
   if-else e = with-classed (placeAt s 7) onStack stacked-same (byteAt s 4 ∷ byteAt s 5 ∷ byteAt s 6 ∷ []) _ r e
 
-  load-complex : loadComplexFrom s ≡ got r → loadComplexSpelled s ≡ workIn r
-  unfolding loadComplexFrom loadComplexSpelled
+  load-complex : loadComplexFrom s ≡ got r → loadComplexEncoded s ≡ workIn r
+  unfolding loadComplexFrom loadComplexEncoded
   load-complex e = with-place (placeAt s 6) (byteAt s 4 ∷ byteAt s 5 ∷ []) _ r e
 
-  save-complex : saveComplexFrom s ≡ got r → saveComplexSpelled s ≡ workIn r
-  unfolding saveComplexFrom saveComplexSpelled savePlace
+  save-complex : saveComplexFrom s ≡ got r → saveComplexEncoded s ≡ workIn r
+  unfolding saveComplexFrom saveComplexEncoded savePlace
   save-complex e = with-classed (placeAt s 6) savedTo saved-same (byteAt s 4 ∷ byteAt s 5 ∷ []) _ r e
 
-  complex-bi : complexBiFrom s ≡ got r → complexBiSpelled s ≡ workIn r
-  unfolding complexBiFrom complexBiSpelled
+  complex-bi : complexBiFrom s ≡ got r → complexBiEncoded s ≡ workIn r
+  unfolding complexBiFrom complexBiEncoded
   complex-bi e = with-operation (taken takesArith arithOps (byteAt s 4)) (byteAt s 5 ∷ byteAt s 6 ∷ byteAt s 7 ∷ byteAt s 8 ∷ byteAt s 9 ∷ byteAt s 10 ∷ []) _ r e
 
   branch-if : branchIfFrom s ≡ got r → none ≡ workIn r
@@ -129,26 +129,26 @@ module _ (count : ℕ) (s : List ℕ) (r : Record) where
       by (eqb kind 17) (branchIfFrom s) _ r e branch-if (λ e.
       absurd (clash 2 r e)))))
 
-  fields : fieldsFrom count (wordAt s 2) s ≡ got r → spelled s ≡ workIn r
-  unfolding fieldsFrom spelled
+  fields : fieldsFrom count (u16At s 2) s ≡ got r → encoded s ≡ workIn r
+  unfolding fieldsFrom encoded
   fields e =
-      let k = wordAt s 2 in
-      both (eqb k 1) (uniFrom s) _ (uniSpelled s) _ r e uni (λ e.
-      both (eqb k 2) (biFrom s) _ (biSpelled s) _ r e bi (λ e.
-      both (eqb k 3) (movFrom s) _ (movSpelled s) _ r e mov (λ e.
-      both (eqb k 4) (loadFrom s) _ (loadSpelled s) _ r e load (λ e.
-      both (eqb k 5) (saveFrom s) _ (saveSpelled s) _ r e save (λ e.
-      both (eqb k 6) (loadConstFrom count s) _ (loadConstSpelled s) _ r e load-const (λ e.
-      both (eqb k 7) (fusedFrom s) _ (fusedSpelled s) _ r e fused (λ e.
-      both (eqb k 8) (ifElseFrom s) _ (ifElseSpelled s) _ r e if-else (λ e.
-      both (eqb k 11) (loadComplexFrom s) _ (loadComplexSpelled s) _ r e load-complex (λ e.
-      both (eqb k 12) (saveComplexFrom s) _ (saveComplexSpelled s) _ r e save-complex (λ e.
-      both (eqb k 13) (complexBiFrom s) _ (complexBiSpelled s) _ r e complex-bi (λ e.
+      let k = u16At s 2 in
+      both (eqb k 1) (uniFrom s) _ (uniEncoded s) _ r e uni (λ e.
+      both (eqb k 2) (biFrom s) _ (biEncoded s) _ r e bi (λ e.
+      both (eqb k 3) (movFrom s) _ (movEncoded s) _ r e mov (λ e.
+      both (eqb k 4) (loadFrom s) _ (loadEncoded s) _ r e load (λ e.
+      both (eqb k 5) (saveFrom s) _ (saveEncoded s) _ r e save (λ e.
+      both (eqb k 6) (loadConstFrom count s) _ (loadConstEncoded s) _ r e load-const (λ e.
+      both (eqb k 7) (fusedFrom s) _ (fusedEncoded s) _ r e fused (λ e.
+      both (eqb k 8) (ifElseFrom s) _ (ifElseEncoded s) _ r e if-else (λ e.
+      both (eqb k 11) (loadComplexFrom s) _ (loadComplexEncoded s) _ r e load-complex (λ e.
+      both (eqb k 12) (saveComplexFrom s) _ (saveComplexEncoded s) _ r e save-complex (λ e.
+      both (eqb k 13) (complexBiFrom s) _ (complexBiEncoded s) _ r e complex-bi (λ e.
       jumps k e)))))))))))
 
-pub spelling : (count : ℕ) (s : List ℕ) (rec : Record) → recordFrom count s ≡ got rec → spelled s ≡ workIn rec
+pub encoding : (count : ℕ) (s : List ℕ) (rec : Record) → recordFrom count s ≡ got rec → encoded s ≡ workIn rec
 unfolding recordFrom
-spelling count s rec e =
+encoding count s rec e =
     let t = then (headFrom (takesKind true) s) (λ kind. fieldsFrom count kind s) rec e in
     let h = headed (takesKind true) s (t .first) (t .found) in
     fields count s rec (ap (λ kind. fieldsFrom count kind s) (sym (h .same)) ∙ t .rest)

@@ -1,4 +1,4 @@
--- The jump that bytes spell (document 01, Sheet; document 02, d). Every record of a listing is tested by the first pass; what follows reads
+-- The jump that bytes encode (document 01, Sheet; document 02, d). Every record of a listing is tested by the first pass; what follows reads
 -- the length, the kind and the fields alone, and tests nothing again.
 use Prim.Native.Nat.{ℕ}
 use mathlib.Core.Bool.{Bool, false, cond}
@@ -6,9 +6,9 @@ use mathlib.Core.List.{List}
 use mathlib.Core.Option.{Option, none, some}
 use lib.Dec.{eqb}
 use Rattle.mir.specs.declared.records.Record.{Record}
-use Rattle.mir.specs.Field.{byteAt, wordAt}
+use Rattle.mir.specs.Field.{byteAt, u16At}
 
--- 14 Label, 15 Branch, 16 Call: label; 17 BranchIf: condition register, label, is_else; any other kind spells no jump
+-- 14 Label, 15 Branch, 16 Call: label; 17 BranchIf: condition register, label, is_else; any other kind encodes no jump
 abbrev pub jumpOf : ℕ → List ℕ → Option Record
 jumpOf kind s =
     cond (eqb kind 14) (some (Record.Label (byteAt s 4)))
@@ -17,8 +17,8 @@ jumpOf kind s =
     (cond (eqb kind 17) (some (Record.BranchIf (byteAt s 4) (byteAt s 5) (eqb (byteAt s 6) 1)))
     none)))
 
-abbrev pub jumpSpelled : List ℕ → Option Record
-jumpSpelled s = jumpOf (wordAt s 2) s
+abbrev pub jumpEncoded : List ℕ → Option Record
+jumpEncoded s = jumpOf (u16At s 2) s
 
 -- the jump of a record that was read
 abbrev pub jumpIn : Record → Option Record
