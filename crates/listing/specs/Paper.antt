@@ -16,7 +16,7 @@ use Rattle.lowering.specs.Complexifier as c
 use Rattle.lowering.specs.Rerun.{rerun, rerunBin}
 use Rattle.lowering.specs.Lower.{lowerFrom, lowerSheet}
 use Rattle.text.specs.Text.{ascii, page}
-use Rattle.listing.specs.Printed.{printed}
+use Rattle.listing.specs.Printed.{printedFor, printed}
 
 -- "Plain mode, no real places, constant 4000000000000000; LoadConst general 0, constant 0; Load general 1, Mem 3; Times 0, 0, 1; Save 0,
 -- Mem 4."
@@ -31,5 +31,5 @@ sheet =
 
 pub paper : printed sheet
     ≡ ascii "constants 1\n0 4000000000000000\nlisting 5 41\nLoadConst G4 0\nLoadComplex G6 G7 Mem 3\nTimes G5 G4 G7\nTimes G4 G4 G6\nSaveComplex G4 G5 Mem 4\n"
-unfolding printed lowerSheet setup constantAt decoded instructionFrom recordFrom lowerFrom rerun rerunBin c.then c.emit c.byTwo c.loadConst c.loadFrom c.saveTo c.times lines.loadLines lines.saveLines lines.timesLines re im recordOf binOps takesKind placeAt savePlace page ascii
+unfolding printedFor lowerSheet setup constantAt decoded instructionFrom recordFrom lowerFrom rerun rerunBin c.then c.emit c.byTwo c.loadConst c.loadFrom c.saveTo c.times lines.loadLines lines.saveLines lines.timesLines re im recordOf binOps takesKind placeAt savePlace page ascii
 paper = refl

@@ -26,4 +26,4 @@ put-sheet-spec =
     (λ c.
     let e = c .before .before .before .before .before .before .before .before .lower .ensures in
     let p = c .before .before .put-text .ensures in
-    renamed (all-printed (c .before .before .before .before .before .before .before .before .before .before .before .before .before .args .sheet .now) (e .0) (e .1) (e .2)) p))
+    renamed (all-printed (c .before .before .before .before .before .before .before .before .before .before .before .before .before .args .named) (c .before .before .before .before .before .before .before .before .before .before .before .before .before .args .sheet .now) (e .0) (e .1) (e .2)) p))

@@ -12,15 +12,15 @@ put-text-spec =
     (tie.spec
     (λ c. search needs) (λ c κs. search needs)
     (λ c κs.
-    let p = c .refused-line .ensures in
+    let p = c .refusal .ensures in
     let f = p .whole .fits in
     (omega (arith, f), whole-fits p))
     (λ c. search needs)
     (λ c.
     let a = c .before .before .before .before .before .before .before .before .before .before .before .args in
-    renamed (refused-text (a .a) (a .constants .now) (a .listing .now) (c .before .before .before .before .before .before .if1 .taken)) (printing (c .before .before .before .refused-line .ensures) (c .before .before .put-line .ensures)))
+    renamed (refused-text (a .named) (a .a) (a .constants .now) (a .listing .now) (c .before .before .before .before .before .before .if1 .taken)) (printing (c .before .before .before .refusal .ensures) (c .before .before .put-line .ensures)))
     (λ c. search needs) (λ c. search needs) (λ c. search needs) (λ c. search needs) (λ c. search needs) (λ c. search needs)
     (λ c κs. search needs) (λ c. search needs)
     (λ c.
     let a = c .before .before .before .before .before .before .before .before .before .before .before .args in
-    renamed (accepted-text (a .a) (a .constants .now) (a .listing .now) (c .before .before .before .before .before .before .if1 .left)) (c .before .before .put-page .ensures)))
+    renamed (accepted-text (a .named) (a .a) (a .constants .now) (a .listing .now) (c .before .before .before .before .before .before .if1 .left)) (c .before .before .put-page .ensures)))
