@@ -23,7 +23,7 @@ use Rattle.assembly.specs.SheetText.{instructionLines}
 use Rattle.assembly.specs.Assembled.{instruction, Sheet, grown, isGot, withLine}
 use Rattle.assembly.proofs.Saying.{Says, Onward, stay, _▹_, onward-as, by-line}
 use Rattle.assembly.proofs.Outcomes.{Outcome, read, told, tested, parted, outcome-of}
-use Rattle.assembly.proofs.Spelling.{Spelled, Reads, Kind, nop, uni, bi, mov, load, save, load-const, fused, if-else, load-math, load-const-math, label, branch, branch-if}
+use Rattle.assembly.proofs.Spelling.{SaysInstruction, Reads, Kind, nop, uni, bi, mov, load, save, load-const, fused, if-else, load-math, load-const-math, label, branch, branch-if}
 
 -- what is read is what was read
 told-so : {A : Type 0} {P : A → Type 0} {x : Read A} → Outcome P x → Outcome (λ a. P a × (x ≡ got a)) x
@@ -90,7 +90,7 @@ head-outcome takes s =
 
 -- an instruction that is read
 record Good (count : ℕ) (s : List ℕ) (i : Instruction) : Type 0 where
-  spelled : Spelled (u16At s 0) s i
+  spelled : SaysInstruction (u16At s 0) s i
   again : instructionFrom count (take (u16At s 0) s) ≡ got i
   sized : Sized s
 

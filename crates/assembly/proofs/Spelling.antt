@@ -76,12 +76,12 @@ module _ {b0 b1 b2 b3 : ℕ} (n kind : ℕ) (f : List ℕ) where
       let s : 0 ≡ b3 = omega arith in
       λ i. p i ∷ q i ∷ r i ∷ s i ∷ f
 
-abbrev pub Spelled : ℕ → List ℕ → Instruction → Type 0
-Spelled n s i = Says (instructionLine i) instruction (take n s)
+abbrev pub SaysInstruction : ℕ → List ℕ → Instruction → Type 0
+SaysInstruction n s i = Says (instructionLine i) instruction (take n s)
 
 -- what a reader of a kind's bytes reads: it is spelled, and the record's own bytes are all that is read
 pub record Reads (n : ℕ) (s : List ℕ) (x' x : Read Instruction) : Type 0 where
-  pub outcome : Outcome (Spelled n s) x
+  pub outcome : Outcome (SaysInstruction n s) x
   pub local : x' ≡ x
 
 abbrev Known : ℕ → ℕ → (List ℕ → Read Instruction) → List ℕ → Type 0

@@ -103,13 +103,13 @@ going s l =
     going-either (eqb (s .stage) 0) (firstLine x) (andThen x (λ r. withLine s (r .part) (r .bytes))) (going-first x) (going-then s x)
 
 -- what the loop keeps, before the line k + 1, which begins at a position
-pub record Kept (t : List ℕ) (s : Made) (out : List ℕ) (at k : ℕ) : Type 0 where
+pub record MadeSoFar (t : List ℕ) (s : Made) (out : List ℕ) (at k : ℕ) : Type 0 where
   pub near : k ≤ at
   pub room : Room s out
   pub fresh : s .stage ≡ 0 → k ≡ 0
   pub same : assembledFrom (suc k) (sheetOf s out) (pieces 10 (drop at t)) ≡ assembled t
 
-pub at-start : (t out : List ℕ) {s : Made} → s ≡ refusal 0 → 16384 ≤ length out → Kept t s out 0 0
+pub at-start : (t out : List ℕ) {s : Made} → s ≡ refusal 0 → 16384 ≤ length out → MadeSoFar t s out 0 0
 unfolding assembled
 at-start t out e h =
     record {
@@ -128,7 +128,7 @@ further t at e n h g d =
     let x : length t - n ≡ length t - (e + 1) = sym (length-drop n t) ∙ ap length d ∙ length-drop (e + 1) t in
     omega (arith, x, h, g)
 
-module _ (t : List ℕ) (s : Made) (out : List ℕ) (at k e : ℕ) (kept : Kept t s out at k) where
+module _ (t : List ℕ) (s : Made) (out : List ℕ) (at k e : ℕ) (kept : MadeSoFar t s out at k) where
   pub ended : length t ≤ at → cond (eqb (s .stage) 0) (refusedAt (suc k) 1) (accepted (take (s .len) out)) ≡ assembled t
   unfolding assembledFrom pieces
   ended h = sym (ap (λ x. assembledFrom (suc k) (sheetOf s out) (pieces 10 x)) (drop-of-length-le t h)) ∙ kept .same
@@ -160,7 +160,7 @@ module _ (t : List ℕ) (s : Made) (out : List ℕ) (at k e : ℕ) (kept : Kept 
         ∙ sym (ap (λ b. onward (cond b (got (sheetOf m o)) (refused (m .why)))) w)
         ∙ turned
 
-    pub next-line : (n : ℕ) → m .why ≡ 0 → at ≤ e → drop n t ≡ drop (e + 1) t → length o ≡ length out → Kept t m o n (k + 1)
+    pub next-line : (n : ℕ) → m .why ≡ 0 → at ≤ e → drop n t ≡ drop (e + 1) t → length o ≡ length out → MadeSoFar t m o n (k + 1)
     next-line n z g d w =
         let v = eq-eqb (m .why) 0 z in
         let x : asSheet m o ≡ got (sheetOf m o) = ap (λ b. cond b (got (sheetOf m o)) (refused (m .why))) v in

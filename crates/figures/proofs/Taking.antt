@@ -38,7 +38,7 @@ use Rattle.complexify.proofs.Turns as Turns
 use Rattle.figures.specs.declared.counting.Count.{Count}
 use Rattle.figures.specs.declared.entry.Figures.{Figures}
 use Rattle.figures.specs.declared.turn.CountCursor.{CountCursor}
-use Rattle.figures.specs.declared.turn.Next.{Next}
+use Rattle.figures.specs.declared.turn.CountNext.{CountNext}
 use Rattle.figures.specs.Shelf.{refusal, branchOf, counted, run, shelfFrom}
 use Rattle.figures.specs.Walk.{Listed, Within}
 use Rattle.figures.specs.Taken.{Ready, figuresAt, goesOn, left, refusing, finished, full, Ended, Finished, Fits, CountKept, OwnLabel, CountedOne, Taken}
@@ -133,7 +133,7 @@ module _ {mode : Mode} {i : Instruction} {next : ℕ} {g k : List ℕ} {p : Coun
 
 -- ---- what a turn of `rerun` listed and added, counted
 
-module _ {t : Output} {i : Role} {rs : List Record} {next : ℕ} {k : List ℕ} {p : CountCursor} {r : Next} where
+module _ {t : Output} {i : Role} {rs : List Record} {next : ℕ} {k : List ℕ} {p : CountCursor} {r : CountNext} where
   pub too-long : 65536 < counted (p .taken) i rs .bytes → r ≡ refusing 7 p → Ended t i rs next k p k r
   too-long h e =
       let z = sym (lt-ltb _ _ h) in
@@ -220,7 +220,7 @@ module _ (mode : Mode) (i : Instruction) {g g' k : List ℕ} {p : CountCursor} {
         };
       }
 
-  by-room : (next : ℕ) {k' : List ℕ} {q : Next} → p .index < 65536 → Ended t (role i) records next k p k' q → CountedOne mode i next k p k' q
+  by-room : (next : ℕ) {k' : List ℕ} {q : CountNext} → p .index < 65536 → Ended t (role i) records next k p k' q → CountedOne mode i next k p k' q
   by-room next {k'} {q} x f =
       either (full p (role i) records)
       (λ z.
@@ -230,7 +230,7 @@ module _ (mode : Mode) (i : Instruction) {g g' k : List ℕ} {p : CountCursor} {
       subst (λ q. CountedOne mode i next k p k' q) (sym (f .stands ∙ ap (λ x. cond x (refusing 7 p) (finished t (counted (p .taken) (role i) records) next p)) z))
       (turn-done next x z (f .added ∙ ap (λ x. cond x k (sets k (p .constants) words)) z)))
 
-  pub turn-finished : (next : ℕ) {n : ℕ} {k' : List ℕ} {q : Next} → p .index < 65536 → n ≡ branchOf (role i)
+  pub turn-finished : (next : ℕ) {n : ℕ} {k' : List ℕ} {q : CountNext} → p .index < 65536 → n ≡ branchOf (role i)
       → Finished t (take (t .at) g') n next k p k' q → CountedOne mode i next k p k' q
   turn-finished next x e f = by-room next x (f (role i) e records bytes)
 
@@ -243,14 +243,14 @@ branch-few (Labels.branches l) = omega arith
 -- ---- one turn
 
 -- the work from here on, where b stand before, is the work from there on, where `before` do
-pub record Goes (mode : Mode) (own : ℕ) (sheet : List ℕ) (b : Standing) (k : List ℕ) (p : CountCursor) (k' marks' rows' : List ℕ) (r : Next) : Type 0 where
+pub record Goes (mode : Mode) (own : ℕ) (sheet : List ℕ) (b : Standing) (k : List ℕ) (p : CountCursor) (k' marks' rows' : List ℕ) (r : CountNext) : Type 0 where
   pub before : Standing
   pub same : left mode own sheet b k p
       ≡ cond (r .done) (figuresAt (r .number) (r .cursor)) (left mode own sheet before k' (r .cursor))
   pub noted : r .done ≡ false → Noted before (drop (r .cursor .at) sheet) marks' rows'
 
 -- one turn of the loop: the labels tested, the instruction taken
-pub record Turn (mode : Mode) (own : ℕ) (sheet k marks rows : List ℕ) (p : CountCursor) (k' marks' rows' : List ℕ) (r : Next) : Type 0 where
+pub record Turn (mode : Mode) (own : ℕ) (sheet k marks rows : List ℕ) (p : CountCursor) (k' marks' rows' : List ℕ) (r : CountNext) : Type 0 where
   pub goes : (b : Standing) → Noted b (drop (p .at) sheet) marks rows → Goes mode own sheet b k p k' marks' rows' r
   pub on : r .done ≡ false → p .at < r .cursor .at
   pub index : r .done ≡ false → r .cursor .index ≡ suc (p .index)
@@ -311,7 +311,7 @@ own-label own sheet at {i} {next} h = in-own own i (subst (λ is. AllIn own is) 
 module _ {mode : Mode} {own : ℕ} {sheet k marks rows : List ℕ} {p : CountCursor} where
   module _ {i : Instruction} {next : ℕ} {marks' rows' : List ℕ} {n : ℕ} (h : Here (instructionFrom own) sheet (p .at) i next)
       (e : instructionFrom own (drop (p .at) sheet) ≡ got i) (w : Follows (role i) (p .low .real) marks rows marks' rows' n) where
-    turn-got : {k' : List ℕ} {r : Next} → past (drop (p .at) sheet) ≡ drop next sheet → n ≡ 0 → CountedOne mode i next k p k' r
+    turn-got : {k' : List ℕ} {r : CountNext} → past (drop (p .at) sheet) ≡ drop next sheet → n ≡ 0 → CountedOne mode i next k p k' r
         → Turn mode own sheet k marks rows p k' marks' rows' r
     turn-got {k'} {r} g z l =
         record {
@@ -363,7 +363,7 @@ module _ {mode : Mode} {own : ℕ} {sheet k marks rows : List ℕ} {p : CountCur
       record { goes = λ b t. record { before = b; same = stopped mode own sheet b k p n r h; noted = no }; on = no; index = no; turned = unchanged n r }
 
 -- the code's answer
-module _ (own : ℕ) (sheet : List ℕ) (at : ℕ) (mode : Mode) (k : List ℕ) {p : CountCursor} {r : Next} {a : NextInstruction} where
+module _ (own : ℕ) (sheet : List ℕ) (at : ℕ) (mode : Mode) (k : List ℕ) {p : CountCursor} {r : CountNext} {a : NextInstruction} where
   pub one-got : {i : Instruction} {next : ℕ} {k' : List ℕ} → asNext a ≡ instructionAt own sheet at → a ≡ NextInstruction.Got i next
       → CountedOne mode i next k p k' r → Taken mode k p k' r (instructionAt own sheet at)
   one-got {k' = k'} e f l = subst (λ x. Taken mode k p k' r x) (sym (ap asNext f) ∙ e) l
@@ -382,7 +382,7 @@ module _ {mode : Mode} {own : ℕ} {sheet g k marks rows marks' rows' : List ℕ
       go (got i) e = turn-refused (Turns.here-got own sheet (p .at) i e) e (Turns.told own sheet (p .at) t i e) ready z
       go (refused m) e = absurd (z (Turns.untold own sheet (p .at) t m e))
 
-  pub turn-taken : {k' : List ℕ} {r : Next} → p .at < length sheet → n ≡ 0 → Taken mode k p k' r (instructionAt own sheet (p .at))
+  pub turn-taken : {k' : List ℕ} {r : CountNext} → p .at < length sheet → n ≡ 0 → Taken mode k p k' r (instructionAt own sheet (p .at))
       → Turn mode own sheet k marks rows p k' marks' rows' r
   turn-taken {k'} {r} inside z l = go (instructionFrom own (drop (p .at) sheet)) refl
     where
@@ -411,7 +411,7 @@ on-true : (b : Bool) (x y : Figures) → b ≡ true → cond b x y ≡ x
 on-true b x y e = simp e
 
 module _ {mode : Mode} {own : ℕ} {sheet k₀ : List ℕ} {start : CountCursor} {g k marks rows : List ℕ} {p : CountCursor}
-    (s : Underway mode own sheet k₀ start g k marks rows p) {k' marks' rows' : List ℕ} {r : Next} (t : Turn mode own sheet k marks rows p k' marks' rows' r) where
+    (s : Underway mode own sheet k₀ start g k marks rows p) {k' marks' rows' : List ℕ} {r : CountNext} (t : Turn mode own sheet k marks rows p k' marks' rows' r) where
   gone : Goes mode own sheet (s .before) k p k' marks' rows' r
   gone = t .goes (s .before) (s .noted)
 

@@ -17,7 +17,7 @@ use Rattle.player_machine.specs.Machine.{works, isLabel, seek, block}
 use Rattle.player_machine.specs.Jumps.{bit, tally}
 use Rattle.player_machine.specs.Count.{isCall}
 use Rattle.figures.specs.declared.counting.Count.{Count}
-use Rattle.figures.specs.declared.counting.Part.{Part}
+use Rattle.figures.specs.declared.counting.BlockPart.{BlockPart}
 use Rattle.figures.specs.declared.counting.BlockStep.{BlockStep}
 use Rattle.lowering.specs.Labels.{Role}
 use Rattle.figures.specs.Shelf.{blockIn, branchOf, counted}
@@ -84,10 +84,10 @@ calls-seen (Record.BranchIf c l e) = refl
 
 -- ---- the block's records among those that are left
 
-abbrev tail : Part → List Record → ℕ
-tail Part.Before rs = blockIn rs
-tail Part.Inside rs = length (works rs)
-tail Part.Behind rs = 0
+abbrev tail : BlockPart → List Record → ℕ
+tail BlockPart.Before rs = blockIn rs
+tail BlockPart.Inside rs = length (works rs)
+tail BlockPart.Behind rs = 0
 
 passed : (r : Record) (rs : List Record) → isLabel 1 r ≡ false → blockIn (r ∷ rs) ≡ 0 + blockIn rs
 unfolding blockIn tally block seek
@@ -97,38 +97,38 @@ opened : (l : ℕ) (rs : List Record) → eqb l 1 ≡ true → blockIn (Record.L
 unfolding blockIn tally block seek isLabel
 opened l rs e = rw (e, lt-ltb 0 (1 + tally (isLabel 1) rs) (omega arith)) refl
 
-tail-none : (p : Part) → tail p [] ≡ 0
+tail-none : (p : BlockPart) → tail p [] ≡ 0
 unfolding blockIn tally works
-tail-none Part.Before = refl
-tail-none Part.Inside = refl
-tail-none Part.Behind = refl
+tail-none BlockPart.Before = refl
+tail-none BlockPart.Inside = refl
+tail-none BlockPart.Behind = refl
 
 -- Label 1, or another
 abbrev opening : Bool → BlockStep
-opening x = cond x (record { adds = 2; next = Part.Inside }) (record { adds = 0; next = Part.Before })
+opening x = cond x (record { adds = 2; next = BlockPart.Inside }) (record { adds = 0; next = BlockPart.Before })
 
 labelled : (l : ℕ) (rs : List Record) (x : Bool) → eqb l 1 ≡ x → blockIn (Record.Label l ∷ rs) ≡ opening x .adds + tail (opening x .next) rs
 labelled l rs true e = opened l rs e
 labelled l rs false e = unfold isLabel in passed (Record.Label l) rs e
 
-block-seen : (p : Part) (r : Record) (rs : List Record)
+block-seen : (p : BlockPart) (r : Record) (rs : List Record)
     → tail p (r ∷ rs) ≡ blockStep p (kindOf r) (labelOf r) .adds + tail (blockStep p (kindOf r) (labelOf r) .next) rs
 unfolding recordOf lengthOf works isLabel
-block-seen Part.Before (Record.Work w) rs = rw (other-kind w 14 (omega arith)) (passed (Record.Work w) rs refl)
-block-seen Part.Before (Record.Label l) rs = labelled l rs (eqb l 1) refl
-block-seen Part.Before (Record.Branch l) rs = passed (Record.Branch l) rs refl
-block-seen Part.Before (Record.Call l) rs = passed (Record.Call l) rs refl
-block-seen Part.Before (Record.BranchIf c l e) rs = passed (Record.BranchIf c l e) rs refl
-block-seen Part.Inside (Record.Work w) rs = rw (work-kind w) (omega arith)
-block-seen Part.Inside (Record.Label l) rs = refl
-block-seen Part.Inside (Record.Branch l) rs = refl
-block-seen Part.Inside (Record.Call l) rs = refl
-block-seen Part.Inside (Record.BranchIf c l e) rs = refl
-block-seen Part.Behind (Record.Work w) rs = refl
-block-seen Part.Behind (Record.Label l) rs = refl
-block-seen Part.Behind (Record.Branch l) rs = refl
-block-seen Part.Behind (Record.Call l) rs = refl
-block-seen Part.Behind (Record.BranchIf c l e) rs = refl
+block-seen BlockPart.Before (Record.Work w) rs = rw (other-kind w 14 (omega arith)) (passed (Record.Work w) rs refl)
+block-seen BlockPart.Before (Record.Label l) rs = labelled l rs (eqb l 1) refl
+block-seen BlockPart.Before (Record.Branch l) rs = passed (Record.Branch l) rs refl
+block-seen BlockPart.Before (Record.Call l) rs = passed (Record.Call l) rs refl
+block-seen BlockPart.Before (Record.BranchIf c l e) rs = passed (Record.BranchIf c l e) rs refl
+block-seen BlockPart.Inside (Record.Work w) rs = rw (work-kind w) (omega arith)
+block-seen BlockPart.Inside (Record.Label l) rs = refl
+block-seen BlockPart.Inside (Record.Branch l) rs = refl
+block-seen BlockPart.Inside (Record.Call l) rs = refl
+block-seen BlockPart.Inside (Record.BranchIf c l e) rs = refl
+block-seen BlockPart.Behind (Record.Work w) rs = refl
+block-seen BlockPart.Behind (Record.Label l) rs = refl
+block-seen BlockPart.Behind (Record.Branch l) rs = refl
+block-seen BlockPart.Behind (Record.Call l) rs = refl
+block-seen BlockPart.Behind (Record.BranchIf c l e) rs = refl
 
 -- ---- how much a record adds at most
 
@@ -139,34 +139,34 @@ calls-few k = go (eqb k 16)
     go true = omega arith
     go false = omega arith
 
-pub block-few : (p : Part) (k l : ℕ) → blockStep p k l .adds ≤ 2
-block-few Part.Before k l = go (eqb k 14) (eqb l 1)
+pub block-few : (p : BlockPart) (k l : ℕ) → blockStep p k l .adds ≤ 2
+block-few BlockPart.Before k l = go (eqb k 14) (eqb l 1)
   where
     go : (x y : Bool) → cond x (opening y) (opening false) .adds ≤ 2
     go true true = omega arith
     go true false = omega arith
     go false y = omega arith
-block-few Part.Inside k l = go (ltb k 14)
+block-few BlockPart.Inside k l = go (ltb k 14)
   where
     inside : Bool → BlockStep
-    inside x = cond x (record { adds = 1; next = Part.Inside }) (record { adds = 0; next = Part.Behind })
+    inside x = cond x (record { adds = 1; next = BlockPart.Inside }) (record { adds = 0; next = BlockPart.Behind })
 
     go : (x : Bool) → inside x .adds ≤ 2
     go true = omega arith
     go false = omega arith
-block-few Part.Behind k l = omega arith
+block-few BlockPart.Behind k l = omega arith
 
 -- ---- the walk
 
 -- at a position: the records that are left, and what is counted with them is what all hold
-pub record Rest (bytes : List ℕ) (c : Count) (rs : List Record) (at n m b : ℕ) (p : Part) : Type 0 where
+pub record Rest (bytes : List ℕ) (c : Count) (rs : List Record) (at n m b : ℕ) (p : BlockPart) : Type 0 where
   pub left : List Record
   pub here : drop at bytes ≡ encodeAll left
   pub records : n + length left ≡ c .records + length rs
   pub calls : m + tally isCall left ≡ c .calls + tally isCall rs
   pub block : b + tail p left ≡ c .block + blockIn rs
 
-pub begin : (bytes : List ℕ) (c : Count) (rs : List Record) → bytes ≡ encodeAll rs → Rest bytes c rs 0 (c .records) (c .calls) (c .block) Part.Before
+pub begin : (bytes : List ℕ) (c : Count) (rs : List Record) → bytes ≡ encodeAll rs → Rest bytes c rs 0 (c .records) (c .calls) (c .block) BlockPart.Before
 begin bytes c rs e = record { left = rs; here = e; records = refl; calls = refl; block = refl }
 
 past : (a b : List ℕ) → drop (length a) (a ++ b) ≡ b
@@ -178,12 +178,12 @@ read : (bytes l : List ℕ) (at i : ℕ) → drop at bytes ≡ l → getD bytes 
 read bytes l at i e = sym (getD-drop at bytes i 0) ∙ ap (λ (s : List ℕ). getD s i 0) e
 
 -- one record
-pub record Stepped (bytes : List ℕ) (c : Count) (rs : List Record) (at n m b : ℕ) (p : Part) (size kind label : ℕ) : Type 0 where
+pub record Stepped (bytes : List ℕ) (c : Count) (rs : List Record) (at n m b : ℕ) (p : BlockPart) (size kind label : ℕ) : Type 0 where
   pub rest : Rest bytes c rs (at + size) (n + 1) (m + callsOf kind) (b + blockStep p kind label .adds) (blockStep p kind label .next)
   pub long : 4 ≤ size
   pub fits : at + size ≤ length bytes
 
-module _ {bytes : List ℕ} {c : Count} {rs : List Record} {at n m b : ℕ} {p : Part} where
+module _ {bytes : List ℕ} {c : Count} {rs : List Record} {at n m b : ℕ} {p : BlockPart} where
   walked : (r : Record) (l : List Record) → at < length bytes → drop at bytes ≡ encode r ++ encodeAll l
       → n + suc (length l) ≡ c .records + length rs → m + (bit (isCall r) + tally isCall l) ≡ c .calls + tally isCall rs
       → b + tail p (r ∷ l) ≡ c .block + blockIn rs
@@ -247,18 +247,18 @@ module _ {bytes : List ℕ} {c : Count} {rs : List Record} {at n m b : ℕ} {p :
 -- ---- the loop
 
 -- what holds before each record; a record has four bytes at least, so the counts grow no faster than the position
-pub record Walking (bytes : List ℕ) (c : Count) (at n m b : ℕ) (p : Part) : Type 0 where
+pub record Walking (bytes : List ℕ) (c : Count) (at n m b : ℕ) (p : BlockPart) : Type 0 where
   pub rest : (rs : List Record) → bytes ≡ encodeAll rs → Rest bytes c rs at n m b p
   pub inside : at ≤ length bytes
   pub records : n ≤ c .records + at
   pub calls : m ≤ c .calls + at
   pub block : b ≤ c .block + at
 
-pub walking-first : (bytes : List ℕ) (c : Count) → Walking bytes c 0 (c .records) (c .calls) (c .block) Part.Before
+pub walking-first : (bytes : List ℕ) (c : Count) → Walking bytes c 0 (c .records) (c .calls) (c .block) BlockPart.Before
 walking-first bytes c =
     record { rest = λ rs e. begin bytes c rs e; inside = omega arith; records = omega arith; calls = omega arith; block = omega arith }
 
-module _ {bytes : List ℕ} {c : Count} {at n m b : ℕ} {p : Part} (v : Walking bytes c at n m b p) (l : Listed bytes) (h : at < length bytes)
+module _ {bytes : List ℕ} {c : Count} {at n m b : ℕ} {p : BlockPart} (v : Walking bytes c at n m b p) (l : Listed bytes) (h : at < length bytes)
     {size kind label : ℕ} (e : size ≡ getD bytes at 0) (f : kind ≡ getD bytes (at + 2) 0) (g : label ≡ getD bytes (at + 4) 0) where
   pub forth : Stepped bytes c (l .records) at n m b p size kind label
   forth = step (v .rest (l .records) (l .same)) h e f g

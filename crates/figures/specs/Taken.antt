@@ -21,7 +21,7 @@ use Rattle.complexify.specs.Taken.{space}
 use Rattle.figures.specs.declared.counting.Count.{Count}
 use Rattle.figures.specs.declared.entry.Figures.{Figures}
 use Rattle.figures.specs.declared.turn.CountCursor.{CountCursor}
-use Rattle.figures.specs.declared.turn.Next.{Next}
+use Rattle.figures.specs.declared.turn.CountNext.{CountNext}
 use Rattle.figures.specs.Shelf.{refusal, branchOf, counted, run, shelfFrom}
 use Rattle.figures.specs.Walk.{Listed, Within}
 use Rattle.sheet.specs.declared.setup.Mode.{Mode}
@@ -51,10 +51,10 @@ left mode own sheet b k p =
     goesOn mode (d .items) (d .fault) rest b k p
 
 -- where the count stands after a number refused the instruction, and after a finished one with these records
-abbrev pub refusing : ℕ → CountCursor → Next
+abbrev pub refusing : ℕ → CountCursor → CountNext
 refusing number p = record { done = true; number = number; cursor = p }
 
-abbrev pub finished : Output → Count → ℕ → CountCursor → Next
+abbrev pub finished : Output → Count → ℕ → CountCursor → CountNext
 finished t c next p =
     record {
       done = false;
@@ -66,11 +66,11 @@ finished t c next p =
 abbrev pub full : CountCursor → Role → List Record → Bool
 full p i rs = ltb 65536 (counted (p .taken) i rs .bytes)
 
-pub record Ended (t : Output) (i : Role) (rs : List Record) (next : ℕ) (k : List ℕ) (p : CountCursor) (k' : List ℕ) (r : Next) : Type 0 where
+pub record Ended (t : Output) (i : Role) (rs : List Record) (next : ℕ) (k : List ℕ) (p : CountCursor) (k' : List ℕ) (r : CountNext) : Type 0 where
   pub stands : r ≡ cond (full p i rs) (refusing 7 p) (finished t (counted (p .taken) i rs) next p)
   pub added : k' ≡ cond (full p i rs) k (sets k (p .constants) (take (t .added .count) (t .added .words)))
 
-abbrev pub Finished : Output → List ℕ → ℕ → ℕ → List ℕ → CountCursor → List ℕ → Next → Type 0
+abbrev pub Finished : Output → List ℕ → ℕ → ℕ → List ℕ → CountCursor → List ℕ → CountNext → Type 0
 Finished t bytes n next k p k' r = (i : Role) → n ≡ branchOf i → (rs : List Record) → bytes ≡ encodeAll rs → Ended t i rs next k p k' r
 
 -- what that asks of the turn and of the constants
@@ -83,7 +83,7 @@ pub record Fits (t : Output) (bytes k : List ℕ) (p : CountCursor) : Type 0 whe
   pub index : p .index < 65536
 
 -- what the constants and the count keep in a turn
-pub record CountKept (k : List ℕ) (k' : List ℕ) (r : Next) : Type 0 where
+pub record CountKept (k : List ℕ) (k' : List ℕ) (r : CountNext) : Type 0 where
   pub words : length k' ≡ length k
   pub count : r .cursor .constants ≤ 256
   pub space : space (take (r .cursor .constants) k') ≤ 256
@@ -96,7 +96,7 @@ OwnLabel (Labels.labels l) = 2 < l
 OwnLabel (Labels.branches l) = Unit {0}
 
 -- the instruction i counted, whatever stands before and behind it, where neither 10 nor 11 refuses it
-pub record CountedOne (mode : Mode) (i : Instruction) (next : ℕ) (k : List ℕ) (p : CountCursor) (k' : List ℕ) (r : Next) : Type 0 where
+pub record CountedOne (mode : Mode) (i : Instruction) (next : ℕ) (k : List ℕ) (p : CountCursor) (k' : List ℕ) (r : CountNext) : Type 0 where
   pub same : (is : List Instruction) (fault : ℕ) (rest : List ℕ) (b : Standing) → misplaced (role i) b (past rest) ≡ false → unequal (role i) b (p .low .real) ≡ false
       → goesOn mode (i ∷ is) fault rest b k p
       ≡ cond (r .done) (figuresAt (r .number) (r .cursor)) (goesOn mode is fault (past rest) (passed (role i) (p .low .real) b) k' (r .cursor))
@@ -105,6 +105,6 @@ pub record CountedOne (mode : Mode) (i : Instruction) (next : ℕ) (k : List ℕ
   pub turned : OwnLabel (role i) → CountKept k k' r
 
 -- one turn: an instruction that is read is counted; one that a number refuses as it is read has changed nothing
-abbrev pub Taken : Mode → List ℕ → CountCursor → List ℕ → Next → Read (Item Instruction) → Type 0
+abbrev pub Taken : Mode → List ℕ → CountCursor → List ℕ → CountNext → Read (Item Instruction) → Type 0
 Taken mode k p k' r (got x) = CountedOne mode (x .item) (x .next) k p k' r
 Taken mode k p k' r (refused n) = (r ≡ refusing n p) × (k' ≡ k)

@@ -8,7 +8,7 @@ use lib.Dec.{ltb, eqb}
 use Rattle.mir.specs.declared.records.Record.{Record}
 use Rattle.mir.specs.Encode.{encodeAll}
 use Rattle.figures.specs.declared.counting.Count.{Count}
-use Rattle.figures.specs.declared.counting.Part.{Part}
+use Rattle.figures.specs.declared.counting.BlockPart.{BlockPart}
 use Rattle.figures.specs.declared.counting.BlockStep.{BlockStep}
 use Rattle.lowering.specs.Labels.{Role}
 use Rattle.figures.specs.Shelf.{branchOf, counted}
@@ -18,12 +18,12 @@ abbrev pub callsOf : ℕ → ℕ
 callsOf kind = cond (eqb kind 16) 1 0
 
 -- by kind and label: Label 1 opens the block, and the working records directly behind it are the block's
-abbrev pub blockStep : Part → ℕ → ℕ → BlockStep
-blockStep Part.Before kind label =
-    cond (eqb kind 14) (cond (eqb label 1) (record { adds = 2; next = Part.Inside }) (record { adds = 0; next = Part.Before }))
-    (record { adds = 0; next = Part.Before })
-blockStep Part.Inside kind label = cond (ltb kind 14) (record { adds = 1; next = Part.Inside }) (record { adds = 0; next = Part.Behind })
-blockStep Part.Behind kind label = record { adds = 0; next = Part.Behind }
+abbrev pub blockStep : BlockPart → ℕ → ℕ → BlockStep
+blockStep BlockPart.Before kind label =
+    cond (eqb kind 14) (cond (eqb label 1) (record { adds = 2; next = BlockPart.Inside }) (record { adds = 0; next = BlockPart.Before }))
+    (record { adds = 0; next = BlockPart.Before })
+blockStep BlockPart.Inside kind label = cond (ltb kind 14) (record { adds = 1; next = BlockPart.Inside }) (record { adds = 0; next = BlockPart.Behind })
+blockStep BlockPart.Behind kind label = record { adds = 0; next = BlockPart.Behind }
 
 -- bytes of records, no more than the stage has
 pub record Listed (bytes : List ℕ) : Type 0 where

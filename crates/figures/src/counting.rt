@@ -22,7 +22,7 @@ pub struct Count {
 }
 
 // Where a record stands to the block: before its Label 1, directly behind the Label or its working records, or further on.
-pub enum Part {
+pub enum BlockPart {
     Before,
     Inside,
     Behind,
@@ -31,7 +31,7 @@ pub enum Part {
 // How many records of the block a record adds, and where the next one stands.
 pub struct BlockStep {
     pub adds: usize,
-    pub next: Part,
+    pub next: BlockPart,
 }
 
 // 1 for a Branch or BranchIf of the sheet.
@@ -72,39 +72,39 @@ fn calls_of(kind: u8) -> usize
 }
 
 // What a record adds to the block's, and where the next one stands: Label 1 opens the block and stands for the Branch 0 that ends it, too.
-fn block_step(part: Part, kind: u8, label: u8) -> BlockStep
+fn block_step(part: BlockPart, kind: u8, label: u8) -> BlockStep
     ensures { λ r. ⌜ r ≡ blockStep part kind label ⌝ }
 {
     match part {
-        Part::Before => {
+        BlockPart::Before => {
             if kind == LABEL {
                 if label == 1 {
                     return BlockStep {
                         adds: 2,
-                        next: Part::Inside,
+                        next: BlockPart::Inside,
                     };
                 }
             }
             BlockStep {
                 adds: 0,
-                next: Part::Before,
+                next: BlockPart::Before,
             }
         }
-        Part::Inside => {
+        BlockPart::Inside => {
             if kind < LABEL {
                 return BlockStep {
                     adds: 1,
-                    next: Part::Inside,
+                    next: BlockPart::Inside,
                 };
             }
             BlockStep {
                 adds: 0,
-                next: Part::Behind,
+                next: BlockPart::Behind,
             }
         }
-        Part::Behind => BlockStep {
+        BlockPart::Behind => BlockStep {
             adds: 0,
-            next: Part::Behind,
+            next: BlockPart::Behind,
         },
     }
 }
@@ -120,7 +120,7 @@ pub(crate) fn count_records(bytes: &[u8], branches: usize, before: Count) -> Cou
     let mut records = before.records;
     let mut calls = before.calls;
     let mut block = before.block;
-    let mut part = Part::Before;
+    let mut part = BlockPart::Before;
     while at < bytes.len() {
         let n = byte(bytes, at);
         let kind = byte(bytes, at + 2);

@@ -28,16 +28,16 @@ pub struct CountCursor {
 }
 
 // Where it stands next; done: the number refuses the instruction.
-pub struct Next {
+pub struct CountNext {
     pub done: bool,
     pub number: u8,
     pub cursor: CountCursor,
 }
 
-fn refused(number: u8, cursor: CountCursor) -> Next
+fn refused(number: u8, cursor: CountCursor) -> CountNext
     ensures { λ r. ⌜ r ≡ refusing number cursor ⌝ }
 {
-    Next {
+    CountNext {
         done: true,
         number: number,
         cursor: cursor,
@@ -52,7 +52,7 @@ fn finish(
     next: usize,
     p: CountCursor,
     constants: &mut [u64],
-) -> Next
+) -> CountNext
     requires { ⌜ Fits t (now bytes) (now constants) p ⌝ }
     requires { ⌜ branches ≤ 1 ⌝ }
     ensures { λ r. ⌜ Finished t (now (bytes .entry)) branches next (now (constants .entry)) p (now (constants .exit)) r ⌝ }
@@ -74,7 +74,7 @@ fn finish(
     };
     let words = added.words;
     put_words(constants, before, &words[..more]);
-    Next {
+    CountNext {
         done: false,
         number: 0,
         cursor: cursor,
@@ -89,7 +89,7 @@ fn lower_one(
     p: CountCursor,
     stage: &mut [u8],
     constants: &mut [u64],
-) -> Next
+) -> CountNext
     requires { ⌜ Ready (now stage) (now constants) p ⌝ }
     requires { ⌜ p .index < 65536 ⌝ }
     ensures { λ r. ⌜ CountedOne mode instruction next (now (constants .entry)) p (now (constants .exit)) r ⌝ }
@@ -114,7 +114,7 @@ pub(crate) fn one(
     p: CountCursor,
     stage: &mut [u8],
     constants: &mut [u64],
-) -> Next
+) -> CountNext
     requires { ⌜ Ready (now stage) (now constants) p ⌝ }
     requires { ⌜ p .index < 65536 ⌝ }
     ensures { λ r. ⌜ Taken mode (now (constants .entry)) p (now (constants .exit)) r (instructionAt own (now (sheet .entry)) (p .at)) ⌝ }

@@ -46,7 +46,7 @@ obeys before r rs e =
     }
 
 -- the rules are kept from some record on, with the records that stand before it; n Labels 1 stand in the listing
-pub record Kept (n : ℕ) (rs : List Record) : Type 0 where
+pub record RulesKept (n : ℕ) (rs : List Record) : Type 0 where
   pub before : List Record
   pub none : breachFrom before rs ≡ length rs
   pub ones : tally (isLabel 1) before + tally (isLabel 1) rs ≡ n
@@ -68,24 +68,24 @@ first-by before r rs false t e =
 first : (before : List Record) (r : Record) (rs : List Record) → breachFrom before (r ∷ rs) ≡ suc (length rs) → First before r rs
 first before r rs e = first-by before r rs _ refl e
 
-pub kept-tail : {n : ℕ} {r : Record} {rs : List Record} → Kept n (r ∷ rs) → Kept n rs
+pub kept-tail : {n : ℕ} {r : Record} {rs : List Record} → RulesKept n (r ∷ rs) → RulesKept n rs
 unfolding tally
 kept-tail {n} {r} {rs} k =
     let e = k .ones in
     record { before = r ∷ k .before; none = first (k .before) r rs (k .none) .rest; ones = omega (arith, e) }
 
-kept-at : (n l : ℕ) (r : Record) (rs : List Record) (b : Bool) → isLabel l r ≡ b → Kept n (r ∷ rs) → Kept n (seek l rs)
-    → Kept n (seek l (r ∷ rs))
+kept-at : (n l : ℕ) (r : Record) (rs : List Record) (b : Bool) → isLabel l r ≡ b → RulesKept n (r ∷ rs) → RulesKept n (seek l rs)
+    → RulesKept n (seek l (r ∷ rs))
 unfolding seek
 kept-at n l r rs true e k h = simp e k
 kept-at n l r rs false e k h = simp e h
 
-pub kept-seek : (n l : ℕ) (rs : List Record) → Kept n rs → Kept n (seek l rs)
+pub kept-seek : (n l : ℕ) (rs : List Record) → RulesKept n rs → RulesKept n (seek l rs)
 unfolding seek
 kept-seek n l [] k = k
 kept-seek n l (r ∷ rs) k = kept-at n l r rs _ refl k (kept-seek n l rs (kept-tail k))
 
-pub kept-drop : (n i : ℕ) (rs : List Record) → Kept n rs → Kept n (drop i rs)
+pub kept-drop : (n i : ℕ) (rs : List Record) → RulesKept n rs → RulesKept n (drop i rs)
 kept-drop n zero rs k = k
 kept-drop n (suc i) [] k = k
 kept-drop n (suc i) (r ∷ rs) k = kept-drop n i rs (kept-tail k)
@@ -100,7 +100,7 @@ somewhere zero zero n e h = never (sym h) refl
 somewhere zero (suc b) n e h = omega (arith, e)
 somewhere (suc a) b n e h = omega (arith, e)
 
-pub kept-call : {n l : ℕ} {rs : List Record} → Kept n (Record.Call l ∷ rs) → Callable n l
+pub kept-call : {n l : ℕ} {rs : List Record} → RulesKept n (Record.Call l ∷ rs) → Callable n l
 unfolding barred noLabelToCall tally isLabel
 kept-call {n} {l} {rs} k =
     let t = first (k .before) (Record.Call l) rs (k .none) .test in

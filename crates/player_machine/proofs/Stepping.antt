@@ -17,7 +17,7 @@ use Rattle.player_machine.specs.Count.{most}
 use Rattle.player_machine.specs.Step.{PlayState, before, labelFrom, then, end, follows, written, step, after, reached, steps, PlaysBySteps}
 use Rattle.player_machine.proofs.Seeking.{seek-play}
 use Rattle.player_machine.proofs.Bound.{bound-drop}
-use Rattle.player_machine.proofs.Keeping.{Kept, kept-tail, kept-seek, kept-drop, kept-call, worked, Shaped, shaped}
+use Rattle.player_machine.proofs.Keeping.{RulesKept, kept-tail, kept-seek, kept-drop, kept-call, worked, Shaped, shaped}
 
 -- the record at an index is the first of those from it on
 abbrev head? : List Record → Option Record
@@ -164,7 +164,7 @@ module _ (constants : List ℕ) (rs : List Record) where
       seek-shorter false h = omega (arith, h)
 
   module _ (ones : ℕ) (block-shape : 0 < ones → Shaped rs) where
-    same : (g i x : ℕ) (rest : List Record) (σ : Store) → length rest ≤ g → drop i rs ≡ rest → Kept ones rest
+    same : (g i x : ℕ) (rest : List Record) (σ : Store) → length rest ≤ g → drop i rs ≡ rest → RulesKept ones rest
         → from (x + left rest σ .played) i none σ ≡ left rest σ
     unfolding play written follows put exec ticks
     same zero i x [] σ h e k = stands-end _ i none σ e

@@ -4,12 +4,12 @@ use native.Mathlib.Omega.{arith}
 use Prim.Native.Nat.{_-_}
 use mathlib.Core.Path.{_≡_, refl}
 use lib.ListN.{length}
-use Rattle.assembly.proofs.Stepping.{Kept, at-start, inside, further, no-line, all-lines, refused-here, next-line}
+use Rattle.assembly.proofs.Stepping.{MadeSoFar, at-start, inside, further, no-line, all-lines, refused-here, next-line}
 use Rattle.assembly.proofs.making.make.Statement.{statement}
 use Rattle.assembly.proofs.making.make.Tie as tie
 
 abbrev Inv-loop : tie.InvT-loop
-Inv-loop out₀ t s₀ at₀ k₀ out s at k = (length out ≡ length out₀) × Kept t s out at k
+Inv-loop out₀ t s₀ at₀ k₀ out s at k = (length out ≡ length out₀) × MadeSoFar t s out at k
 
 abbrev μ-loop : tie.MeasureT-loop
 μ-loop out₀ t s₀ at₀ k₀ out s at k = length t - at
