@@ -19,7 +19,7 @@ use Rattle.sheet.specs.Setup.{isConstant, isBroken, oneMore, constantsFrom, con
 use Rattle.sheet.proofs.Counting as Counting
 use Rattle.assembly.specs.Lines.{constantLine}
 use Rattle.assembly.specs.SheetText.{constantLines}
-use Rattle.assembly.specs.Assembled.{Sheet, grown, withLine}
+use Rattle.assembly.specs.Assembled.{Draft, grown, withLine}
 use Rattle.assembly.specs.Assembled as Spec
 use Rattle.assembly.proofs.Pieces.{t-true, true-t}
 use Rattle.assembly.proofs.Saying.{Says, retold, Onward, stay, _▹_, onward-as, by-line}

@@ -12,7 +12,7 @@ use Rattle.mir.specs.Encode.{recordOf}
 use Rattle.mir.specs.Length.{lengthOf}
 use Rattle.mir.proofs.Tables.{and-left, and-right}
 use Rattle.text.specs.Text.{ascii}
-use Rattle.assembly.specs.Assembled.{Part, mode, real, constantLine, instruction, Head, heads, nothing}
+use Rattle.assembly.specs.Assembled.{LineKind, mode, real, constantLine, instruction, FirstWord, heads, nothing}
 use Rattle.assembly.specs.Assembled.{Reading, begun, takingAll, noMore}
 use Rattle.assembly.specs.Making.{partOf}
 use Rattle.assembly.proofs.Pieces.{true-t}
@@ -46,7 +46,7 @@ part-at n =
     sym (List·getD-map (λ h. h .part) heads n nothing) ∙ ap (λ l. getD l n instruction) parts ∙ by-number n (length heads - 3)
 
 -- at most five bytes before the fields, at most five words behind the first
-abbrev small : Head → Bool
+abbrev small : FirstWord → Bool
 small h = leb (length (h .start)) 5 && leb (length (h .sorts)) 5
 
 all-small : map small heads ≡ replicate (length heads) true

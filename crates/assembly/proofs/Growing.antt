@@ -18,16 +18,16 @@ use Rattle.mir.specs.Field.{u16At, placeAt}
 use Rattle.mir.specs.Decode.{Item, readAt}
 use Rattle.mir.proofs.Passing.{then, stopped}
 use Rattle.sheet.specs.Instruction.{instructionFrom, instructionAt}
-use Rattle.assembly.specs.Assembled.{Part, mode, real, constantLine, instruction, Sheet, marked, grown, isGot}
+use Rattle.assembly.specs.Assembled.{LineKind, mode, real, constantLine, instruction, Draft, marked, grown, isGot}
 use Rattle.assembly.specs.Assembled.{withPlace, withLine, opened}
 use Rattle.assembly.specs.declared.making.Made.{Made}
 use Rattle.assembly.specs.Making.{partOf, placeBit, sheetOf, asSheet, refusal, Room, Makes, withRead}
 use Rattle.assembly.proofs.Marking.{front-marked}
 
-pub makes-as : {a b : Read Sheet} {m : Made} {out : List ℕ} → a ≡ b → Makes a m out → Makes b m out
+pub makes-as : {a b : Read Draft} {m : Made} {out : List ℕ} → a ≡ b → Makes a m out → Makes b m out
 makes-as {a} {b} {m} {out} e p = subst (λ x. Makes x m out) e p
 
-pub refusing : (n : ℕ) {a : Read Sheet} {m : Made} {out : List ℕ} → m ≡ refusal (suc n) → refused (suc n) ≡ a → Makes a m out
+pub refusing : (n : ℕ) {a : Read Draft} {m : Made} {out : List ℕ} → m ≡ refusal (suc n) → refused (suc n) ≡ a → Makes a m out
 refusing n {a} {m} {out} e f =
     record {
       same =
@@ -48,7 +48,7 @@ module _ (s : Made) (out : List ℕ) (room : Room s out) where
   sized = length-take-le (s .len) out (omega (arith, room .0, room .1))
 
   module _ (count stage : ℕ) (b : List ℕ) where
-    larger : Sheet
+    larger : Draft
     larger = record { bytes = take (s .len) out ++ b; count = count; stage = stage }
 
     pub full : 16384 < s .len + length b → refused 2 ≡ grown (sheetOf s out) count stage b
@@ -71,8 +71,8 @@ module _ (s : Made) (out : List ℕ) (room : Room s out) where
         }
 
 -- a real place more
-module _ (s : Sheet) (b : List ℕ) where
-  marking : Read ℕ → Read Sheet
+module _ (s : Draft) (b : List ℕ) where
+  marking : Read ℕ → Read Draft
   marking r = andThen r (λ i. got (record { bytes = marked (s .bytes) i; count = 0; stage = 1 }))
 
   by-place : (p : Read Loc) → withPlace s p ≡ marking (placeBit p)
@@ -134,7 +134,7 @@ module _ (s : Sheet) (b : List ℕ) where
         sym (ap (λ y. refuse (not (isGot y)) 3 (grown s (s .count) 3 b)) (p .found))
 
 -- by the number of the first word
-module _ (s : Sheet) (b : List ℕ) {n : ℕ} where
+module _ (s : Draft) (b : List ℕ) {n : ℕ} where
   pub no-second-mode : n ≡ 0 → refused 3 ≡ withLine s (partOf n) b
   unfolding withLine
   no-second-mode e = sym (ap (λ n. withLine s (partOf n) b) e)
@@ -177,7 +177,7 @@ mode-put n l b {o} {o'} z h k e w f =
     })
 
 -- a line that was read
-module _ (s : Sheet) (p : Part) (b : List ℕ) {m : Made} {out : List ℕ} where
+module _ (s : Draft) (p : LineKind) (b : List ℕ) {m : Made} {out : List ℕ} where
   pub read-first : s .stage ≡ 0 → Makes (opened p b) m out → Makes (withRead s p b) m out
   read-first e h = makes-as (sym (ap (λ t. cond t (opened p b) (withLine s p b)) (eq-eqb (s .stage) 0 e))) h
 

@@ -11,7 +11,7 @@ use Rattle.mir.proofs.Passing.{then, got-same, stopped}
 use Rattle.text.specs.declared.line.Line.{Line}
 use Rattle.text.specs.Line.{emptyLine, addAll, Holds}
 use Rattle.text.proofs.Whole.{whole}
-use Rattle.assembly.specs.Assembled.{Sort, aRegister, aClass, anIndex, aByte, aMode, bits, Part, Reading}
+use Rattle.assembly.specs.Assembled.{Sort, aRegister, aClass, anIndex, aByte, aMode, bits, LineKind, Reading}
 use Rattle.assembly.specs.Assembled.{numberFrom, registerWords, classWords, indexWords, modeWords, areDigits, pair, bitsOf, wordBytes}
 use Rattle.assembly.specs.Assembled.{onto, taking, takingAll, noMore, begun, heads, nothing, lineOf}
 use Rattle.assembly.specs.declared.reading.LineRead.{LineRead}
@@ -50,7 +50,7 @@ word-short bits w =
     tested (not (eqb (length w) 16 && areDigits w)) (pair w 14) (pair w 12) (pair w 10) (pair w 8) (pair w 6)
     (pair w 4) (pair w 2) (pair w 0)
 
-onto-short : (m : ℕ) (p : Part) (s : List ℕ) (ws : List (List ℕ)) (x : Read (List ℕ)) → length s ≤ m → Bytes 8 x
+onto-short : (m : ℕ) (p : LineKind) (s : List ℕ) (ws : List (List ℕ)) (x : Read (List ℕ)) → length s ≤ m → Bytes 8 x
     → Short (m + 8) (onto p s ws x)
 onto-short m p s ws (got b) h k = simp length-append (omega (arith, h, k))
 onto-short m p s ws (refused n) h k = tt

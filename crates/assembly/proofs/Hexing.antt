@@ -12,7 +12,7 @@ use Rattle.mir.specs.Read.{Read, got, refused, refuse, andThen}
 use Rattle.mir.proofs.Tables.{and-left, and-right}
 use Rattle.text.specs.Text.{ascii, hexDigit, hexIn, hex}
 use Rattle.assembly.specs.Lines.{constantLine}
-use Rattle.assembly.specs.Assembled.{digit, isDigit, areDigits, pair, bitsOf, Sort, bits, wordBytes, Head, heads}
+use Rattle.assembly.specs.Assembled.{digit, isDigit, areDigits, pair, bitsOf, Sort, bits, wordBytes, FirstWord, heads}
 use Rattle.assembly.specs.Assembled as Spec
 use Rattle.assembly.proofs.Pieces.{t-true, true-t, both, over, isWord, passing, passes}
 use Rattle.assembly.proofs.Saying.{Fields, none, and, Says, says, retold}

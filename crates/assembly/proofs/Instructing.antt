@@ -14,21 +14,17 @@ use Rattle.mir.specs.Read.{Read, got, refused, refuse, andThen}
 use Rattle.mir.specs.Field.{u16At, takesKind, headFrom}
 use Rattle.mir.specs.Decode.{decoded, ahead}
 use Rattle.mir.proofs.Passing.{either}
-use Rattle.mir.proofs.Heads.{Sized, Headed, headed}
+use Rattle.mir.proofs.Heads.{Sized, Headed}
+use Rattle.mir.proofs.IfRead.{IfRead, read, told, told-so, if-read, parted, head}
 use Rattle.mir.proofs.Decoding.{Bytes, items, fault, decoded-none, decoded-torn, decoded-got}
-use Rattle.sheet.specs.Instruction.{fieldsFrom, instructionFrom, uniFrom, biFrom, movFrom, loadFrom, saveFrom, loadConstFrom, fusedFrom, ifElseFrom, loadMathFrom, loadConstMathFrom, labelFrom, branchFrom, branchIfFrom}
+use Rattle.mir.specs.Kinds.{uniFrom, biFrom, movFrom, loadFrom, saveFrom, loadConstFrom, fusedFrom, ifElseFrom}
+use Rattle.sheet.specs.Instruction.{fieldsFrom, instructionFrom, loadMathFrom, loadConstMathFrom, labelFrom, branchFrom, branchIfFrom}
 use Rattle.sheet.proofs.Reading.{whole}
 use Rattle.assembly.specs.Lines.{instructionLine}
 use Rattle.assembly.specs.SheetText.{instructionLines}
-use Rattle.assembly.specs.Assembled.{instruction, Sheet, grown, isGot, withLine}
+use Rattle.assembly.specs.Assembled.{instruction, Draft, grown, isGot, withLine}
 use Rattle.assembly.proofs.Saying.{Says, Onward, stay, _▹_, onward-as, by-line}
-use Rattle.assembly.proofs.Outcomes.{Outcome, read, told, tested, parted, outcome-of}
 use Rattle.assembly.proofs.Spelling.{SaysInstruction, Reads, Kind, nop, uni, bi, mov, load, save, load-const, fused, if-else, load-math, load-const-math, label, branch, branch-if}
-
--- what is read is what was read
-told-so : {A : Type 0} {P : A → Type 0} {x : Read A} → Outcome P x → Outcome (λ a. P a × (x ≡ got a)) x
-told-so (read p) = read (p, refl)
-told-so told = told
 
 module _ {n : ℕ} {s : List ℕ} where
   choose : (kind j : ℕ) {x' x y' y : Read Instruction} → (kind ≡ j → Reads n s x' x) → Reads n s y' y
@@ -51,14 +47,14 @@ module _ (s : List ℕ) (kind : ℕ) (bytes : Bytes s) (h : Headed (takesKind fa
   unfolding fieldsFrom lengthOf lengths
   fields count most =
       choose kind 0 (ofKind 0 4 (λ s. got Instruction.Nop) refl nop)
-      (choose kind 1 (ofKind 1 7 uniFrom refl uni)
-      (choose kind 2 (ofKind 2 8 biFrom refl bi)
-      (choose kind 3 (ofKind 3 6 movFrom refl mov)
-      (choose kind 4 (ofKind 4 8 loadFrom refl load)
-      (choose kind 5 (ofKind 5 8 saveFrom refl save)
-      (choose kind 6 (ofKind 6 7 (loadConstFrom count) refl (load-const count most))
-      (choose kind 7 (ofKind 7 9 fusedFrom refl fused)
-      (choose kind 8 (ofKind 8 10 ifElseFrom refl if-else)
+      (choose kind 1 (ofKind 1 7 (uniFrom false Instruction.Uni) refl uni)
+      (choose kind 2 (ofKind 2 8 (biFrom false Instruction.Bi) refl bi)
+      (choose kind 3 (ofKind 3 6 (movFrom false Instruction.Mov) refl mov)
+      (choose kind 4 (ofKind 4 8 (loadFrom false Instruction.Load) refl load)
+      (choose kind 5 (ofKind 5 8 (saveFrom false Instruction.Save) refl save)
+      (choose kind 6 (ofKind 6 7 (loadConstFrom false Instruction.LoadConst count) refl (load-const count most))
+      (choose kind 7 (ofKind 7 9 (fusedFrom false Instruction.Fused) refl fused)
+      (choose kind 8 (ofKind 8 10 (ifElseFrom false Instruction.IfElse) refl if-else)
       (choose kind 9 (ofKind 9 10 loadMathFrom refl load-math)
       (choose kind 10 (ofKind 10 9 (loadConstMathFrom count) refl (load-const-math count most))
       (choose kind 14 (ofKind 14 5 labelFrom refl label)
@@ -77,27 +73,16 @@ front : (s : List ℕ) (n i : ℕ) → i + 1 < n → u16At (take n s) i ≡ u16A
 unfolding u16At
 front s n i h = let a = getD-take n s i 0 (omega arith) in let b = getD-take n s (i + 1) 0 h in λ j. a j + 256 * b j
 
-head-outcome : (takes : ℕ → Bool) (s : List ℕ) → Outcome (Headed takes s) (headFrom takes s)
-unfolding headFrom
-head-outcome takes s =
-    outcome-of (λ kind p. headed takes s kind (p .1))
-    (told-so {P = λ k. Unit {0}}
-    (tested (ltb (length s) 4) 0
-    (λ e. tested (ltb (u16At s 0) 4) 0
-    (λ e. tested (ltb (length s) (u16At s 0)) 0
-    (λ e. tested (not (takes (u16At s 2))) 1
-    (λ e. tested (not (eqb (lengthOf (u16At s 2)) (u16At s 0))) 0 (λ e. read tt)))))))
-
 -- an instruction that is read
 record Good (count : ℕ) (s : List ℕ) (i : Instruction) : Type 0 where
   spelled : SaysInstruction (u16At s 0) s i
   again : instructionFrom count (take (u16At s 0) s) ≡ got i
   sized : Sized s
 
-good : (count : ℕ) (s : List ℕ) → count ≤ 251 → Bytes s → Outcome (Good count s) (instructionFrom count s)
+good : (count : ℕ) (s : List ℕ) → count ≤ 251 → Bytes s → IfRead (Good count s) (instructionFrom count s)
 unfolding instructionFrom
 good count s most bytes =
-    parted (head-outcome (takesKind false) s)
+    parted (head (takesKind false) s)
     (λ kind h.
     let r = fields s kind bytes h count most in
     let n = u16At s 0 in
@@ -105,7 +90,7 @@ good count s most bytes =
     let e : headFrom (takesKind false) (take n s) ≡ got kind =
     head-again (takesKind false) (take n s) n kind (length-take-le n s (z .inside)) (front s n 0 (omega (arith, z .least)))
     (front s n 2 (omega (arith, z .least)) ∙ sym (h .same)) (z .least) (h .taken) (ap lengthOf (h .same) ∙ z .rule) in
-    outcome-of (λ i p.
+    if-read (λ i p.
     record {
       spelled = p .0;
       again = ap (λ x. andThen x (λ kind. fieldsFrom count kind (take n s))) e ∙ r .local ∙ p .1;
@@ -152,7 +137,7 @@ module _ (s : List ℕ) (count : ℕ) (most : count ≤ 251) (long : length s �
   -- the instruction at a position, and those behind it
   next : (at stage : ℕ) → at < length s → 1 ≤ stage → fault reader (drop at s) ≡ 0
       → ((m : ℕ) → at < m → m ≤ length s → fault reader (drop m s) ≡ 0 → Reached s count m 3 (instructionLines (items reader (drop m s))))
-      → (x : Read Instruction) → reader (drop at s) ≡ x → Outcome (Good count (drop at s)) x
+      → (x : Read Instruction) → reader (drop at s) ≡ x → IfRead (Good count (drop at s)) x
       → Reached s count at stage (instructionLines (items reader (drop at s)))
   unfolding instructionLines
   next at stage h k e more (got i) f (read g) =

@@ -9,8 +9,8 @@ use Rattle.mir.specs.Read.{Read, got, refused, andThen}
 use Rattle.text.specs.declared.line.Line.{Line}
 use Rattle.text.specs.Line.{emptyLine, addAll}
 use Rattle.assembly.specs.Assembled.{Reading, pieces, numberFrom, heads, nothing, lineOf}
-use Rattle.assembly.specs.declared.reading.Taken.{Taken}
-use Rattle.assembly.specs.Reading.{before, asTaken, wordsPut}
+use Rattle.assembly.specs.declared.reading.WordTaken.{WordTaken}
+use Rattle.assembly.specs.Reading.{before, asWordTaken, wordsPut}
 use Rattle.assembly.specs.Making.{Told, partOf, tagged, asLine, told}
 use Rattle.assembly.proofs.Cutting.{cutting}
 use Rattle.assembly.proofs.Wording.{words-put}
@@ -22,7 +22,7 @@ tag : (ok : Bool) (n : ℕ) (l : Line)
 tag true n l = refl
 tag false n l = refl
 
-pub tagging : (n : ℕ) (t : Taken) → asLine (record { ok = t .ok; head = n; line = t .line }) ≡ andThen (asTaken t) (tagged (partOf n))
+pub tagging : (n : ℕ) (t : WordTaken) → asLine (record { ok = t .ok; head = n; line = t .line }) ≡ andThen (asWordTaken t) (tagged (partOf n))
 tagging n t = tag (t .ok) n (t .line)
 
 abbrev pub Said : Read Reading → Read Told

@@ -18,7 +18,7 @@ use Rattle.lowering.specs.Realness.{bitAt}
 use Rattle.text.specs.Text.{ascii}
 use Rattle.assembly.specs.Lines.{realPlace, realLine}
 use Rattle.assembly.specs.SheetText.{realLines}
-use Rattle.assembly.specs.Assembled.{aClass, anIndex, heads, Sheet, bitOf, marked, withPlace, withLine}
+use Rattle.assembly.specs.Assembled.{aClass, anIndex, heads, Draft, bitOf, marked, withPlace, withLine}
 use Rattle.assembly.specs.Assembled as Spec
 use Rattle.assembly.specs.Making.{withBit}
 use Rattle.assembly.proofs.Marking.{parity}
@@ -171,7 +171,7 @@ read-place p h = place-back (class p ∷ index p ∷ 0 ∷ []) 0 p refl (omega a
 
 module _ (a b c d e : ℕ) (ps : List ℕ) (bytes : Bytes ps) (size : length ps ≡ 64) where
   -- the header with the first i bits
-  abbrev header : ℕ → Sheet
+  abbrev header : ℕ → Draft
   header i = record { bytes = a ∷ b ∷ c ∷ d ∷ e ∷ upTo i ps; count = 0; stage = 1 }
 
   one : (i : ℕ) → i < 512 → bitAt ps i ≡ true → Onward (header i) (realLine i) (header (suc i))

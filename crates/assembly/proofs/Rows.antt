@@ -13,18 +13,18 @@ use Rattle.mir.specs.Operation.{uniNumber, binNumber, arithNumber, fusedNumber}
 use Rattle.mir.specs.Encode.{recordOf}
 use Rattle.text.specs.Text.{ascii, uniName, binName, fusedName}
 use Rattle.assembly.specs.Lines.{mathName}
-use Rattle.assembly.specs.Assembled.{Sort, aRegister, aClass, anIndex, instruction, Head, nothing, heads}
+use Rattle.assembly.specs.Assembled.{Sort, aRegister, aClass, anIndex, instruction, FirstWord, nothing, heads}
 use Rattle.assembly.proofs.Pieces.{t-true}
 
-pub record Row (n : ℕ) (h : Head) : Type 0 where
+pub record Row (n : ℕ) (h : FirstWord) : Type 0 where
   pub low : n < 59
   pub same : getD heads n nothing ≡ h
 
-pub row : (n : ℕ) (h : Head) → T (ltb n 59) → getD heads n nothing ≡ h → Row n h
+pub row : (n : ℕ) (h : FirstWord) → T (ltb n 59) → getD heads n nothing ≡ h → Row n h
 row n h t e = record { low = ltb-true n 59 (t-true (ltb n 59) t); same = e }
 
 -- an instruction's row
-abbrev pub ofOp : List ℕ → ℕ → List ℕ → List Sort → Head
+abbrev pub ofOp : List ℕ → ℕ → List ℕ → List Sort → FirstWord
 ofOp name kind ops sorts = record { word = name; part = instruction; start = recordOf kind ops; sorts = sorts }
 
 pub uni-row : (op : UniOp) → Row (4 + uniNumber op) (ofOp (uniName op) 1 (uniNumber op ∷ []) (aRegister ∷ aRegister ∷ []))

@@ -8,7 +8,7 @@ use borrow.Author.Tests.{ne-eqb}
 use lib.Dec.{T, eqb}
 use lib.ListN.{length, getD}
 use Rattle.mir.specs.Read.{Read, got, refused, andThen}
-use Rattle.assembly.specs.Assembled.{numberFrom, wordBytes, Sort, Part, Head, nothing, heads, Reading, onto, taking, takingAll, noMore, begun, lineOf, pieces, Sheet, withLine, firstLine, stepped, afterLine, assembledFrom}
+use Rattle.assembly.specs.Assembled.{numberFrom, wordBytes, Sort, LineKind, FirstWord, nothing, heads, Reading, onto, taking, takingAll, noMore, begun, lineOf, pieces, Draft, withLine, firstLine, stepped, afterLine, assembledFrom}
 use Rattle.assembly.proofs.Pieces.{isWord, areWords, tails, split, first, both}
 use Rattle.assembly.proofs.Words.{Stands, head-word}
 
@@ -23,7 +23,7 @@ worded : {ks : List Sort} {ws : List (List ℕ)} {bs : List ℕ} → Fields ks w
 worded none = tt
 worded (and {w} {ws} e t f) = both (isWord w) (areWords ws) t (worded f)
 
-taken : {ks : List Sort} {ws : List (List ℕ)} {bs : List ℕ} (part : Part) (start : List ℕ) → Fields ks ws bs
+taken : {ks : List Sort} {ws : List (List ℕ)} {bs : List ℕ} (part : LineKind) (start : List ℕ) → Fields ks ws bs
     → takingAll ks (got (record { part = part; bytes = start; words = ws })) ≡ got (record { part = part; bytes = start ++ bs; words = [] })
 unfolding taking
 taken part start none = ap (λ b. got (record { part = part; bytes = b; words = [] })) (sym (append-nil start))
@@ -33,12 +33,12 @@ taken part start (and {k} {w} {b} {ks} {ws} {bs} e t f) =
     ∙ ap (λ b. got (record { part = part; bytes = b; words = [] })) (append-assoc start b bs)
 
 -- a line with its line feed: where it is cut, and what is read
-pub record Says (text : List ℕ) (part : Part) (bytes : List ℕ) : Type 0 where
+pub record Says (text : List ℕ) (part : LineKind) (bytes : List ℕ) : Type 0 where
   pub content : List ℕ
   pub cuts : (s : List ℕ) → pieces 10 (text ++ s) ≡ content ∷ pieces 10 s
   pub said : lineOf (pieces 32 content) ≡ got (record { part = part; bytes = bytes; words = [] })
 
-module _ (n : ℕ) (h : Head) (l : n < 59) (e : getD heads n nothing ≡ h) where
+module _ (n : ℕ) (h : FirstWord) (l : n < 59) (e : getD heads n nothing ≡ h) where
   read : (ws : List (List ℕ)) (bs : List ℕ) → Fields (h .sorts) ws bs
       → lineOf (h .word ∷ ws) ≡ got (record { part = h .part; bytes = h .start ++ bs; words = [] })
   unfolding lineOf
@@ -59,19 +59,19 @@ module _ (n : ℕ) (h : Head) (l : n < 59) (e : getD heads n nothing ≡ h) wher
         said = ap lineOf (split (h .word) ws t u) ∙ read ws bs f;
       }
 
-pub retold : {t u : List ℕ} {part : Part} {a b : List ℕ} → t ≡ u → a ≡ b → Says t part a → Says u part b
+pub retold : {t u : List ℕ} {part : LineKind} {a b : List ℕ} → t ≡ u → a ≡ b → Says t part a → Says u part b
 retold {t} {u} {part} {a} {b} e f s = subst (λ x. Says u part x) f (subst (λ x. Says x part a) e s)
 
 -- a sheet goes on to another by the lines of a text
-pub record Onward (a : Sheet) (text : List ℕ) (b : Sheet) : Type 0 where
+pub record Onward (a : Draft) (text : List ℕ) (b : Draft) : Type 0 where
   pub lines : ℕ
   pub goes : (n : ℕ) (rest : List ℕ) → assembledFrom n a (pieces 10 (text ++ rest)) ≡ assembledFrom (lines + n) b (pieces 10 rest)
 
-pub stay : {a : Sheet} → Onward a [] a
+pub stay : {a : Draft} → Onward a [] a
 stay {a} = record { lines = 0; goes = λ n rest. let z : n ≡ 0 + n = omega arith in ap (λ n. assembledFrom n a (pieces 10 rest)) z }
 
 infixl 30 _▹_
-pub _▹_ : {a b c : Sheet} {t u : List ℕ} → Onward a t b → Onward b u c → Onward a (t ++ u) c
+pub _▹_ : {a b c : Draft} {t u : List ℕ} → Onward a t b → Onward b u c → Onward a (t ++ u) c
 _▹_ {a} {b} {c} {t} {u} p q =
     record {
       lines = q .lines + p .lines;
@@ -83,11 +83,11 @@ _▹_ {a} {b} {c} {t} {u} p q =
           ∙ ap (λ n. assembledFrom n c (pieces 10 rest)) z;
     }
 
-pub onward-as : {a b b' : Sheet} {t t' : List ℕ} → t ≡ t' → b ≡ b' → Onward a t b → Onward a t' b'
+pub onward-as : {a b b' : Draft} {t t' : List ℕ} → t ≡ t' → b ≡ b' → Onward a t b → Onward a t' b'
 onward-as {a} {b} {b'} {t} {t'} e f p = subst (λ x. Onward a t' x) f (subst (λ x. Onward a x b) e p)
 
 -- by one line
-pub by-line : {a b : Sheet} {text bytes : List ℕ} {part : Part} → Says text part bytes → 1 ≤ a .stage → withLine a part bytes ≡ got b → Onward a text b
+pub by-line : {a b : Draft} {text bytes : List ℕ} {part : LineKind} → Says text part bytes → 1 ≤ a .stage → withLine a part bytes ≡ got b → Onward a text b
 unfolding assembledFrom stepped
 by-line {a} {b} {text} {bytes} {part} p h e =
     let z : eqb (a .stage) 0 ≡ false = ne-eqb (a .stage) 0 (λ k. omega (arith, k, h)) in
@@ -103,7 +103,7 @@ by-line {a} {b} {text} {bytes} {part} p h e =
     }
 
 -- by the first line
-pub by-first : {a b : Sheet} {text bytes : List ℕ} {part : Part} → Says text part bytes → a .stage ≡ 0
+pub by-first : {a b : Draft} {text bytes : List ℕ} {part : LineKind} → Says text part bytes → a .stage ≡ 0
     → firstLine (got (record { part = part; bytes = bytes; words = [] })) ≡ got b
     → Onward a text b
 unfolding assembledFrom stepped

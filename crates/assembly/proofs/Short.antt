@@ -5,12 +5,14 @@ use mathlib.Core.Bool.{Bool, true, false}
 use lib.Dec.{ltb, eqb, lit≤}
 use lib.ListN.{length, length-append}
 use Rattle.mir.specs.declared.ops.ArithOp.{ArithOp}
+use Rattle.mir.specs.Operation.{arithNumber}
 use Rattle.mir.specs.declared.records.Loc.{Loc}
 use Rattle.mir.specs.declared.records.Instruction.{Instruction}
 use Rattle.text.specs.Sized.{SizedPlace}
 use Rattle.text.specs.Text.{ascii, decimalIn, decimal, hexIn, register, place}
+use Rattle.text.proofs.Short.{name-short}
 use Rattle.reports.proofs.Brief.{either, number-short, hex-long, digits}
-use Rattle.assembly.specs.Lines.{modeLine, realPlace, realLine, constantLine, named, mathName, instructionLine, reasonText, refusedText}
+use Rattle.assembly.specs.Lines.{modeLine, realPlace, realLine, constantLine, named, mathNames, mathName, instructionLine, reasons, refusedText}
 
 pub mode-short : (stable : Bool) → length (modeLine stable) ≤ 80
 unfolding ascii modeLine
@@ -37,18 +39,15 @@ register-short r =
     let i = number-short r in
     either (eqb r 64) _ _ 21 (lit≤ tt) (either (eqb r 65) _ _ 21 (lit≤ tt) (omega arith))
 
-name-short : (op : ArithOp) → length (mathName op) ≤ 6
+math-short : (op : ArithOp) → length (mathName op) ≤ 6
 unfolding ascii mathName
-name-short ArithOp.Plus = lit≤ tt
-name-short ArithOp.Minus = lit≤ tt
-name-short ArithOp.Times = lit≤ tt
-name-short ArithOp.Divide = lit≤ tt
+math-short op = name-short 6 mathNames tt (arithNumber op)
 
 module _ (op : ArithOp) (dst s1 : ℕ) where
   pub load-short : (loc : Loc) → SizedPlace loc → length (instructionLine (Instruction.LoadMath op dst s1 loc)) ≤ 80
   unfolding ascii instructionLine
   load-short loc h =
-      let n = name-short op in
+      let n = math-short op in
       let r = register-short (named dst) in
       let q = register-short (named s1) in
       let p = place-short loc h in
@@ -57,19 +56,15 @@ module _ (op : ArithOp) (dst s1 : ℕ) where
   pub const-short : (idx : ℕ) → idx < 65536 → length (instructionLine (Instruction.LoadConstMath op dst s1 idx)) ≤ 80
   unfolding ascii instructionLine
   const-short idx h =
-      let n = name-short op in
+      let n = math-short op in
       let r = register-short (named dst) in
       let q = register-short (named s1) in
       let d = digits 4 19 idx (omega arith) in
       simp length-append (omega (arith, n, r, q, d))
 
-reason-short : (r : ℕ) → length (reasonText r) ≤ 13
-unfolding ascii reasonText
-reason-short r = either (eqb r 1) _ _ 13 (lit≤ tt) (either (eqb r 2) _ _ 13 (lit≤ tt) (lit≤ tt))
-
 pub refused-short : (number reason : ℕ) → length (refusedText number reason) ≤ 80
 unfolding ascii refusedText
 refused-short number reason =
     let d = number-short number in
-    let w = reason-short reason in
+    let w = name-short 12 reasons tt reason in
     simp length-append (omega (arith, d, w))

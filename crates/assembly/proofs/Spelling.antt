@@ -16,23 +16,25 @@ use Rattle.mir.specs.Takes.{takesUni, takesBin, takesArith, takesFused}
 use Rattle.mir.specs.Encode.{recordOf, flagByte}
 use Rattle.mir.specs.Read.{Read, got, refused, andThen}
 use Rattle.mir.specs.Field.{byteAt, u16At, placeAt, savePlace, condPlace, savedTo, onStack}
+use Rattle.mir.specs.Kinds.{uniFrom, biFrom, movFrom, loadFrom, saveFrom, loadConstFrom, fusedFrom, ifElseFrom}
+use Rattle.mir.proofs.IfRead.{IfRead, read, tested, parted, if-read, limited}
 use Rattle.mir.proofs.Decoding.{Bytes}
-use Rattle.sheet.specs.Instruction.{uniFrom, biFrom, movFrom, loadFrom, saveFrom, loadConstFrom, fusedFrom, ifElseFrom, loadMathFrom, loadConstMathFrom, ownLabel, labelFrom, branchFrom, branchIfFrom}
+use Rattle.sheet.specs.Instruction.{loadMathFrom, loadConstMathFrom, ownLabel, labelFrom, branchFrom, branchIfFrom}
 use Rattle.text.specs.Text.{ascii, decimal, space, place, registers, recordLine, recordText, workText, uniName, binName, fusedName}
 use Rattle.text.specs.Text as Text
 use Rattle.assembly.specs.Lines.{named, mathName, instructionLine}
-use Rattle.assembly.specs.Assembled.{counting, Sort, aRegister, aClass, anIndex, aByte, instruction, wordBytes, Head, heads}
+use Rattle.assembly.specs.Assembled.{counting, Sort, aRegister, aClass, anIndex, aByte, instruction, wordBytes, FirstWord, heads}
 use Rattle.assembly.proofs.Pieces.{tails}
 use Rattle.assembly.proofs.Words.{register-word, index-word, class-word, className}
 use Rattle.assembly.proofs.Saying.{Fields, none, and, Says, says, retold}
 use Rattle.assembly.proofs.Rows.{Row, row, ofOp, uni-row, bin-row, fused-row, load-row, const-row}
-use Rattle.assembly.proofs.Outcomes.{Outcome, read, told, tested, parted, outcome-of, limited, numbered, PlaceIs, placed, saved, stacked, by-front}
+use Rattle.assembly.proofs.Outcomes.{numbered, PlaceIs, placed, saved, stacked, by-front}
 
 -- words of each sort
 module _ {ks : List Sort} {ws : List (List ℕ)} {bs : List ℕ} where
-  reg : (r : ℕ) → r < 32 → Fields ks ws bs → Fields (aRegister ∷ ks) (Text.register (named r) ∷ ws) ((r ∷ []) ++ bs)
+  reg : (r : ℕ) → r ≤ 31 → Fields ks ws bs → Fields (aRegister ∷ ks) (Text.register (named r) ∷ ws) ((r ∷ []) ++ bs)
   unfolding wordBytes
-  reg r h f = let w = register-word r h in and (ap (λ x. andThen x (λ n. got (n ∷ []))) (w .number)) (w .word) f
+  reg r h f = let w = register-word r (omega arith) in and (ap (λ x. andThen x (λ n. got (n ∷ []))) (w .number)) (w .word) f
 
   pub idx : (i : ℕ) → i < 256 → Fields ks ws bs → Fields (anIndex ∷ ks) (decimal i ∷ ws) ((i ∷ 0 ∷ []) ++ bs)
   unfolding wordBytes
@@ -81,7 +83,7 @@ SaysInstruction n s i = Says (instructionLine i) instruction (take n s)
 
 -- what a reader of a kind's bytes reads: it is spelled, and the record's own bytes are all that is read
 pub record Reads (n : ℕ) (s : List ℕ) (x' x : Read Instruction) : Type 0 where
-  pub outcome : Outcome (SaysInstruction n s) x
+  pub outcome : IfRead (SaysInstruction n s) x
   pub local : x' ≡ x
 
 abbrev Known : ℕ → ℕ → (List ℕ → Read Instruction) → List ℕ → Type 0
@@ -123,15 +125,15 @@ nop =
       local = refl;
     })
 
-pub uni : Kind 7 1 uniFrom
+pub uni : Kind 7 1 (uniFrom false Instruction.Uni)
 unfolding u16At instructionLine recordLine recordText workText recordOf lengthOf lengths uniFrom
 uni =
-    by-front 7 (Known 7 1 uniFrom)
+    by-front 7 (Known 7 1 (uniFrom false Instruction.Uni))
     (λ b0 b1 b2 b3 b4 b5 b6 rest bytes w v.
     record {
       outcome =
           parted (numbered (takesUni false) uniNumber uniOps b4 0 b4 (at-start b4) uni-numbers)
-          (λ op e. limited (b5 ∷ b6 ∷ [])
+          (λ op e. limited 31 (b5 ∷ b6 ∷ [])
           (λ l. let r = uni-row op in
           read (retold refl
           (start 7 1 _ (bytes 0) (bytes 2) (omega arith) (omega arith) w v ∙ ap (λ x. b0 ∷ b1 ∷ b2 ∷ b3 ∷ x ∷ b5 ∷ b6 ∷ []) (sym e))
@@ -139,15 +141,15 @@ uni =
       local = refl;
     })
 
-pub bi : Kind 8 2 biFrom
+pub bi : Kind 8 2 (biFrom false Instruction.Bi)
 unfolding u16At instructionLine recordLine recordText workText recordOf lengthOf lengths biFrom
 bi =
-    by-front 8 (Known 8 2 biFrom)
+    by-front 8 (Known 8 2 (biFrom false Instruction.Bi))
     (λ b0 b1 b2 b3 b4 b5 b6 b7 rest bytes w v.
     record {
       outcome =
           parted (numbered (takesBin false) binNumber binOps b4 0 b4 (at-start b4) bin-numbers)
-          (λ op e. limited (b5 ∷ b6 ∷ b7 ∷ [])
+          (λ op e. limited 31 (b5 ∷ b6 ∷ b7 ∷ [])
           (λ l. let r = bin-row op in
           read (retold refl
           (start 8 2 _ (bytes 0) (bytes 2) (omega arith) (omega arith) w v ∙ ap (λ x. b0 ∷ b1 ∷ b2 ∷ b3 ∷ x ∷ b5 ∷ b6 ∷ b7 ∷ []) (sym e))
@@ -159,14 +161,14 @@ mov-row : Row 39 (ofOp (ascii "Mov") 3 [] (aRegister ∷ aRegister ∷ []))
 unfolding heads recordOf ascii
 mov-row = row 39 _ tt refl
 
-pub mov : Kind 6 3 movFrom
+pub mov : Kind 6 3 (movFrom false Instruction.Mov)
 unfolding u16At instructionLine recordLine recordText workText recordOf lengthOf lengths movFrom
 mov =
-    by-front 6 (Known 6 3 movFrom)
+    by-front 6 (Known 6 3 (movFrom false Instruction.Mov))
     (λ b0 b1 b2 b3 b4 b5 rest bytes w v.
     record {
       outcome =
-          limited (b4 ∷ b5 ∷ [])
+          limited 31 (b4 ∷ b5 ∷ [])
           (λ l. read (retold refl (start 6 3 _ (bytes 0) (bytes 2) (omega arith) (omega arith) w v) (says 39 _ (mov-row .low) (mov-row .same) (reg b4 (l .0) (reg b5 (l .1 .0) none)))));
       local = refl;
     })
@@ -190,14 +192,14 @@ place-bytes q = let k = q .kind in let a = q .at in let z = sym (q .high) in λ 
 same-place : {c lo hi : ℕ} {p q : Loc} → PlaceIs c lo hi p → q ≡ p → PlaceIs c lo hi q
 same-place {c} {lo} {hi} h e = subst (PlaceIs c lo hi) (sym e) h
 
-pub load : Kind 8 4 loadFrom
+pub load : Kind 8 4 (loadFrom false Instruction.Load)
 unfolding u16At instructionLine recordLine recordText workText recordOf lengthOf lengths loadFrom placeAt
 load =
-    by-front 8 (Known 8 4 loadFrom)
+    by-front 8 (Known 8 4 (loadFrom false Instruction.Load))
     (λ b0 b1 b2 b3 b4 b5 b6 b7 rest bytes w v.
     record {
       outcome =
-          limited (b4 ∷ [])
+          limited 31 (b4 ∷ [])
           (λ l. parted (placed b5 b6 b7 (bytes 6))
           (λ p q.
           read (retold (ending (ascii "Load") (named b4 ∷ []) (className p ∷ decimal (index p) ∷ []) (space (place p)) (place-words p))
@@ -206,15 +208,15 @@ load =
       local = refl;
     })
 
-pub save : Kind 8 5 saveFrom
+pub save : Kind 8 5 (saveFrom false Instruction.Save)
 unfolding u16At instructionLine recordLine recordText workText recordOf lengthOf lengths saveFrom savePlace placeAt
 save =
-    by-front 8 (Known 8 5 saveFrom)
+    by-front 8 (Known 8 5 (saveFrom false Instruction.Save))
     (λ b0 b1 b2 b3 b4 b5 b6 b7 rest bytes w v.
     record {
       outcome =
-          limited (b4 ∷ [])
-          (λ l. parted (parted (placed b5 b6 b7 (bytes 6)) (λ p q. outcome-of (λ r e. same-place q e) (saved p)))
+          limited 31 (b4 ∷ [])
+          (λ l. parted (parted (placed b5 b6 b7 (bytes 6)) (λ p q. if-read (λ r e. same-place q e) (saved p)))
           (λ p q.
           read (retold (ending (ascii "Save") (named b4 ∷ []) (className p ∷ decimal (index p) ∷ []) (space (place p)) (place-words p))
           (ap (λ f. 8 ∷ 0 ∷ 5 ∷ 0 ∷ b4 ∷ f) (place-bytes q) ∙ start 8 5 _ (bytes 0) (bytes 2) (omega arith) (omega arith) w v)
@@ -242,14 +244,14 @@ index-is count lo hi h e =
     let w : lo + 256 * hi ≡ lo = omega (arith, z) in
     record { low = omega (arith, k, h); bytes = λ i. w i ∷ z i ∷ [] }
 
-pub load-const : (count : ℕ) → count ≤ 251 → Kind 7 6 (loadConstFrom count)
+pub load-const : (count : ℕ) → count ≤ 251 → Kind 7 6 (loadConstFrom false Instruction.LoadConst count)
 unfolding u16At instructionLine recordLine recordText workText recordOf lengthOf lengths loadConstFrom
 load-const count most =
-    by-front 7 (Known 7 6 (loadConstFrom count))
+    by-front 7 (Known 7 6 (loadConstFrom false Instruction.LoadConst count))
     (λ b0 b1 b2 b3 b4 b5 b6 rest bytes w v.
     record {
       outcome =
-          limited (b4 ∷ [])
+          limited 31 (b4 ∷ [])
           (λ l. tested (leb count (b5 + 256 * b6)) 4
           (λ t. let q = index-is count b5 b6 most t in
           read (retold (ending (ascii "LoadConst") (named b4 ∷ []) (decimal (b5 + 256 * b6) ∷ []) (space (decimal (b5 + 256 * b6))) (index-words (b5 + 256 * b6)))
@@ -258,15 +260,15 @@ load-const count most =
       local = refl;
     })
 
-pub fused : Kind 9 7 fusedFrom
+pub fused : Kind 9 7 (fusedFrom false Instruction.Fused)
 unfolding u16At instructionLine recordLine recordText workText recordOf lengthOf lengths fusedFrom
 fused =
-    by-front 9 (Known 9 7 fusedFrom)
+    by-front 9 (Known 9 7 (fusedFrom false Instruction.Fused))
     (λ b0 b1 b2 b3 b4 b5 b6 b7 b8 rest bytes w v.
     record {
       outcome =
           parted (numbered (takesFused false) fusedNumber fusedOps b4 0 b4 (at-start b4) fused-numbers)
-          (λ op e. limited (b5 ∷ b6 ∷ b7 ∷ b8 ∷ [])
+          (λ op e. limited 31 (b5 ∷ b6 ∷ b7 ∷ b8 ∷ [])
           (λ l. let r = fused-row op in
           read (retold refl
           (start 9 7 _ (bytes 0) (bytes 2) (omega arith) (omega arith) w v ∙ ap (λ x. b0 ∷ b1 ∷ b2 ∷ b3 ∷ x ∷ b5 ∷ b6 ∷ b7 ∷ b8 ∷ []) (sym e))
@@ -274,15 +276,15 @@ fused =
       local = refl;
     })
 
-pub if-else : Kind 10 8 ifElseFrom
+pub if-else : Kind 10 8 (ifElseFrom false Instruction.IfElse)
 unfolding u16At instructionLine recordLine recordText workText recordOf lengthOf lengths ifElseFrom condPlace placeAt
 if-else =
-    by-front 10 (Known 10 8 ifElseFrom)
+    by-front 10 (Known 10 8 (ifElseFrom false Instruction.IfElse))
     (λ b0 b1 b2 b3 b4 b5 b6 b7 b8 b9 rest bytes w v.
     record {
       outcome =
-          limited (b4 ∷ b5 ∷ b6 ∷ [])
-          (λ l. parted (parted (placed b7 b8 b9 (bytes 8)) (λ p q. outcome-of (λ r e. same-place q e) (stacked p)))
+          limited 31 (b4 ∷ b5 ∷ b6 ∷ [])
+          (λ l. parted (parted (placed b7 b8 b9 (bytes 8)) (λ p q. if-read (λ r e. same-place q e) (stacked p)))
           (λ p q.
           read (retold (ending (ascii "IfElse") (named b4 ∷ named b5 ∷ named b6 ∷ []) (className p ∷ decimal (index p) ∷ []) (space (place p)) (place-words p))
           (ap (λ f. 10 ∷ 0 ∷ 8 ∷ 0 ∷ b4 ∷ b5 ∷ b6 ∷ f) (place-bytes q) ∙ start 10 8 _ (bytes 0) (bytes 2) (omega arith) (omega arith) w v)
@@ -299,7 +301,7 @@ load-math =
     record {
       outcome =
           parted (numbered takesArith arithNumber arithOps b4 0 b4 (at-start b4) arith-numbers)
-          (λ op e. limited (b5 ∷ b6 ∷ [])
+          (λ op e. limited 31 (b5 ∷ b6 ∷ [])
           (λ l. parted (placed b7 b8 b9 (bytes 8))
           (λ p q. let r = load-row op in
           read (retold (ending (mathName op ++ ascii "Load") (named b5 ∷ named b6 ∷ []) (className p ∷ decimal (index p) ∷ []) (space (place p)) (place-words p))
@@ -317,7 +319,7 @@ load-const-math count most =
     record {
       outcome =
           parted (numbered takesArith arithNumber arithOps b4 0 b4 (at-start b4) arith-numbers)
-          (λ op e. limited (b5 ∷ b6 ∷ [])
+          (λ op e. limited 31 (b5 ∷ b6 ∷ [])
           (λ l. tested (leb count (b7 + 256 * b8)) 4
           (λ t. let q = index-is count b7 b8 most t in let r = const-row op in
           read (retold (ending (mathName op ++ ascii "Const") (named b5 ∷ named b6 ∷ []) (decimal (b7 + 256 * b8) ∷ []) (space (decimal (b7 + 256 * b8))) (index-words (b7 + 256 * b8)))
@@ -391,7 +393,7 @@ branch-if =
     (λ b0 b1 b2 b3 b4 b5 b6 rest bytes w v.
     record {
       outcome =
-          limited (b4 ∷ [])
+          limited 31 (b4 ∷ [])
           (λ l. tested (ltb b5 3) 9
           (λ t. tested (ltb 1 b6) 9
           (λ u.

@@ -12,21 +12,21 @@ use Rattle.mir.specs.declared.records.Loc.{Loc}
 use Rattle.mir.specs.Read.{Read, got, refused, refuse, andThen}
 use Rattle.mir.specs.Field.{placeAt}
 use Rattle.sheet.specs.Instruction.{instructionFrom}
-use Rattle.assembly.specs.Assembled.{Part, mode, real, constantLine, instruction, Reading, Sheet, pieces, lineOf, grown, isGot}
+use Rattle.assembly.specs.Assembled.{LineKind, mode, real, constantLine, instruction, Reading, Draft, pieces, lineOf, grown, isGot}
 use Rattle.assembly.specs.Assembled.{withPlace, withLine, opened, firstLine, stepped}
 use Rattle.assembly.specs.Assembled.{Assembled, accepted, refusedAt, afterLine, assembledFrom, assembled}
 use Rattle.assembly.specs.Reading.{before}
 use Rattle.assembly.specs.declared.reading.LineRead.{LineRead}
 use Rattle.assembly.specs.declared.making.Made.{Made}
-use Rattle.assembly.specs.declared.making.Ended.{Ended}
+use Rattle.assembly.specs.declared.making.MakeAnswer.{MakeAnswer}
 use Rattle.assembly.specs.Making.{partOf, sheetOf, asSheet, refusal, Room, Makes, withRead, asAssembled}
 use Rattle.assembly.proofs.Cutting.{cutting, ends-within}
 use Rattle.assembly.proofs.Growing.{makes-as}
 use Rattle.assembly.proofs.Heard.{Heard}
 
 -- a line by its reading
-module _ (s : Sheet) (l : List ℕ) where
-  abbrev after : Read Reading → Read Sheet
+module _ (s : Draft) (l : List ℕ) where
+  abbrev after : Read Reading → Read Draft
   after x = cond (eqb (s .stage) 0) (firstLine x) (andThen x (λ r. withLine s (r .part) (r .bytes)))
 
   is-after : after (lineOf (pieces 32 l)) ≡ stepped s l
@@ -49,30 +49,30 @@ module _ (s : Sheet) (l : List ℕ) where
       sym (ap (λ t. cond t (refused 1) (refused 3)) (ne-eqb (s .stage) 0 z)) ∙ sym (ap after e) ∙ is-after
 
 -- behind a line no sheet is at its start
-abbrev Going : Read Sheet → Type 0
+abbrev Going : Read Draft → Type 0
 Going (got s) = 0 < s .stage
 Going (refused n) = Unit {0}
 
-going-test : (t : Bool) (n : ℕ) (r : Read Sheet) → Going r → Going (refuse t n r)
+going-test : (t : Bool) (n : ℕ) (r : Read Draft) → Going r → Going (refuse t n r)
 going-test true n r h = tt
 going-test false n r h = h
 
-going-either : (t : Bool) (a b : Read Sheet) → Going a → Going b → Going (cond t a b)
+going-either : (t : Bool) (a b : Read Draft) → Going a → Going b → Going (cond t a b)
 going-either true a b h k = h
 going-either false a b h k = k
 
-going-grown : (s : Sheet) (count stage : ℕ) (b : List ℕ) → 0 < stage → Going (grown s count stage b)
+going-grown : (s : Draft) (count stage : ℕ) (b : List ℕ) → 0 < stage → Going (grown s count stage b)
 unfolding grown
 going-grown s count stage b h =
     going-test (ltb 16384 (length (s .bytes) + length b)) 2 (got (record { bytes = s .bytes ++ b; count = count; stage = stage })) h
 
-going-place : (s : Sheet) (p : Read Loc) → Going (withPlace s p)
+going-place : (s : Draft) (p : Read Loc) → Going (withPlace s p)
 going-place s (got (Loc.Stack i)) = omega arith
 going-place s (got (Loc.Mem i)) = tt
 going-place s (got (Loc.Param i)) = omega arith
 going-place s (refused n) = tt
 
-going-line : (s : Sheet) (p : Part) (b : List ℕ) → Going (withLine s p b)
+going-line : (s : Draft) (p : LineKind) (b : List ℕ) → Going (withLine s p b)
 unfolding withLine
 going-line s mode b = tt
 going-line s real b = going-test (ltb 1 (s .stage)) 3 (withPlace s (placeAt b 0)) (going-place s (placeAt b 0))
@@ -82,7 +82,7 @@ going-line s constantLine b =
 going-line s instruction b =
     going-test (not (isGot (instructionFrom (s .count) b))) 3 (grown s (s .count) 3 b) (going-grown s (s .count) 3 b (omega arith))
 
-going-opened : (p : Part) (b : List ℕ) → Going (opened p b)
+going-opened : (p : LineKind) (b : List ℕ) → Going (opened p b)
 going-opened mode b = omega arith
 going-opened real b = tt
 going-opened constantLine b = tt
@@ -92,11 +92,11 @@ going-first : (x : Read Reading) → Going (firstLine x)
 going-first (got r) = going-opened (r .part) (r .bytes)
 going-first (refused n) = tt
 
-going-then : (s : Sheet) (x : Read Reading) → Going (andThen x (λ r. withLine s (r .part) (r .bytes)))
+going-then : (s : Draft) (x : Read Reading) → Going (andThen x (λ r. withLine s (r .part) (r .bytes)))
 going-then s (got r) = going-line s (r .part) (r .bytes)
 going-then s (refused n) = tt
 
-going : (s : Sheet) (l : List ℕ) → Going (stepped s l)
+going : (s : Draft) (l : List ℕ) → Going (stepped s l)
 unfolding stepped
 going s l =
     let x = lineOf (pieces 32 l) in
@@ -145,7 +145,7 @@ module _ (t : List ℕ) (s : Made) (out : List ℕ) (at k e : ℕ) (kept : MadeS
 
   module _ {m : Made} {o : List ℕ} (h : at < length t) (q : e ≡ at + before 10 (drop at t))
       (made : Makes (stepped (sheetOf s out) (take (e - at) (drop at t))) m o) where
-    abbrev onward : Read Sheet → Assembled
+    abbrev onward : Read Draft → Assembled
     onward x = afterLine (suc k) x (λ s. assembledFrom (suc (suc k)) s (pieces 10 (drop (e + 1) t)))
 
     turned : onward (asSheet m o) ≡ assembled t

@@ -19,7 +19,7 @@ use Rattle.sheet.proofs.Setting.{Right, right}
 use Rattle.text.specs.Text.{ascii}
 use Rattle.assembly.specs.Lines.{modeLine}
 use Rattle.assembly.specs.SheetText.{realLines, constantLines, instructionLines, ofSetup, linesOf, sheetText, Readable}
-use Rattle.assembly.specs.Assembled.{aMode, mode, heads, wordBytes, Sheet, noSheet, accepted, refusedAt, assembledFrom, assembled, pieces}
+use Rattle.assembly.specs.Assembled.{aMode, mode, heads, wordBytes, Draft, noSheet, accepted, refusedAt, assembledFrom, assembled, pieces}
 use Rattle.assembly.specs.RoundTrip.{RoundTrip}
 use Rattle.assembly.proofs.Words.{plain-word, stable-word}
 use Rattle.assembly.proofs.Saying.{none, and, Says, says, retold, Onward, _▹_, onward-as, by-first}

@@ -10,9 +10,9 @@ use lib.Seq.{drop-cons}
 use Rattle.mir.specs.Read.{Read, got, refused, andThen}
 use Rattle.text.specs.declared.line.Line.{Line}
 use Rattle.text.specs.Line.{emptyLine, addAll, addAll-append}
-use Rattle.assembly.specs.Assembled.{Sort, Part, Reading, pieces, wordBytes, onto, taking, takingAll, noMore}
-use Rattle.assembly.specs.declared.reading.Taken.{Taken}
-use Rattle.assembly.specs.Reading.{before, sortOf, asTaken, wordsPut}
+use Rattle.assembly.specs.Assembled.{Sort, LineKind, Reading, pieces, wordBytes, onto, taking, takingAll, noMore}
+use Rattle.assembly.specs.declared.reading.WordTaken.{WordTaken}
+use Rattle.assembly.specs.Reading.{before, sortOf, asWordTaken, wordsPut}
 use Rattle.assembly.specs.Making.{Told, tagged, told}
 use Rattle.assembly.proofs.Cutting.{cutting}
 
@@ -42,23 +42,23 @@ module _ (sorts l : List ℕ) (k at e : ℕ) (line : Line) {r : Read Line}
   unfolding wordsPut
   next-word h g q = rw (add-one k) (rw (drop-cons sorts k 0 h, cutting 32 l at e g q) at known)
 
-  module _ (t : Taken) (h : k < length sorts) (g : at < length l) (q : e ≡ at + before 32 (drop at l))
-      (put : asTaken t ≡ andThen here (λ b. got (addAll line b))) where
-    through : andThen (asTaken t) onward ≡ r
+  module _ (t : WordTaken) (h : k < length sorts) (g : at < length l) (q : e ≡ at + before 32 (drop at l))
+      (put : asWordTaken t ≡ andThen here (λ b. got (addAll line b))) where
+    through : andThen (asWordTaken t) onward ≡ r
     through =
         ap (λ x. andThen x onward) put
         ∙ sym (after here line (map sortOf (drop (k + 1) sorts)) (pieces 32 (drop (e + 1) l)))
         ∙ next-word h g q
 
-    pub bad-word : t .ok ≡ false → asTaken t ≡ r
+    pub bad-word : t .ok ≡ false → asWordTaken t ≡ r
     bad-word f =
-        let x : asTaken t ≡ refused 3 = ap (λ b. cond b (got (t .line)) (refused 3)) f in
+        let x : asWordTaken t ≡ refused 3 = ap (λ b. cond b (got (t .line)) (refused 3)) f in
         x ∙ sym (ap (λ x. andThen x onward) x) ∙ through
 
     pub good-word : (n : ℕ) → t .ok ≡ true → drop n l ≡ drop (e + 1) l
         → wordsPut (map sortOf (drop (k + 1) sorts)) (t .line) (pieces 32 (drop n l)) ≡ r
     good-word n f d =
-        let x : asTaken t ≡ got (t .line) = ap (λ b. cond b (got (t .line)) (refused 3)) f in
+        let x : asWordTaken t ≡ got (t .line) = ap (λ b. cond b (got (t .line)) (refused 3)) f in
         ap (λ x. wordsPut (map sortOf (drop (k + 1) sorts)) (t .line) (pieces 32 x)) d ∙ sym (ap (λ x. andThen x onward) x) ∙ through
 
   pub all-put : length sorts ≤ k → length l ≤ at → got line ≡ r
@@ -70,7 +70,7 @@ module _ (sorts l : List ℕ) (k at e : ℕ) (line : Line) {r : Read Line}
   too-many h g = rw (drop-of-length-le sorts h, cutting 32 l at (at + before 32 (drop at l)) g refl) at known
 
 -- what is put is what the definition reads
-module _ (part : Part) where
+module _ (part : LineKind) where
   abbrev Rest : List Sort → Read Reading → Read Told
   Rest ks r = andThen (andThen (takingAll ks r) (λ r. noMore r (r .words))) told
 

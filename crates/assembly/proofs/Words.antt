@@ -15,7 +15,7 @@ use Rattle.text.specs.Text as Text
 use Rattle.assembly.specs.Lines.{named}
 use Rattle.mir.specs.declared.records.Loc.{Loc}
 use Rattle.mir.specs.Place.{class, index}
-use Rattle.assembly.specs.Assembled.{numberFrom, counting, registerWords, classWords, indexWords, modeWords, Head, nothing, heads}
+use Rattle.assembly.specs.Assembled.{numberFrom, counting, registerWords, classWords, indexWords, modeWords, FirstWord, nothing, heads}
 use Rattle.assembly.proofs.Pieces.{t-true, passing, passes, isWord}
 
 abbrev isAt : ℕ → Read ℕ → Bool
@@ -102,7 +102,7 @@ unfolding modeWords
 stable-word = stands modeWords 2 1 modes-right (omega arith)
 
 -- the first word of a row of the table
-pub head-word : (n : ℕ) (h : Head) → n < 59 → getD heads n nothing ≡ h → Stands (map (λ h. h .word) heads) n (h .word)
+pub head-word : (n : ℕ) (h : FirstWord) → n < 59 → getD heads n nothing ≡ h → Stands (map (λ h. h .word) heads) n (h .word)
 head-word n h l e =
     subst (Stands (map (λ h. h .word) heads) n) (List·getD-map (λ h. h .word) heads n nothing ∙ ap (λ h. h .word) e)
     (stands (map (λ h. h .word) heads) 59 n heads-right l)

@@ -14,10 +14,10 @@ use Rattle.text.specs.declared.line.Line.{Line}
 use Rattle.text.specs.Line.{Prints}
 use Rattle.assembly.specs.Lines.{refusedText}
 use Rattle.assembly.specs.Assembled.{Assembled, accepted, refusedAt, outcome}
-use Rattle.assembly.specs.declared.making.Ended.{Ended}
+use Rattle.assembly.specs.declared.making.MakeAnswer.{MakeAnswer}
 use Rattle.assembly.specs.Making.{asAssembled}
 
-module _ (e : Ended) (out : List ℕ) {a : Assembled} (same : asAssembled e out ≡ a) where
+module _ (e : MakeAnswer) (out : List ℕ) {a : Assembled} (same : asAssembled e out ≡ a) where
   -- bytes at the front, and their count
   abbrev Written : ℕ → List ℕ → Type 0
   Written n o = (take n o ≡ outcome a) × (n ≡ length (outcome a))

@@ -95,27 +95,27 @@ fieldSorts (label ∷ fs) = aByte ∷ fieldSorts fs
 fieldSorts (flag ∷ fs) = aByte ∷ fieldSorts fs
 
 -- what a line is
-pub data Part : Type 0 where
-  mode real constantLine instruction : Part
+pub data LineKind : Type 0 where
+  mode real constantLine instruction : LineKind
 
 -- a first word: what the line is, the bytes before its fields, and the sorts of its other words
-pub record Head : Type 0 where
+pub record FirstWord : Type 0 where
   pub word : List ℕ
-  pub part : Part
+  pub part : LineKind
   pub start : List ℕ
   pub sorts : List Sort
 
 -- a kind without operations, and the operations of a kind from number n on
-abbrev pub ofKind : ℕ → List ℕ → String → Head
+abbrev pub ofKind : ℕ → List ℕ → String → FirstWord
 ofKind kind ops name =
     record { word = ascii name; part = instruction; start = recordOf kind ops; sorts = fieldSorts (getD fields kind []) }
 
-abbrev pub operations : ℕ → ℕ → List String → List Head
+abbrev pub operations : ℕ → ℕ → List String → List FirstWord
 operations kind n [] = []
 operations kind n (name ∷ names) = ofKind kind (n ∷ []) name ∷ operations kind (suc n) names
 
 -- "First a header: kind 32, mode byte"; a real place has no record; "kind 33, eight bytes each"; then the kinds of a sheet
-unfoldable pub heads : List Head
+unfoldable pub heads : List FirstWord
 unfolding ascii recordOf
 heads =
     record { word = ascii "mode"; part = mode; start = 69 ∷ 0 ∷ 32 ∷ 0 ∷ []; sorts = aMode ∷ [] }
@@ -139,16 +139,16 @@ heads =
 
 -- a line as far as it was read: what it is, its bytes, the words that are left
 pub record Reading : Type 0 where
-  pub part : Part
+  pub part : LineKind
   pub bytes : List ℕ
   pub words : List (List ℕ)
 
 -- one word more
-abbrev pub onto : Part → List ℕ → List (List ℕ) → Read (List ℕ) → Read Reading
+abbrev pub onto : LineKind → List ℕ → List (List ℕ) → Read (List ℕ) → Read Reading
 onto part bytes ws (got b) = got (record { part = part; bytes = bytes ++ b; words = ws })
 onto part bytes ws (refused n) = refused n
 
-abbrev pub nextWord : Sort → Part → List ℕ → List (List ℕ) → Read Reading
+abbrev pub nextWord : Sort → LineKind → List ℕ → List (List ℕ) → Read Reading
 nextWord k part bytes [] = refused 3
 nextWord k part bytes (w ∷ ws) = onto part bytes ws (wordBytes k w)
 
@@ -166,10 +166,10 @@ noMore r [] = got r
 noMore r (w ∷ ws) = refused 3
 
 -- a line read, from the words that it has
-abbrev pub begun : Head → List (List ℕ) → Reading
+abbrev pub begun : FirstWord → List (List ℕ) → Reading
 begun h ws = record { part = h .part; bytes = h .start; words = ws }
 
-abbrev pub nothing : Head
+abbrev pub nothing : FirstWord
 nothing = record { word = []; part = instruction; start = []; sorts = [] }
 
 unfoldable pub lineOf : List (List ℕ) → Read Reading
@@ -181,7 +181,7 @@ lineOf (w ∷ ws) =
 
 -- a sheet that is being made: its bytes, its constants, and how far it is (0: no mode yet, 1: real places may follow, 2: constants,
 -- 3: instructions)
-pub record Sheet : Type 0 where
+pub record Draft : Type 0 where
   pub bytes : List ℕ
   pub count : ℕ
   pub stage : ℕ
@@ -199,7 +199,7 @@ marked s i =
     set s (5 + i / 8) (cond (eqb (b / 2 ^ (i % 8) % 2) 1) b (b + 2 ^ (i % 8)))
 
 -- bytes behind those of a sheet: at most 16,384
-unfoldable pub grown : Sheet → ℕ → ℕ → List ℕ → Read Sheet
+unfoldable pub grown : Draft → ℕ → ℕ → List ℕ → Read Draft
 grown s count stage b =
     refuse (ltb 16384 (length (s .bytes) + length b)) 2 (got (record { bytes = s .bytes ++ b; count = count; stage = stage }))
 
@@ -209,11 +209,11 @@ isGot (got i) = true
 isGot (refused n) = false
 
 -- one line more: real places first, then constants, at most 251, then instructions
-abbrev pub withPlace : Sheet → Read Loc → Read Sheet
+abbrev pub withPlace : Draft → Read Loc → Read Draft
 withPlace s (got p) = andThen (bitOf p) (λ i. got (record { bytes = marked (s .bytes) i; count = 0; stage = 1 }))
 withPlace s (refused n) = refused 3
 
-unfoldable pub withLine : Sheet → Part → List ℕ → Read Sheet
+unfoldable pub withLine : Draft → LineKind → List ℕ → Read Draft
 unfolding marked grown
 withLine s mode b = refused 3
 withLine s real b = refuse (ltb 1 (s .stage)) 3 (withPlace s (placeAt b 0))
@@ -222,17 +222,17 @@ withLine s constantLine b =
 withLine s instruction b = refuse (not (isGot (instructionFrom (s .count) b))) 3 (grown s (s .count) 3 b)
 
 -- the first line: the mode, no place real
-abbrev pub opened : Part → List ℕ → Read Sheet
+abbrev pub opened : LineKind → List ℕ → Read Draft
 opened mode b = got (record { bytes = b ++ replicate 64 0; count = 0; stage = 1 })
 opened real b = refused 1
 opened constantLine b = refused 1
 opened instruction b = refused 1
 
-abbrev pub firstLine : Read Reading → Read Sheet
+abbrev pub firstLine : Read Reading → Read Draft
 firstLine (got r) = opened (r .part) (r .bytes)
 firstLine (refused n) = refused 1
 
-unfoldable pub stepped : Sheet → List ℕ → Read Sheet
+unfoldable pub stepped : Draft → List ℕ → Read Draft
 unfolding pieces lineOf withLine
 stepped s l =
     cond (eqb (s .stage) 0) (firstLine (lineOf (pieces 32 l))) (andThen (lineOf (pieces 32 l)) (λ r. withLine s (r .part) (r .bytes)))
@@ -243,19 +243,19 @@ pub data Assembled : Type 0 where
   refusedAt : ℕ → ℕ → Assembled
 
 -- line after line, of which the first has number n; a text without a line has no mode
-abbrev pub ended : ℕ → Sheet → Assembled
+abbrev pub ended : ℕ → Draft → Assembled
 ended n s = cond (eqb (s .stage) 0) (refusedAt n 1) (accepted (s .bytes))
 
-abbrev pub afterLine : ℕ → Read Sheet → (Sheet → Assembled) → Assembled
+abbrev pub afterLine : ℕ → Read Draft → (Draft → Assembled) → Assembled
 afterLine n (got s) f = f s
 afterLine n (refused why) f = refusedAt n why
 
-unfoldable pub assembledFrom : ℕ → Sheet → List (List ℕ) → Assembled
+unfoldable pub assembledFrom : ℕ → Draft → List (List ℕ) → Assembled
 unfolding stepped
 assembledFrom n s [] = ended n s
 assembledFrom n s (l ∷ ls) = afterLine n (stepped s l) (λ s. assembledFrom (suc n) s ls)
 
-abbrev pub noSheet : Sheet
+abbrev pub noSheet : Draft
 noSheet = record { bytes = []; count = 0; stage = 0 }
 
 unfoldable pub assembled : List ℕ → Assembled

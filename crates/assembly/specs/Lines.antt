@@ -1,14 +1,16 @@
 -- The lines of a sheet's text: one for the mode, each real place, each constant and each instruction, in the words that `listing` prints.
 use Prim.Native.Nat.{ℕ, zero, suc, _-_}
+use Prim.Native.String.{String}
 use mathlib.Core.Bool.{Bool, cond}
 use mathlib.Core.List.{List, [], _∷_, _++_}
 use lib.Dec.{ltb, eqb}
 use Rattle.mir.specs.declared.ops.ArithOp.{ArithOp}
+use Rattle.mir.specs.Operation.{arithNumber}
 use Rattle.mir.specs.declared.records.Loc.{Loc}
 use Rattle.mir.specs.declared.records.Work.{Work}
 use Rattle.mir.specs.declared.records.Record.{Record}
 use Rattle.mir.specs.declared.records.Instruction.{Instruction}
-use Rattle.text.specs.Text.{ascii, decimal, hex, space, place, registers, line, recordLine}
+use Rattle.text.specs.Text.{ascii, decimal, hex, space, place, nameOf, registers, line, recordLine}
 
 -- the mode: "0 plain, 1 stable"
 unfoldable pub modeLine : Bool → List ℕ
@@ -29,11 +31,11 @@ abbrev pub named : ℕ → ℕ
 named r = cond (eqb r 30) 64 (cond (eqb r 31) 65 r)
 
 -- the names of LoadMath and LoadConstMath: the operation, with Load or Const added
+abbrev pub mathNames : List String
+mathNames = "Plus" ∷ "Minus" ∷ "Times" ∷ "Divide" ∷ []
+
 unfoldable pub mathName : ArithOp → List ℕ
-mathName ArithOp.Plus = ascii "Plus"
-mathName ArithOp.Minus = ascii "Minus"
-mathName ArithOp.Times = ascii "Times"
-mathName ArithOp.Divide = ascii "Divide"
+mathName op = nameOf mathNames (arithNumber op)
 
 -- the line of a record that works on words
 abbrev pub workLine : Work → List ℕ
@@ -58,10 +60,10 @@ instructionLine (Instruction.Label l) = recordLine (Record.Label l)
 instructionLine (Instruction.Branch l) = recordLine (Record.Branch l)
 instructionLine (Instruction.BranchIf c l e) = recordLine (Record.BranchIf (named c) l e)
 
--- why a text is refused: 1, 2 or 3
-unfoldable pub reasonText : ℕ → List ℕ
-reasonText reason = cond (eqb reason 1) (ascii " no mode") (cond (eqb reason 2) (ascii " sheet full") (ascii " no such line"))
+-- why a text is refused, by number: 1, 2 or 3
+abbrev pub reasons : List String
+reasons = "" ∷ "no mode" ∷ "sheet full" ∷ "no such line" ∷ []
 
 -- a text that is no sheet's, by its first line that is not
 unfoldable pub refusedText : ℕ → ℕ → List ℕ
-refusedText number reason = line (ascii "refused line" ++ space (decimal number) ++ reasonText reason)
+refusedText number reason = line (ascii "refused line" ++ space (decimal number) ++ space (nameOf reasons reason))

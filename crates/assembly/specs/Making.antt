@@ -11,21 +11,21 @@ use Rattle.text.specs.declared.line.Line.{Line}
 use Rattle.text.specs.Line.{emptyLine, addAll}
 use Rattle.assembly.specs.declared.reading.LineRead.{LineRead}
 use Rattle.assembly.specs.declared.making.Made.{Made}
-use Rattle.assembly.specs.declared.making.Ended.{Ended}
-use Rattle.assembly.specs.Assembled.{Part, mode, real, constantLine, instruction, Reading, Sheet, bitOf, opened, withLine}
+use Rattle.assembly.specs.declared.making.MakeAnswer.{MakeAnswer}
+use Rattle.assembly.specs.Assembled.{LineKind, mode, real, constantLine, instruction, Reading, Draft, bitOf, opened, withLine}
 use Rattle.assembly.specs.Assembled.{Assembled, accepted, refusedAt}
 
 -- what a line is, by the number of its first word
-abbrev pub partOf : ℕ → Part
+abbrev pub partOf : ℕ → LineKind
 partOf n = cond (eqb n 0) mode (cond (eqb n 1) real (cond (eqb n 2) constantLine instruction))
 
 -- a line that was read: what it is, and its bytes
 pub record Told : Type 0 where
-  pub part : Part
+  pub part : LineKind
   pub line : Line
 
 -- a line's bytes with what it is
-abbrev pub tagged : Part → Line → Read Told
+abbrev pub tagged : LineKind → Line → Read Told
 tagged p l = got (record { part = p; line = l })
 
 -- the code's answer, and the definition's reading
@@ -45,11 +45,11 @@ abbrev pub withBit : ℕ → ℕ → ℕ
 withBit b p = cond (eqb (b / p % 2) 1) b (b + p)
 
 -- the sheet whose bytes stand at the front of others
-abbrev pub sheetOf : Made → List ℕ → Sheet
+abbrev pub sheetOf : Made → List ℕ → Draft
 sheetOf m out = record { bytes = take (m .len) out; count = m .count; stage = m .stage }
 
 -- the sheet, or why its last line is refused
-abbrev pub asSheet : Made → List ℕ → Read Sheet
+abbrev pub asSheet : Made → List ℕ → Read Draft
 asSheet m out = cond (eqb (m .why) 0) (got (sheetOf m out)) (refused (m .why))
 
 -- no sheet, for a reason
@@ -61,14 +61,14 @@ abbrev pub Room : Made → List ℕ → Type 0
 Room m out = (16384 ≤ length out) × (m .len ≤ 16384)
 
 -- the answer stands in the bytes
-pub record Makes (answer : Read Sheet) (m : Made) (out : List ℕ) : Type 0 where
+pub record Makes (answer : Read Draft) (m : Made) (out : List ℕ) : Type 0 where
   pub same : asSheet m out ≡ answer
   pub low : m .len ≤ 16384
 
 -- a line that was read, put: the first is the mode
-abbrev pub withRead : Sheet → Part → List ℕ → Read Sheet
+abbrev pub withRead : Draft → LineKind → List ℕ → Read Draft
 withRead s p b = cond (eqb (s .stage) 0) (opened p b) (withLine s p b)
 
 -- the sheet, or its refusal
-abbrev pub asAssembled : Ended → List ℕ → Assembled
+abbrev pub asAssembled : MakeAnswer → List ℕ → Assembled
 asAssembled e out = cond (eqb (e .why) 0) (accepted (take (e .len) out)) (refusedAt (e .line) (e .why))

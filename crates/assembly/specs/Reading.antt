@@ -7,8 +7,8 @@ use Rattle.mir.specs.Read.{Read, got, refused, andThen}
 use Rattle.text.specs.declared.line.Line.{Line}
 use Rattle.text.specs.Line.{emptyLine, addAll}
 use Rattle.assembly.specs.declared.reading.Number.{Number}
-use Rattle.assembly.specs.declared.reading.Taken.{Taken}
-use Rattle.assembly.specs.Assembled.{Head, Sort, aRegister, aClass, anIndex, aByte, aMode, bits, wordBytes}
+use Rattle.assembly.specs.declared.reading.WordTaken.{WordTaken}
+use Rattle.assembly.specs.Assembled.{FirstWord, Sort, aRegister, aClass, anIndex, aByte, aMode, bits, wordBytes}
 
 -- how many bytes stand before the first byte c
 unfoldable pub before : ℕ → List ℕ → ℕ
@@ -25,8 +25,8 @@ sortOf b =
     cond (eqb b 114) aRegister
     (cond (eqb b 99) aClass (cond (eqb b 105) anIndex (cond (eqb b 110) aByte (cond (eqb b 109) aMode bits))))
 
-abbrev pub asTaken : Taken → Read Line
-asTaken t = cond (t .ok) (got (t .line)) (refused 3)
+abbrev pub asWordTaken : WordTaken → Read Line
+asWordTaken t = cond (t .ok) (got (t .line)) (refused 3)
 
 -- a line's bytes with those of its other words, by their sorts: as many words as sorts
 unfoldable pub wordsPut : List Sort → Line → List (List ℕ) → Read Line
@@ -37,5 +37,5 @@ wordsPut (k ∷ ks) line [] = refused 3
 wordsPut (k ∷ ks) line (w ∷ ws) = andThen (wordBytes k w) (λ b. wordsPut ks (addAll line b) ws)
 
 -- the bytes of a line by its first word, from the other words
-abbrev pub headPut : Head → List (List ℕ) → Read Line
+abbrev pub headPut : FirstWord → List (List ℕ) → Read Line
 headPut h ws = wordsPut (h .sorts) (addAll emptyLine (h .start)) ws

@@ -2,8 +2,9 @@
 ghost use mathlib.Core.Path.{_≡_};
 ghost use Rattle.text.specs.Line.{Adds, Prints};
 ghost use Rattle.mir.specs.declared.records.Instruction.{Instruction};
-ghost use Rattle.assembly.specs.Lines.{modeLine, realPlace, realLine, constantLine, named, mathName, workLine, instructionLine, reasonText, refusedText};
+ghost use Rattle.assembly.specs.Lines.{modeLine, realPlace, realLine, constantLine, named, mathName, workLine, instructionLine, refusedText};
 use mir::ops::ArithOp;
+use mir::ops::arith_number;
 use mir::records::Instruction;
 use mir::records::Loc;
 use mir::records::Record;
@@ -56,12 +57,7 @@ fn name(r: u8) -> u8
 fn math_name(line: Line, op: ArithOp) -> Line
     ensures { λ r. ⌜ Adds line (mathName op) r ⌝ }
 {
-    match op {
-        ArithOp::Plus => line.text(b"Plus"),
-        ArithOp::Minus => line.text(b"Minus"),
-        ArithOp::Times => line.text(b"Times"),
-        ArithOp::Divide => line.text(b"Divide"),
-    }
+    line.word_in(b"Plus/Minus/Times/Divide/", arith_number(op) as u64)
 }
 
 fn work_line(work: Work) -> Line
@@ -156,21 +152,14 @@ pub fn instruction_line(instruction: Instruction) -> Line
     }
 }
 
-fn reason(line: Line, why: u8) -> Line
-    ensures { λ r. ⌜ Adds line (reasonText why) r ⌝ }
-{
-    if why == 1 {
-        return line.text(b" no mode");
-    }
-    if why == 2 {
-        return line.text(b" sheet full");
-    }
-    line.text(b" no such line")
-}
-
 // The refusal of a text.
 pub fn refused_line(number: u64, why: u8) -> Line
     ensures { λ r. ⌜ Prints (refusedText number why) r ⌝ }
 {
-    reason(empty_line().text(b"refused line").number(number), why).byte(b'\n')
+    empty_line()
+        .text(b"refused line")
+        .number(number)
+        .byte(b' ')
+        .word_in(b"/no mode/sheet full/no such line/", why as u64)
+        .byte(b'\n')
 }

@@ -223,14 +223,14 @@ fn step(out: &mut [u8], s: Made, l: &[u8]) -> Made
 }
 
 // A sheet that is made, its bytes; or the line that is refused, and why (0: none is).
-pub(crate) struct Ended {
+pub(crate) struct MakeAnswer {
     pub(crate) len: usize,
     pub(crate) line: u64,
     pub(crate) why: u8,
 }
 
 // The lines of a text, one after the other.
-fn make(out: &mut [u8], t: &[u8]) -> Ended
+fn make(out: &mut [u8], t: &[u8]) -> MakeAnswer
     requires { ⌜ 16384 ≤ length (now out) ⌝ }
     ensures { λ r. ⌜ (asAssembled r (now (out .exit)) ≡ assembled (now (t .entry))) × (r .len ≤ 16384) ⌝ }
 {
@@ -241,7 +241,7 @@ fn make(out: &mut [u8], t: &[u8]) -> Ended
         let end = piece_end(t, at, b'\n');
         s = step(out, s, &t[at..end]);
         if s.why != 0 {
-            return Ended {
+            return MakeAnswer {
                 len: 0,
                 line: k + 1,
                 why: s.why,
@@ -251,13 +251,13 @@ fn make(out: &mut [u8], t: &[u8]) -> Ended
         k += 1;
     }
     if s.stage == 0 {
-        return Ended {
+        return MakeAnswer {
             len: 0,
             line: 1,
             why: 1,
         };
     }
-    Ended {
+    MakeAnswer {
         len: s.len,
         line: 0,
         why: 0,

@@ -5,7 +5,7 @@ ghost use lib.ListN.{drop, getD};
 ghost use mathlib.Core.List.{[], _∷_, map};
 ghost use Rattle.assembly.specs.Assembled.{pieces, numberFrom, registerWords, classWords, indexWords, modeWords};
 ghost use Rattle.assembly.specs.Assembled.{heads, nothing, lineOf, digit, pair, areDigits, bitsOf, wordBytes};
-ghost use Rattle.assembly.specs.Reading.{before, asNumber, asTaken, sortOf, wordsPut, headPut};
+ghost use Rattle.assembly.specs.Reading.{before, asNumber, asWordTaken, sortOf, wordsPut, headPut};
 ghost use Rattle.assembly.specs.Making.{partOf, tagged, asLine, told};
 ghost use Rattle.text.specs.Line.{emptyLine, addAll};
 ghost use Rattle.mir.specs.Read.{got, refused, andThen};
@@ -149,32 +149,32 @@ fn are_digits(w: &[u8]) -> bool
 }
 
 // A line's bytes with those of one word more, or none: it is no such word.
-pub struct Taken {
+pub struct WordTaken {
     pub ok: bool,
     pub line: Line,
 }
 
-fn with_word(line: Line) -> Taken
-    ensures { λ r. ⌜ asTaken r ≡ got line ⌝ }
+fn with_word(line: Line) -> WordTaken
+    ensures { λ r. ⌜ asWordTaken r ≡ got line ⌝ }
 {
-    Taken {
+    WordTaken {
         ok: true,
         line: line,
     }
 }
 
-fn without(line: Line) -> Taken
-    ensures { λ r. ⌜ asTaken r ≡ refused 3 ⌝ }
+fn without(line: Line) -> WordTaken
+    ensures { λ r. ⌜ asWordTaken r ≡ refused 3 ⌝ }
 {
-    Taken {
+    WordTaken {
         ok: false,
         line: line,
     }
 }
 
 // The eight bytes of a constant.
-pub fn put_bits(line: Line, w: &[u8]) -> Taken
-    ensures { λ r. ⌜ asTaken r ≡ andThen (bitsOf (now (w .entry))) (λ b. got (addAll line b)) ⌝ }
+pub fn put_bits(line: Line, w: &[u8]) -> WordTaken
+    ensures { λ r. ⌜ asWordTaken r ≡ andThen (bitsOf (now (w .entry))) (λ b. got (addAll line b)) ⌝ }
 {
     if w.len() != 16 {
         return without(line);
@@ -197,8 +197,8 @@ pub fn put_bits(line: Line, w: &[u8]) -> Taken
 }
 
 // A number's byte.
-fn put_number(line: Line, n: Number) -> Taken
-    ensures { λ r. ⌜ asTaken r ≡ andThen (asNumber n) (λ n. got (addAll line (n % 256 ∷ []))) ⌝ }
+fn put_number(line: Line, n: Number) -> WordTaken
+    ensures { λ r. ⌜ asWordTaken r ≡ andThen (asNumber n) (λ n. got (addAll line (n % 256 ∷ []))) ⌝ }
 {
     match n {
         Number::At(n) => with_word(line.byte((n % 256) as u8)),
@@ -207,8 +207,8 @@ fn put_number(line: Line, n: Number) -> Taken
 }
 
 // An index's two bytes.
-fn put_index(line: Line, n: Number) -> Taken
-    ensures { λ r. ⌜ asTaken r ≡ andThen (asNumber n) (λ n. got (addAll line (n % 256 ∷ 0 ∷ []))) ⌝ }
+fn put_index(line: Line, n: Number) -> WordTaken
+    ensures { λ r. ⌜ asWordTaken r ≡ andThen (asNumber n) (λ n. got (addAll line (n % 256 ∷ 0 ∷ []))) ⌝ }
 {
     match n {
         Number::At(n) => with_word(line.byte((n % 256) as u8).byte(0)),
@@ -217,8 +217,8 @@ fn put_index(line: Line, n: Number) -> Taken
 }
 
 // The bytes of a word of a sort, by the sort's letter.
-pub fn put_word(line: Line, sort: u8, w: &[u8]) -> Taken
-    ensures { λ r. ⌜ asTaken r ≡ andThen (wordBytes (sortOf sort) (now (w .entry))) (λ b. got (addAll line b)) ⌝ }
+pub fn put_word(line: Line, sort: u8, w: &[u8]) -> WordTaken
+    ensures { λ r. ⌜ asWordTaken r ≡ andThen (wordBytes (sortOf sort) (now (w .entry))) (λ b. got (addAll line b)) ⌝ }
 {
     if sort == b'r' {
         return put_number(line, register_number(w));
@@ -246,8 +246,8 @@ pub(crate) fn behind(s: &[u8], end: usize) -> usize
 }
 
 // The bytes of a line's words from a position on, by their sorts; there is no word more, and no word fewer.
-pub fn put_words(start: Line, sorts: &[u8], l: &[u8], from: usize) -> Taken
-    ensures { λ r. ⌜ asTaken r ≡ wordsPut (map sortOf (now (sorts .entry))) start (pieces 32 (drop from (now (l .entry)))) ⌝ }
+pub fn put_words(start: Line, sorts: &[u8], l: &[u8], from: usize) -> WordTaken
+    ensures { λ r. ⌜ asWordTaken r ≡ wordsPut (map sortOf (now (sorts .entry))) start (pieces 32 (drop from (now (l .entry)))) ⌝ }
 {
     let mut line = start;
     let mut at = from;
@@ -299,8 +299,8 @@ const SORTS: [u8; 295] = *b"\
     rrci.rrci.rri..rri..rri..rri..n....n....rnn..";
 
 // The bytes of a line by the number of its first word; the others begin at a position.
-fn put_rest(n: usize, l: &[u8], at: usize) -> Taken
-    ensures { λ r. ⌜ asTaken r ≡ headPut (getD heads n nothing) (pieces 32 (drop at (now (l .entry)))) ⌝ }
+fn put_rest(n: usize, l: &[u8], at: usize) -> WordTaken
+    ensures { λ r. ⌜ asWordTaken r ≡ headPut (getD heads n nothing) (pieces 32 (drop at (now (l .entry)))) ⌝ }
 {
     if n < 59 {
         let from = 5 * n;
@@ -320,8 +320,8 @@ pub struct LineRead {
 }
 
 // By its first word's number, with its bytes.
-fn with_head(n: usize, t: Taken) -> LineRead
-    ensures { λ r. ⌜ asLine r ≡ andThen (asTaken t) (tagged (partOf n)) ⌝ }
+fn with_head(n: usize, t: WordTaken) -> LineRead
+    ensures { λ r. ⌜ asLine r ≡ andThen (asWordTaken t) (tagged (partOf n)) ⌝ }
 {
     let line = t.line;
     LineRead {

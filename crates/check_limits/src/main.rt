@@ -7,7 +7,7 @@ mod sheets;
 use complexify::entry::LowerAnswer;
 use complexify::entry::lower;
 use player::play;
-use sheets::Sheet;
+use sheets::SheetBytes;
 use sheets::header;
 
 // Lowers the first len of bytes, a sheet that has so many constants of its own.
@@ -28,7 +28,7 @@ fn lowered(
     a
 }
 
-fn limit(name: &[u8], sheet: Sheet, own: usize) {
+fn limit(name: &[u8], sheet: SheetBytes, own: usize) {
     let bytes = sheet.bytes;
     let mut listing = [0u8; 1024];
     let mut constants = [0u64; 256];
@@ -43,7 +43,14 @@ fn store_of(first: &[u64; 10]) -> [u64; 1602] {
 }
 
 // Lowers the sheet, plays its listing, and shows the registers from one to another.
-fn misreading(name: &[u8], sheet: Sheet, own: usize, first: &[u64; 10], from: usize, to: usize) {
+fn misreading(
+    name: &[u8],
+    sheet: SheetBytes,
+    own: usize,
+    first: &[u64; 10],
+    from: usize,
+    to: usize,
+) {
     let bytes = sheet.bytes;
     let mut listing = [0u8; 1024];
     let mut constants = [0u64; 256];
@@ -60,7 +67,7 @@ fn misreading(name: &[u8], sheet: Sheet, own: usize, first: &[u64; 10], from: us
 }
 
 // A Mov of 0 to 1, then the instruction that stands at a limit.
-fn moved(stable: bool, constants: usize, instruction: &[u8]) -> Sheet {
+fn moved(stable: bool, constants: usize, instruction: &[u8]) -> SheetBytes {
     header(stable)
         .constants(constants)
         .records(b"\x06\x00\x03\x00\x01\x00")

@@ -3,39 +3,39 @@ ghost use Prim.Native.Nat.{_≤_};
 use words::put_bytes;
 
 // At most 3,200 bytes: what does not fit is left out.
-pub struct Sheet {
+pub struct SheetBytes {
     pub bytes: [u8; 3200],
     pub len: usize,
 }
 
 // A header: plain or stable, and no place real.
-pub(crate) fn header(stable: bool) -> Sheet {
+pub(crate) fn header(stable: bool) -> SheetBytes {
     let mut bytes = [0u8; 3200];
     bytes[0] = 69;
     bytes[2] = 32;
     if stable {
         bytes[4] = 1;
     }
-    Sheet {
+    SheetBytes {
         bytes: bytes,
         len: 69,
     }
 }
 
-impl Sheet {
+impl SheetBytes {
     // Records, as bytes.
-    pub(crate) fn records(self, s: &[u8]) -> Sheet {
+    pub(crate) fn records(self, s: &[u8]) -> SheetBytes {
         let len = self.len;
         let mut bytes = self.bytes;
         put_bytes(&mut bytes, len, s);
-        Sheet {
+        SheetBytes {
             bytes: bytes,
             len: std::num::wrapping_add_usize(len, s.len()),
         }
     }
 
     // n constants 4000000000000000.
-    pub(crate) fn constants(self, n: usize) -> Sheet {
+    pub(crate) fn constants(self, n: usize) -> SheetBytes {
         let mut sheet = self;
         let mut i: usize = 0;
         while i < n {

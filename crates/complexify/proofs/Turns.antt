@@ -1,14 +1,13 @@
 -- One turn of lowering, and the loop over all of them: what is left to do from where lowering stands is the whole answer.
 use Prim.Native.Nat.{ℕ, suc, _+_, _-_, _≤_, _<_}
 use mathlib.Core.Path.{_≡_, refl, sym, ap, _∙_, subst}
-use mathlib.Core.Bool.{Bool, true, false, cond, true≢false, _||_}
+use mathlib.Core.Bool.{Bool, true, false, cond, _||_}
 use mathlib.Core.List.{List, [], _∷_, _++_}
 use native.Mathlib.Numerals.{add-one}
 use native.Mathlib.Omega.{arith}
 use borrow.Author.Tests.{lt-ltb, le-ltb, ltb-true, ltb-false}
 use lib.ListN.{length, take, drop, length-append, length-take}
-use lib.Seq.{sets, length-sets}
-use lib.Dec.{T}
+use lib.Seq.{sets}
 use Rattle.mir.specs.declared.records.Instruction.{Instruction}
 use Rattle.mir.specs.Encode.{Buf, buf, encodeAll}
 use Rattle.mir.proofs.Passing.{either}
@@ -28,6 +27,7 @@ use Rattle.lowering.specs.Labels as Labels
 use Rattle.lowering.specs.Labels.{Role, role, Standing, noneStanding, sees, later, misplaced, unequal, passed}
 use Rattle.lowering.specs.Lower.{Ended, ended, past, lowerFrom, barred}
 use Rattle.lowering.proofs.Ahead.{labelIn, seen-first}
+use Rattle.lowering.proofs.Tests.{no, neither, goes-on, refused-label, refused-barred, refused-long}
 use Rattle.lines.proofs.Fitting.{pushAll-fits}
 use Rattle.complexifier.specs.Does.{state}
 use Rattle.complexify.specs.declared.entry.LowerAnswer.{LowerAnswer}
@@ -40,89 +40,7 @@ use Rattle.refusals.specs.Noted.{Noted, roleRead, tell, PassedFirst}
 use Rattle.complexify.specs.Taken.{space, Ready, Appended, endedAt, goesOn, left, refusal, finished, full, Finished, Fits, Extended, LoweredOne, Taken, Ran}
 use Rattle.complexify.proofs.Bounds.{staged, spaced}
 use Rattle.complexify.proofs.Copies.{taken, kept-store, kept-none, kept-then}
-use Rattle.refusals.proofs.Marking.{standsAt, SeenFirst, labelRefusal, Follows, follows, passed-as}
-
-no : {X : Type 0} → true ≡ false → X
-no e = absurd (subst T e tt)
-
--- ---- the definition's ways
-
--- no label and no branch is barred
-pub unbarred : (b : Standing) (stable : Bool) (i : Instruction) (ρ : Realness) → unequal (role i) b ρ ≡ true → barred stable i ρ ≡ false
-unfolding role unequal barred
-unbarred b stable Instruction.Nop ρ e = refl
-unbarred b stable (Instruction.Uni op d a) ρ e = absurd (true≢false (sym e))
-unbarred b stable (Instruction.Bi op d x y) ρ e = absurd (true≢false (sym e))
-unbarred b stable (Instruction.Mov d a) ρ e = refl
-unbarred b stable (Instruction.Load d p) ρ e = refl
-unbarred b stable (Instruction.Save a p) ρ e = refl
-unbarred b stable (Instruction.LoadConst d idx) ρ e = refl
-unbarred b stable (Instruction.Fused op d x y k) ρ e = absurd (true≢false (sym e))
-unbarred b stable (Instruction.IfElse d x y p) ρ e = refl
-unbarred b stable (Instruction.LoadMath op d a p) ρ e = absurd (true≢false (sym e))
-unbarred b stable (Instruction.LoadConstMath op d a idx) ρ e = refl
-unbarred b stable (Instruction.Label l) ρ e = refl
-unbarred b stable (Instruction.Branch l) ρ e = refl
-unbarred b stable (Instruction.BranchIf c l x) ρ e = refl
-
-module _ (mode : Mode) (room : ℕ) (i : Instruction) (is : List Instruction) (fault : ℕ) (rest : List ℕ) (b : Standing) (index : ℕ) (bytes : List ℕ) (s : State) where
-  lower-misplaced : misplaced (role i) b (past rest) ≡ true → lowerFrom mode room (i ∷ is) fault rest b index bytes s ≡ ended 10 index bytes s
-  unfolding lowerFrom
-  lower-misplaced m = rw m refl
-
-  module _ (m : misplaced (role i) b (past rest) ≡ false) where
-    lower-barred : barred (isStable mode) i (s .real) ≡ true → lowerFrom mode room (i ∷ is) fault rest b index bytes s ≡ ended 6 index bytes s
-    unfolding lowerFrom
-    lower-barred e = rw (m, e) refl
-
-    lower-unequal : barred (isStable mode) i (s .real) ≡ false → unequal (role i) b (s .real) ≡ true
-        → lowerFrom mode room (i ∷ is) fault rest b index bytes s ≡ ended 11 index bytes s
-    unfolding lowerFrom
-    lower-unequal e u = rw (m, e, u) refl
-
-    module _ (e : barred (isStable mode) i (s .real) ≡ false) (u : unequal (role i) b (s .real) ≡ false) where
-      lower-full : room < length bytes + length (encodeAll (rerun mode i s .records))
-          → lowerFrom mode room (i ∷ is) fault rest b index bytes s ≡ ended 7 index bytes s
-      unfolding lowerFrom
-      lower-full h = rw (m, e, u, lt-ltb room (length bytes + length (encodeAll (rerun mode i s .records))) h) refl
-
-      lower-on : length bytes + length (encodeAll (rerun mode i s .records)) ≤ room
-          → lowerFrom mode room (i ∷ is) fault rest b index bytes s
-          ≡ lowerFrom mode room is fault (past rest) (passed (role i) (s .real) b) (suc index) (bytes ++ encodeAll (rerun mode i s .records)) (rerun mode i s .after)
-      unfolding lowerFrom
-      lower-on h = rw (m, e, u, le-ltb room (length bytes + length (encodeAll (rerun mode i s .records))) h) refl
-
-  -- a number of labels refuses, or none does
-  lower-label : (n : ℕ) → n ≡ labelRefusal (role i) b (past rest) (s .real) → (n ≡ 0 → ⊥)
-      → lowerFrom mode room (i ∷ is) fault rest b index bytes s ≡ ended n index bytes s
-  lower-label n e h =
-      either (misplaced (role i) b (past rest))
-      (λ m.
-      let k : n ≡ 10 = e ∙ ap (λ (q : Bool). cond q 10 (cond (unequal (role i) b (s .real)) 11 0)) m in
-      lower-misplaced m ∙ ap (λ n. ended n index bytes s) (sym k))
-      (λ m.
-      either (unequal (role i) b (s .real))
-      (λ u.
-      let k : n ≡ 11 = e ∙ ap (λ (q : Bool). cond q 10 (cond (unequal (role i) b (s .real)) 11 0)) m ∙ ap (λ (q : Bool). cond q 11 0) u in
-      lower-unequal m (unbarred b (isStable mode) i (s .real) u) u ∙ ap (λ n. ended n index bytes s) (sym k))
-      (λ u.
-      absurd (h (e ∙ ap (λ (q : Bool). cond q 10 (cond (unequal (role i) b (s .real)) 11 0)) m ∙ ap (λ (q : Bool). cond q 11 0) u))))
-
--- neither 10 nor 11
-module _ (i : Role) (b : Standing) (behind : List ℕ) (ρ : Realness) (e : labelRefusal i b behind ρ ≡ 0) where
-  pub placed : misplaced i b behind ≡ false
-  placed =
-      either (misplaced i b behind)
-      (λ m. let z : _≡_ {A = ℕ} 10 0 = sym (ap (λ (q : Bool). cond q 10 (cond (unequal i b ρ) 11 0)) m) ∙ e in absurd (omega (arith, z)))
-      (λ m. m)
-
-  pub equal : unequal i b ρ ≡ false
-  equal =
-      either (unequal i b ρ)
-      (λ u.
-      let z : _≡_ {A = ℕ} 11 0 = sym (ap (λ (q : Bool). cond q 10 (cond (unequal i b ρ) 11 0)) placed ∙ ap (λ (q : Bool). cond q 11 0) u) ∙ e in
-      absurd (omega (arith, z)))
-      (λ u. u)
+use Rattle.refusals.proofs.Marking.{standsAt, SeenFirst, Follows, follows, passed-as}
 
 lower-end : (mode : Mode) (room fault : ℕ) (rest : List ℕ) (b : Standing) (index : ℕ) (bytes : List ℕ) (s : State)
     → lowerFrom mode room [] fault rest b index bytes s ≡ ended fault index bytes s
@@ -148,7 +66,8 @@ module _ {mode : Mode} {i : Instruction} {next : ℕ} {stage listing constants :
   refusing number h = record { same = h; at = no; index = no; turned = unchanged number r }
 
   pub turn-barred : barred (isStable mode) i (p .low .real) ≡ true → LoweredOne mode i next listing constants p listing constants (refusal 6 p)
-  turn-barred e = refusing 6 (λ is fault rest b m u. lower-barred mode (length listing) i is fault rest b _ _ _ m e)
+  unfolding lowerFrom
+  turn-barred e = refusing 6 (λ is fault rest b m u. refused-barred mode (length listing) i b (past rest) _ _ (λ n. endedAt n listing constants p) _ m e)
 
 -- ---- what a turn of `rerun` listed and added, copied
 
@@ -246,14 +165,16 @@ module _ (mode : Mode) (i : Instruction) {stage stage' listing constants : List 
   written-length = simp length-take (omega (arith, r .written))
 
   turn-full : (next : ℕ) → length listing - p .written < length bytes → LoweredOne mode i next listing constants p listing constants (refusal 7 p)
+  unfolding lowerFrom
   turn-full next h =
       refusing r 7
-      (λ is fault rest before m u.
-      lower-full mode (length listing) i is fault rest before _ _ _ m b u (omega (arith, h, written-length, r .written)))
+      (λ is fault rest stood m u.
+      refused-long mode (length listing) i stood (past rest) _ before (λ n. endedAt n listing constants p) _ m b u (omega (arith, h, written-length, r .written)))
 
   turn-done : (next : ℕ) {listing' constants' : List ℕ} → length bytes ≤ length listing - p .written
       → listing' ≡ sets listing (p .written) bytes → constants' ≡ sets constants (p .count) words
       → LoweredOne mode i next listing constants p listing' constants' (finished t bytes next p)
+  unfolding lowerFrom
   turn-done next {listing'} {constants'} h f g =
       let room : p .written + length bytes ≤ length listing = omega (arith, h, r .written) in
       let c : p .count + t .added .count ≡ p .count + length words = omega (arith, added-length) in
@@ -265,7 +186,8 @@ module _ (mode : Mode) (i : Instruction) {stage stage' listing constants : List 
       record {
         same = λ is fault rest stood m u.
             let next = passed (role i) (p .low .real) stood in
-            lower-on mode (length listing) i is fault rest stood (p .index) (take (p .written) listing) before m b u (omega (arith, room, written-length))
+            (goes-on mode (length listing) i stood (past rest) _ before (λ n. endedAt n listing constants p) _
+            (record { placed = m; allowed = b; equal = u; fits = omega (arith, room, written-length) }))
             ∙ ap (λ s. lowerFrom mode (length listing) is fault (past rest) next (suc (p .index)) (take (p .written) listing ++ bytes) s) (sym (e .kept))
             ∙ sym (λ j. lowerFrom mode (length listing) is fault (past rest) next (add-one (p .index) j) (x j) (state (t .low) (y j)));
         at = λ z. refl;
@@ -318,13 +240,13 @@ pub record Turn (mode : Mode) (own : ℕ) (sheet listing constants marks rows : 
   pub index : r .done ≡ false → r .stand .index ≡ suc (p .index)
   pub turned : Extended listing constants p listing' constants' r
 
-on-false : (b : Bool) (x y : Ended) → b ≡ false → cond b x y ≡ y
+pub on-false : {A : Type 0} (b : Bool) (x y : A) → b ≡ false → cond b x y ≡ y
 on-false b x y e = simp e
 
-on-true : (b : Bool) (x y : Ended) → b ≡ true → cond b x y ≡ x
+pub on-true : {A : Type 0} (b : Bool) (x y : A) → b ≡ true → cond b x y ≡ x
 on-true b x y e = simp e
 
-cond-right : (b : Bool) (x y z : Ended) → (b ≡ false → y ≡ z) → cond b x y ≡ cond b x z
+pub cond-right : {A : Type 0} (b : Bool) (x y z : A) → (b ≡ false → y ≡ z) → cond b x y ≡ cond b x z
 cond-right true x y z f = refl
 cond-right false x y z f = f refl
 
@@ -348,7 +270,7 @@ seen own rest i e l = seen-first own l rest i e ∙ ap (λ (q : Bool). q || late
     by (Labels.branches m) = refl
 
 -- an instruction that stands at a position
-abbrev decodedAt : ℕ → List ℕ → ℕ → Decoded Instruction
+abbrev pub decodedAt : ℕ → List ℕ → ℕ → Decoded Instruction
 decodedAt own sheet at = decoded (instructionFrom own) (drop at sheet)
 
 stands-here : (mode : Mode) (own : ℕ) (sheet : List ℕ) (b : Standing) (listing constants : List ℕ) (p : Cursor) {i : Instruction} {next : ℕ}
@@ -370,13 +292,13 @@ module _ {mode : Mode} {own : ℕ} {sheet listing constants marks rows : List �
           goes = λ b t.
               let rest = drop (p .at) sheet in
               let f = seen own rest i e in
-              let o = sym (w .told b rest f t) ∙ z in
+              let o = neither (role i) b (past rest) (p .low .real) (sym (w .told b rest f t) ∙ z) in
               let after = passed (role i) (p .low .real) b in
               record {
                 before = after;
                 same =
                     stands-here mode own sheet b listing constants p h
-                    ∙ l .same (decodedAt own sheet next .items) (decodedAt own sheet next .fault) rest b (placed (role i) b (past rest) (p .low .real) o) (equal (role i) b (past rest) (p .low .real) o)
+                    ∙ l .same (decodedAt own sheet next .items) (decodedAt own sheet next .fault) rest b (o .0) (o .1)
                     ∙ cond-right (r .done) _ _ _
                     (λ z.
                     ap (λ rest. goesOn mode (length listing) (decodedAt own sheet next .items) (decodedAt own sheet next .fault) rest after listing' constants' (r .stand)) g
@@ -392,13 +314,16 @@ module _ {mode : Mode} {own : ℕ} {sheet listing constants marks rows : List �
     -- 10 or 11 refuses it
     turn-refused : {stage : List ℕ} → Ready stage listing constants p → (n ≡ 0 → ⊥)
         → Turn mode own sheet listing constants marks rows p listing constants marks' rows' (refusal n p)
+    unfolding lowerFrom
     turn-refused r z =
         record {
           goes = λ b t.
               let rest = drop (p .at) sheet in
               record {
                 before = b;
-                same = stands-here mode own sheet b listing constants p h ∙ lower-label mode (length listing) i (decodedAt own sheet next .items) (decodedAt own sheet next .fault) rest b _ _ _ n (w .told b rest (seen own rest i e) t) z;
+                same =
+                    stands-here mode own sheet b listing constants p h
+                    ∙ refused-label mode (length listing) i b (past rest) _ _ (λ n. endedAt n listing constants p) _ n (w .told b rest (seen own rest i e) t) z;
                 noted = no;
               };
           on = no;

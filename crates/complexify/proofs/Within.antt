@@ -1,23 +1,24 @@
 -- Lowering and the lent slices: what is given back lies within them, no more bytes than the listing has room for and at most 256 constants.
-use Prim.Native.Nat.{ℕ, suc, _+_, _≤_}
-use mathlib.Core.Path.{_≡_, refl, sym, subst}
-use mathlib.Core.Bool.{Bool, true, false, cond}
+use Prim.Native.Nat.{ℕ, suc, _≤_}
+use mathlib.Core.Path.{_≡_, sym, subst}
+use mathlib.Core.Bool.{true}
 use mathlib.Core.List.{List, [], _∷_, _++_}
 use native.Mathlib.Omega.{arith}
-use borrow.Author.Tests.{eqb-true, ltb-false}
-use lib.Dec.{ltb, eqb}
+use borrow.Author.Tests.{eqb-true}
+use lib.Dec.{eqb}
 use lib.ListN.{length, drop, length-append}
 use Rattle.mir.specs.declared.records.Instruction.{Instruction}
 use Rattle.mir.specs.Encode.{encodeAll}
 use Rattle.mir.proofs.Passing.{either}
 use Rattle.sheet.specs.declared.setup.Mode.{Mode}
-use Rattle.sheet.specs.Setup.{isStable, setup, constantsOf}
+use Rattle.sheet.specs.Setup.{setup, constantsOf}
 use Rattle.sheet.specs.Instruction.{instructions}
 use Rattle.sheet.proofs.Setting.{right, length-constants}
 use Rattle.lowering.specs.Complexifier.{State}
-use Rattle.lowering.specs.Labels.{role, Standing, noneStanding, misplaced, unequal, passed}
-use Rattle.lowering.specs.Lower.{Ended, ended, barred, past, lowerFrom, startState, lowerSheet}
+use Rattle.lowering.specs.Labels.{role, Standing, noneStanding, passed}
+use Rattle.lowering.specs.Lower.{Ended, ended, past, lowerFrom, startState, lowerSheet}
 use Rattle.lowering.specs.Rerun.{rerun}
+use Rattle.lowering.proofs.Tests.{by-tests}
 use Rattle.complexify.specs.declared.entry.LowerAnswer.{LowerAnswer}
 use Rattle.complexify.specs.Entry.{wrongSetup, answer}
 use Rattle.complexify.specs.Taken.{space}
@@ -33,8 +34,10 @@ held : (m : Mode) (room : ℕ) (is : List Instruction) (fault : ℕ) (rest : Lis
 unfolding lowerFrom
 held m room [] fault rest b index bytes s h k = record { bytes = h; words = k }
 held m room (i ∷ is) fault rest b index bytes s h k =
-    go (misplaced (role i) b (past rest)) (barred (isStable m) i (s .real)) (unequal (role i) b (s .real)) (ltb room (length bytes + length new)) refl
-    (λ f.
+    by-tests m room i b (past rest) (length bytes) s (λ by. Held room (by Ended (λ number. ended number index bytes s) on))
+    (λ n z. record { bytes = h; words = k })
+    (λ a.
+    let f = a .fits in
     let n = length-append bytes new in
     let r = spaced m i s in
     held m room is fault (past rest) (passed (role i) (s .real) b) (suc index) (bytes ++ new) (rerun m i s .after) (omega (arith, f, n)) (omega (arith, r, k)))
@@ -44,16 +47,6 @@ held m room (i ∷ is) fault rest b index bytes s h k =
 
     on : Ended
     on = lowerFrom m room is fault (past rest) (passed (role i) (s .real) b) (suc index) (bytes ++ new) (rerun m i s .after)
-
-    by : Bool → Bool → Bool → Bool → Ended
-    by w x y z = cond w (ended 10 index bytes s) (cond x (ended 6 index bytes s) (cond y (ended 11 index bytes s) (cond z (ended 7 index bytes s) on)))
-
-    go : (w x y z : Bool) → ltb room (length bytes + length new) ≡ z → (length bytes + length new ≤ room → Held room on) → Held room (by w x y z)
-    go true x y z t f = record { bytes = h; words = k }
-    go false true y z t f = record { bytes = h; words = k }
-    go false false true z t f = record { bytes = h; words = k }
-    go false false false true t f = record { bytes = h; words = k }
-    go false false false false t f = f (ltb-false room (length bytes + length new) t)
 
 held-sheet : (sheet : List ℕ) (room : ℕ) → setup sheet .number ≡ 0 → Held room (lowerSheet sheet room)
 unfolding lowerSheet

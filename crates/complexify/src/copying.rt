@@ -1,7 +1,7 @@
 // Finished bytes and constants, copied to the lent slices.
 ghost use mathlib.Core.Path.{_≡_};
 ghost use Prim.Native.Nat.{_+_, _≤_};
-ghost use lib.ListN.{length, take};
+ghost use lib.ListN.{length};
 ghost use lib.Seq.{sets};
 ghost use Rattle.words.specs.Bytes.{stored};
 ghost use Rattle.sheet.specs.Setup.{constantsOf};

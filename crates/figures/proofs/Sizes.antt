@@ -21,7 +21,7 @@ use Rattle.leftovers.proofs.Instructions.{Works}
 use Rattle.leftovers.proofs.Branches.{View, working-one, label-one, branch-one, branch-if-one, view}
 use Rattle.figures.specs.declared.counting.Count.{Count}
 use Rattle.figures.specs.Shelf.{blockIn, branchOf, counted}
-use Rattle.figures.specs.Walk.{Within}
+use Rattle.figures.specs.Walk.{CountWithin}
 use Rattle.figures.specs.Taken.{OwnLabel}
 use Rattle.figures.proofs.Counts.{plain-block, around-block}
 use Rattle.figures.proofs.Walks.{Encoded, encoded}
@@ -90,8 +90,8 @@ branch-within m (Instruction.Label l) s = omega arith
 branch-within m (Instruction.Branch l) s = omega arith
 branch-within m (Instruction.BranchIf r l e) s = omega arith
 
-pub listed-within : (m : Mode) (i : Instruction) (s : State) (c : Count) → OwnLabel (role i) → Within c
-    → counted c (role i) (rerun m i s .records) .bytes ≤ 65536 → Within (counted c (role i) (rerun m i s .records))
+pub listed-within : (m : Mode) (i : Instruction) (s : State) (c : Count) → OwnLabel (role i) → CountWithin c
+    → counted c (role i) (rerun m i s .records) .bytes ≤ 65536 → CountWithin (counted c (role i) (rerun m i s .records))
 unfolding counted
 listed-within m i s c own w h =
     let rs = rerun m i s .records in

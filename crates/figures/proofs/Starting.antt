@@ -21,7 +21,7 @@ use Rattle.complexify.proofs.Grown.{space-start}
 use Rattle.sheet.proofs.Setting.{Right, right}
 use Rattle.figures.specs.declared.turn.CountCursor.{CountCursor}
 use Rattle.figures.specs.Shelf.{refusal, nothing, shelfFrom, shelf}
-use Rattle.figures.specs.Taken.{Ready, left}
+use Rattle.figures.specs.Taken.{CountReady, left}
 
 -- the table before the sheet's constants
 abbrev zeros : List ℕ
@@ -55,7 +55,7 @@ module _ (sheet : List ℕ) (x : Setup) (e : x ≡ setup sheet) where
         let l = length-replicate {A = ℕ} 256 0 in
         ap (take (x .count)) h ∙ taken-first zeros (constantsOf sheet (x .count)) (x .count) own-length (omega (arith, own-few, l))
 
-    pub begin-ready : {g k : List ℕ} {low : Complexifier} → length g ≡ 704 → k ≡ sets zeros 0 (constantsOf sheet (x .count)) → Ready g k (start low)
+    pub begin-ready : {g k : List ℕ} {low : Complexifier} → length g ≡ 704 → k ≡ sets zeros 0 (constantsOf sheet (x .count)) → CountReady g k (start low)
     begin-ready {g} {k} l h =
         record {
           stage = l;

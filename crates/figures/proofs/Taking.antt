@@ -1,18 +1,18 @@
 -- One turn of the count, and the loop over all of them: what is left to count from where it stands is the whole answer.
 use Prim.Native.Nat.{ℕ, suc, _+_, _≤_, _<_}
 use mathlib.Core.Path.{_≡_, refl, sym, ap, _∙_, subst}
-use mathlib.Core.Bool.{Bool, true, false, cond}
+use mathlib.Core.Bool.{true, false, cond}
 use mathlib.Core.List.{List, [], _∷_, _++_}
 use native.Mathlib.Numerals.{add-one}
 use native.Mathlib.Omega.{arith}
 use borrow.Author.Tests.{lt-ltb, le-ltb, ltb-true, ltb-false, eq-eqb, ne-eqb}
-use lib.ListN.{length, take, drop, length-append, length-take}
+use lib.ListN.{length, take, drop, length-take}
 use lib.Seq.{sets, length-sets}
-use lib.Dec.{T, ltb, eqb}
+use lib.Dec.{eqb}
 use Rattle.mir.specs.declared.records.Instruction.{Instruction}
 use Rattle.mir.specs.declared.records.Record.{Record}
 use Rattle.mir.specs.Encode.{buf, encodeAll}
-use Rattle.mir.specs.Decode.{Decoded, decoded}
+use Rattle.mir.specs.Decode.{decoded}
 use Rattle.mir.proofs.Passing.{either}
 use Rattle.mir.proofs.Decoding.{Here, Done}
 use Rattle.sheet.specs.declared.reader.NextInstruction.{NextInstruction}
@@ -22,11 +22,13 @@ use Rattle.lowering.specs.Rerun.{rerun}
 use Rattle.lowering.specs.Labels as Labels
 use Rattle.lowering.specs.Labels.{Role, role, Standing, noneStanding, misplaced, unequal, passed}
 use Rattle.lowering.specs.Lower.{barred, past}
+use Rattle.lowering.proofs.Tests.{no, neither, goes-on, refused-label, refused-barred, refused-long}
 use Rattle.mir.specs.Read.{Read, got, refused}
-use Rattle.leftovers.proofs.Instructions.{InRange, AllIn}
+use Rattle.sheet.proofs.Ranges.{InRange}
+use Rattle.leftovers.proofs.Instructions.{AllIn}
 use Rattle.leftovers.proofs.Ranges.{all-in-range}
 use Rattle.refusals.specs.Noted.{Noted, PassedFirst}
-use Rattle.refusals.proofs.Marking.{labelRefusal, Follows}
+use Rattle.refusals.proofs.Marking.{Follows}
 use Rattle.complexifier.specs.Does.{state}
 use Rattle.rerun.specs.declared.output.Output.{Output}
 use Rattle.rerun.specs.Ends.{Ends, tabled, untabled}
@@ -35,64 +37,16 @@ use Rattle.complexify.specs.Taken as Lowering
 use Rattle.complexify.specs.Taken.{space}
 use Rattle.complexify.proofs.Copies.{taken}
 use Rattle.complexify.proofs.Turns as Turns
+use Rattle.complexify.proofs.Turns.{decodedAt, on-true, on-false, cond-right}
 use Rattle.figures.specs.declared.counting.Count.{Count}
-use Rattle.figures.specs.declared.entry.Figures.{Figures}
 use Rattle.figures.specs.declared.turn.CountCursor.{CountCursor}
 use Rattle.figures.specs.declared.turn.CountNext.{CountNext}
 use Rattle.figures.specs.Shelf.{refusal, branchOf, counted, run, shelfFrom}
-use Rattle.figures.specs.Walk.{Listed, Within}
-use Rattle.figures.specs.Taken.{Ready, figuresAt, goesOn, left, refusing, finished, full, Ended, Finished, Fits, CountKept, OwnLabel, CountedOne, Taken}
+use Rattle.figures.specs.Walk.{StagedBytes, CountWithin}
+use Rattle.figures.specs.Taken.{CountReady, figuresAt, goesOn, left, refusing, finished, full, CountEnded, CountFinished, CountFits, CountKept, OwnLabel, CountedOne, CountTaken}
 use Rattle.figures.proofs.Sizes.{listed-within}
 use Rattle.sheet.specs.declared.setup.Mode.{Mode}
 use Rattle.sheet.specs.Setup.{isStable}
-
-no : {X : Type 0} → true ≡ false → X
-no e = absurd (subst T e tt)
-
--- ---- the definition's ways
-
-module _ (mode : Mode) (i : Instruction) (is : List Instruction) (fault : ℕ) (rest : List ℕ) (b : Standing) (index : ℕ) (c : Count) (s : State) where
-  shelf-misplaced : misplaced (role i) b (past rest) ≡ true → shelfFrom mode (i ∷ is) fault rest b index c s ≡ refusal 10 index
-  unfolding shelfFrom
-  shelf-misplaced m = rw m refl
-
-  module _ (m : misplaced (role i) b (past rest) ≡ false) where
-    shelf-barred : barred (isStable mode) i (s .real) ≡ true → shelfFrom mode (i ∷ is) fault rest b index c s ≡ refusal 6 index
-    unfolding shelfFrom
-    shelf-barred e = rw (m, e) refl
-
-    shelf-unequal : barred (isStable mode) i (s .real) ≡ false → unequal (role i) b (s .real) ≡ true
-        → shelfFrom mode (i ∷ is) fault rest b index c s ≡ refusal 11 index
-    unfolding shelfFrom
-    shelf-unequal e u = rw (m, e, u) refl
-
-    module _ (e : barred (isStable mode) i (s .real) ≡ false) (u : unequal (role i) b (s .real) ≡ false) where
-      shelf-full : ltb 65536 (c .bytes + length (encodeAll (rerun mode i s .records))) ≡ true
-          → shelfFrom mode (i ∷ is) fault rest b index c s ≡ refusal 7 index
-      unfolding shelfFrom
-      shelf-full h = rw (m, e, u, h) refl
-
-      shelf-on : ltb 65536 (c .bytes + length (encodeAll (rerun mode i s .records))) ≡ false
-          → shelfFrom mode (i ∷ is) fault rest b index c s
-          ≡ shelfFrom mode is fault (past rest) (passed (role i) (s .real) b) (suc index) (counted c (role i) (rerun mode i s .records)) (rerun mode i s .after)
-      unfolding shelfFrom
-      shelf-on h = rw (m, e, u, h) refl
-
-  -- a number of labels refuses
-  shelf-label : (n : ℕ) → n ≡ labelRefusal (role i) b (past rest) (s .real) → (n ≡ 0 → ⊥)
-      → shelfFrom mode (i ∷ is) fault rest b index c s ≡ refusal n index
-  shelf-label n e h =
-      either (misplaced (role i) b (past rest))
-      (λ m.
-      let k : n ≡ 10 = e ∙ ap (λ (q : Bool). cond q 10 (cond (unequal (role i) b (s .real)) 11 0)) m in
-      shelf-misplaced m ∙ ap (λ n. refusal n index) (sym k))
-      (λ m.
-      either (unequal (role i) b (s .real))
-      (λ u.
-      let k : n ≡ 11 = e ∙ ap (λ (q : Bool). cond q 10 (cond (unequal (role i) b (s .real)) 11 0)) m ∙ ap (λ (q : Bool). cond q 11 0) u in
-      shelf-unequal m (Turns.unbarred b (isStable mode) i (s .real) u) u ∙ ap (λ n. refusal n index) (sym k))
-      (λ u.
-      absurd (h (e ∙ ap (λ (q : Bool). cond q 10 (cond (unequal (role i) b (s .real)) 11 0)) m ∙ ap (λ (q : Bool). cond q 11 0) u))))
 
 shelf-end : (mode : Mode) (fault : ℕ) (rest : List ℕ) (b : Standing) (index : ℕ) (c : Count) (s : State)
     → shelfFrom mode [] fault rest b index c s
@@ -113,15 +67,15 @@ at-end n p h = simp (eq-eqb _ _ h)
 abbrev stand : CountCursor → Cursor
 stand p = record { at = p .at; index = p .index; written = 0; count = p .constants; low = p .low }
 
-abbrev ready : {g k : List ℕ} {p : CountCursor} → Ready g k p → Lowering.Ready g [] k (stand p)
+abbrev ready : {g k : List ℕ} {p : CountCursor} → CountReady g k p → Lowering.Ready g [] k (stand p)
 ready r = record { stage = r .stage; room = omega arith; written = omega arith; words = r .words; count = r .count; space = r .space }
 
 -- ---- a refused instruction
 
-unchanged : {g k : List ℕ} {p : CountCursor} (number : ℕ) → Ready g k p → CountKept k k (refusing number p)
+unchanged : {g k : List ℕ} {p : CountCursor} (number : ℕ) → CountReady g k p → CountKept k k (refusing number p)
 unchanged number r = record { words = refl; count = r .count; space = r .space; taken = r .taken }
 
-module _ {mode : Mode} {i : Instruction} {next : ℕ} {g k : List ℕ} {p : CountCursor} (r : Ready g k p) where
+module _ {mode : Mode} {i : Instruction} {next : ℕ} {g k : List ℕ} {p : CountCursor} (r : CountReady g k p) where
   refuses : (number : ℕ)
       → ((is : List Instruction) (fault : ℕ) (rest : List ℕ) (b : Standing) → misplaced (role i) b (past rest) ≡ false → unequal (role i) b (p .low .real) ≡ false
       → goesOn mode (i ∷ is) fault rest b k p ≡ figuresAt number p)
@@ -129,12 +83,13 @@ module _ {mode : Mode} {i : Instruction} {next : ℕ} {g k : List ℕ} {p : Coun
   refuses number h = record { same = h; at = no; index = no; turned = λ own. unchanged number r }
 
   pub turn-barred : barred (isStable mode) i (p .low .real) ≡ true → CountedOne mode i next k p k (refusing 6 p)
-  turn-barred e = refuses 6 (λ is fault rest b m u. shelf-barred mode i is fault rest b _ _ _ m e)
+  unfolding shelfFrom
+  turn-barred e = refuses 6 (λ is fault rest b m u. refused-barred mode 65536 i b (past rest) _ _ (λ n. refusal n (p .index)) _ m e)
 
 -- ---- what a turn of `rerun` listed and added, counted
 
 module _ {t : Output} {i : Role} {rs : List Record} {next : ℕ} {k : List ℕ} {p : CountCursor} {r : CountNext} where
-  pub too-long : 65536 < counted (p .taken) i rs .bytes → r ≡ refusing 7 p → Ended t i rs next k p k r
+  pub too-long : 65536 < counted (p .taken) i rs .bytes → r ≡ refusing 7 p → CountEnded t i rs next k p k r
   too-long h e =
       let z = sym (lt-ltb _ _ h) in
       record {
@@ -144,7 +99,7 @@ module _ {t : Output} {i : Role} {rs : List Record} {next : ℕ} {k : List ℕ} 
 
   pub copied : {k' : List ℕ} → counted (p .taken) i rs .bytes ≤ 65536 → r ≡ finished t (counted (p .taken) i rs) next p
       → k' ≡ sets k (p .constants) (take (t .added .count) (t .added .words))
-      → Ended t i rs next k p k' r
+      → CountEnded t i rs next k p k' r
   copied h e g =
       let z = sym (le-ltb _ _ h) in
       record {
@@ -155,7 +110,7 @@ module _ {t : Output} {i : Role} {rs : List Record} {next : ℕ} {k : List ℕ} 
 -- ---- an instruction listed in the stage
 
 module _ (mode : Mode) (i : Instruction) {g g' k : List ℕ} {p : CountCursor} {t : Output}
-    (r : Ready g k p) (d : Ends (buf g 0) (p .low) (take (p .constants) k) (tabled (rerun mode i)) g' t)
+    (r : CountReady g k p) (d : Ends (buf g 0) (p .low) (take (p .constants) k) (tabled (rerun mode i)) g' t)
     (b : barred (isStable mode) i (p .low .real) ≡ false) (three : length (t .added .words) ≡ 3) where
   abbrev before : State
   before = state (p .low) (take (p .constants) k)
@@ -181,7 +136,7 @@ module _ (mode : Mode) (i : Instruction) {g g' k : List ℕ} {p : CountCursor} {
   pub listed-length : length (take (t .at) g') ≡ t .at
   listed-length = Turns.listed-length mode i {listing = []} {p = stand p} (ready r) d b three
 
-  pub listed-fits : p .index < 65536 → Fits t (take (t .at) g') k p
+  pub listed-fits : p .index < 65536 → CountFits t (take (t .at) g') k p
   listed-fits h =
       let f = Turns.listed-fits mode i {listing = []} {p = stand p} (ready r) d b three h in
       record {
@@ -194,10 +149,15 @@ module _ (mode : Mode) (i : Instruction) {g g' k : List ℕ} {p : CountCursor} {
       }
 
   turn-full : (next : ℕ) → full p (role i) records ≡ true → CountedOne mode i next k p k (refusing 7 p)
-  turn-full next h = refuses r 7 (λ is fault rest stood m u. shelf-full mode i is fault rest stood _ _ _ m b u (unfold counted in h))
+  unfolding shelfFrom
+  turn-full next h =
+      refuses r 7
+      (λ is fault rest stood m u.
+      refused-long mode 65536 i stood (past rest) (p .taken .bytes) before (λ n. refusal n (p .index)) _ m b u (ltb-true _ _ h))
 
   turn-done : (next : ℕ) {k' : List ℕ} → p .index < 65536 → full p (role i) records ≡ false → k' ≡ sets k (p .constants) words
       → CountedOne mode i next k p k' (finished t (counted (p .taken) (role i) records) next p)
+  unfolding shelfFrom
   turn-done next {k'} x h q =
       let f = listed-fits x in
       let l = Turns.added-length mode i {listing = []} {p = stand p} (ready r) d b three in
@@ -207,7 +167,8 @@ module _ (mode : Mode) (i : Instruction) {g g' k : List ℕ} {p : CountCursor} {
       record {
         same = λ is fault rest stood m u.
             let behind = passed (role i) (p .low .real) stood in
-            shelf-on mode i is fault rest stood (p .index) (p .taken) before m b u (unfold counted in h)
+            (goes-on mode 65536 i stood (past rest) (p .taken .bytes) before (λ n. refusal n (p .index)) _
+            (record { placed = m; allowed = b; equal = u; fits = ltb-false _ _ h }))
             ∙ ap (λ s. shelfFrom mode is fault (past rest) behind (suc (p .index)) (counted (p .taken) (role i) records) s) (sym (e .kept))
             ∙ sym (λ j. shelfFrom mode is fault (past rest) behind (add-one (p .index) j) (counted (p .taken) (role i) records) (state (t .low) (y j)));
         at = λ z. refl;
@@ -220,7 +181,7 @@ module _ (mode : Mode) (i : Instruction) {g g' k : List ℕ} {p : CountCursor} {
         };
       }
 
-  by-room : (next : ℕ) {k' : List ℕ} {q : CountNext} → p .index < 65536 → Ended t (role i) records next k p k' q → CountedOne mode i next k p k' q
+  by-room : (next : ℕ) {k' : List ℕ} {q : CountNext} → p .index < 65536 → CountEnded t (role i) records next k p k' q → CountedOne mode i next k p k' q
   by-room next {k'} {q} x f =
       either (full p (role i) records)
       (λ z.
@@ -231,7 +192,7 @@ module _ (mode : Mode) (i : Instruction) {g g' k : List ℕ} {p : CountCursor} {
       (turn-done next x z (f .added ∙ ap (λ x. cond x k (sets k (p .constants) words)) z)))
 
   pub turn-finished : (next : ℕ) {n : ℕ} {k' : List ℕ} {q : CountNext} → p .index < 65536 → n ≡ branchOf (role i)
-      → Finished t (take (t .at) g') n next k p k' q → CountedOne mode i next k p k' q
+      → CountFinished t (take (t .at) g') n next k p k' q → CountedOne mode i next k p k' q
   turn-finished next x e f = by-room next x (f (role i) e records bytes)
 
 -- 1 or 0
@@ -243,25 +204,21 @@ branch-few (Labels.branches l) = omega arith
 -- ---- one turn
 
 -- the work from here on, where b stand before, is the work from there on, where `before` do
-pub record Goes (mode : Mode) (own : ℕ) (sheet : List ℕ) (b : Standing) (k : List ℕ) (p : CountCursor) (k' marks' rows' : List ℕ) (r : CountNext) : Type 0 where
+pub record CountGoes (mode : Mode) (own : ℕ) (sheet : List ℕ) (b : Standing) (k : List ℕ) (p : CountCursor) (k' marks' rows' : List ℕ) (r : CountNext) : Type 0 where
   pub before : Standing
   pub same : left mode own sheet b k p
       ≡ cond (r .done) (figuresAt (r .number) (r .cursor)) (left mode own sheet before k' (r .cursor))
   pub noted : r .done ≡ false → Noted before (drop (r .cursor .at) sheet) marks' rows'
 
 -- one turn of the loop: the labels tested, the instruction taken
-pub record Turn (mode : Mode) (own : ℕ) (sheet k marks rows : List ℕ) (p : CountCursor) (k' marks' rows' : List ℕ) (r : CountNext) : Type 0 where
-  pub goes : (b : Standing) → Noted b (drop (p .at) sheet) marks rows → Goes mode own sheet b k p k' marks' rows' r
+pub record CountTurn (mode : Mode) (own : ℕ) (sheet k marks rows : List ℕ) (p : CountCursor) (k' marks' rows' : List ℕ) (r : CountNext) : Type 0 where
+  pub goes : (b : Standing) → Noted b (drop (p .at) sheet) marks rows → CountGoes mode own sheet b k p k' marks' rows' r
   pub on : r .done ≡ false → p .at < r .cursor .at
   pub index : r .done ≡ false → r .cursor .index ≡ suc (p .index)
   pub turned : CountKept k k' r
 
-cond-right : (b : Bool) (x y z : Figures) → (b ≡ false → y ≡ z) → cond b x y ≡ cond b x z
-cond-right true x y z f = refl
-cond-right false x y z f = f refl
-
 -- where no instruction stands, or one that is refused, nothing is left
-pub stopped : (mode : Mode) (own : ℕ) (sheet : List ℕ) (b : Standing) (k : List ℕ) (p : CountCursor) {g : List ℕ} (n : ℕ) → Ready g k p
+pub stopped : (mode : Mode) (own : ℕ) (sheet : List ℕ) (b : Standing) (k : List ℕ) (p : CountCursor) {g : List ℕ} (n : ℕ) → CountReady g k p
     → Done (instructionFrom own) sheet (p .at) n → left mode own sheet b k p ≡ figuresAt n p
 stopped mode own sheet b k p n r h =
     let rest = drop (p .at) sheet in
@@ -275,9 +232,6 @@ stopped mode own sheet b k p n r h =
     (refusal n (p .index)))
 
 -- an instruction that stands at a position
-abbrev decodedAt : ℕ → List ℕ → ℕ → Decoded Instruction
-decodedAt own sheet at = decoded (instructionFrom own) (drop at sheet)
-
 stands-here : (mode : Mode) (own : ℕ) (sheet : List ℕ) (b : Standing) (k : List ℕ) (p : CountCursor) {i : Instruction} {next : ℕ}
     → Here (instructionFrom own) sheet (p .at) i next
     → left mode own sheet b k p
@@ -312,20 +266,19 @@ module _ {mode : Mode} {own : ℕ} {sheet k marks rows : List ℕ} {p : CountCur
   module _ {i : Instruction} {next : ℕ} {marks' rows' : List ℕ} {n : ℕ} (h : Here (instructionFrom own) sheet (p .at) i next)
       (e : instructionFrom own (drop (p .at) sheet) ≡ got i) (w : Follows (role i) (p .low .real) marks rows marks' rows' n) where
     turn-got : {k' : List ℕ} {r : CountNext} → past (drop (p .at) sheet) ≡ drop next sheet → n ≡ 0 → CountedOne mode i next k p k' r
-        → Turn mode own sheet k marks rows p k' marks' rows' r
+        → CountTurn mode own sheet k marks rows p k' marks' rows' r
     turn-got {k'} {r} g z l =
         record {
           goes = λ b t.
               let rest = drop (p .at) sheet in
               let f = Turns.seen own rest i e in
-              let o = sym (w .told b rest f t) ∙ z in
+              let o = neither (role i) b (past rest) (p .low .real) (sym (w .told b rest f t) ∙ z) in
               let after = passed (role i) (p .low .real) b in
               record {
                 before = after;
                 same =
                     stands-here mode own sheet b k p h
-                    ∙ l .same (decodedAt own sheet next .items) (decodedAt own sheet next .fault) rest b
-                    (Turns.placed (role i) b (past rest) (p .low .real) o) (Turns.equal (role i) b (past rest) (p .low .real) o)
+                    ∙ l .same (decodedAt own sheet next .items) (decodedAt own sheet next .fault) rest b (o .0) (o .1)
                     ∙ cond-right (r .done) _ _ _
                     (λ z.
                     ap (λ rest. goesOn mode (decodedAt own sheet next .items) (decodedAt own sheet next .fault) rest after k' (r .cursor)) g
@@ -339,7 +292,8 @@ module _ {mode : Mode} {own : ℕ} {sheet k marks rows : List ℕ} {p : CountCur
         }
 
     -- 10 or 11 refuses it
-    turn-refused : {g : List ℕ} → Ready g k p → (n ≡ 0 → ⊥) → Turn mode own sheet k marks rows p k marks' rows' (refusing n p)
+    turn-refused : {g : List ℕ} → CountReady g k p → (n ≡ 0 → ⊥) → CountTurn mode own sheet k marks rows p k marks' rows' (refusing n p)
+    unfolding shelfFrom
     turn-refused r z =
         record {
           goes = λ b t.
@@ -348,7 +302,7 @@ module _ {mode : Mode} {own : ℕ} {sheet k marks rows : List ℕ} {p : CountCur
                 before = b;
                 same =
                     stands-here mode own sheet b k p h
-                    ∙ shelf-label mode i (decodedAt own sheet next .items) (decodedAt own sheet next .fault) rest b _ _ _ n (w .told b rest (Turns.seen own rest i e) t) z
+                    ∙ refused-label mode 65536 i b (past rest) _ _ (λ n. refusal n (p .index)) _ n (w .told b rest (Turns.seen own rest i e) t) z
                     ∙ sym (at-refused n p z);
                 noted = no;
               };
@@ -357,66 +311,60 @@ module _ {mode : Mode} {own : ℕ} {sheet k marks rows : List ℕ} {p : CountCur
           turned = unchanged n r;
         }
 
-  turn-torn : {g marks' rows' : List ℕ} {n : ℕ} → Ready g k p → Done (instructionFrom own) sheet (p .at) n
-      → Turn mode own sheet k marks rows p k marks' rows' (refusing n p)
+  turn-torn : {g marks' rows' : List ℕ} {n : ℕ} → CountReady g k p → Done (instructionFrom own) sheet (p .at) n
+      → CountTurn mode own sheet k marks rows p k marks' rows' (refusing n p)
   turn-torn {n = n} r h =
       record { goes = λ b t. record { before = b; same = stopped mode own sheet b k p n r h; noted = no }; on = no; index = no; turned = unchanged n r }
 
 -- the code's answer
 module _ (own : ℕ) (sheet : List ℕ) (at : ℕ) (mode : Mode) (k : List ℕ) {p : CountCursor} {r : CountNext} {a : NextInstruction} where
   pub one-got : {i : Instruction} {next : ℕ} {k' : List ℕ} → asNext a ≡ instructionAt own sheet at → a ≡ NextInstruction.Got i next
-      → CountedOne mode i next k p k' r → Taken mode k p k' r (instructionAt own sheet at)
-  one-got {k' = k'} e f l = subst (λ x. Taken mode k p k' r x) (sym (ap asNext f) ∙ e) l
+      → CountedOne mode i next k p k' r → CountTaken mode k p k' r (instructionAt own sheet at)
+  one-got {k' = k'} e f l = subst (λ x. CountTaken mode k p k' r x) (sym (ap asNext f) ∙ e) l
 
   pub one-refused : {n : ℕ} → asNext a ≡ instructionAt own sheet at → a ≡ NextInstruction.Refused n → r ≡ refusing n p
-      → Taken mode k p k r (instructionAt own sheet at)
-  one-refused e f h = subst (λ x. Taken mode k p k r x) (sym (ap asNext f) ∙ e) (h, refl)
+      → CountTaken mode k p k r (instructionAt own sheet at)
+  one-refused e f h = subst (λ x. CountTaken mode k p k r x) (sym (ap asNext f) ∙ e) (h, refl)
 
 -- the labels tested: a number refuses, or the instruction is taken
 module _ {mode : Mode} {own : ℕ} {sheet g k marks rows marks' rows' : List ℕ} {p : CountCursor} {n : ℕ}
-    (ready : Ready g k p) (t : PassedFirst (drop (p .at) sheet) (p .low .real) marks rows marks' rows' n) where
-  pub turn-halted : (n ≡ 0 → ⊥) → Turn mode own sheet k marks rows p k marks' rows' (refusing n p)
+    (ready : CountReady g k p) (t : PassedFirst (drop (p .at) sheet) (p .low .real) marks rows marks' rows' n) where
+  pub turn-halted : (n ≡ 0 → ⊥) → CountTurn mode own sheet k marks rows p k marks' rows' (refusing n p)
   turn-halted z = go (instructionFrom own (drop (p .at) sheet)) refl
     where
-      go : (x : Read Instruction) → instructionFrom own (drop (p .at) sheet) ≡ x → Turn mode own sheet k marks rows p k marks' rows' (refusing n p)
+      go : (x : Read Instruction) → instructionFrom own (drop (p .at) sheet) ≡ x → CountTurn mode own sheet k marks rows p k marks' rows' (refusing n p)
       go (got i) e = turn-refused (Turns.here-got own sheet (p .at) i e) e (Turns.told own sheet (p .at) t i e) ready z
       go (refused m) e = absurd (z (Turns.untold own sheet (p .at) t m e))
 
-  pub turn-taken : {k' : List ℕ} {r : CountNext} → p .at < length sheet → n ≡ 0 → Taken mode k p k' r (instructionAt own sheet (p .at))
-      → Turn mode own sheet k marks rows p k' marks' rows' r
+  pub turn-taken : {k' : List ℕ} {r : CountNext} → p .at < length sheet → n ≡ 0 → CountTaken mode k p k' r (instructionAt own sheet (p .at))
+      → CountTurn mode own sheet k marks rows p k' marks' rows' r
   turn-taken {k'} {r} inside z l = go (instructionFrom own (drop (p .at) sheet)) refl
     where
-      go : (x : Read Instruction) → instructionFrom own (drop (p .at) sheet) ≡ x → Turn mode own sheet k marks rows p k' marks' rows' r
+      go : (x : Read Instruction) → instructionFrom own (drop (p .at) sheet) ≡ x → CountTurn mode own sheet k marks rows p k' marks' rows' r
       go (got i) e =
-          turn-got (Turns.here-got own sheet (p .at) i e) e (Turns.told own sheet (p .at) t i e) (Turns.past-got own sheet (p .at) i e) z (subst (λ x. Taken mode k p k' r x) (Turns.at-got own sheet (p .at) i e) l)
+          turn-got (Turns.here-got own sheet (p .at) i e) e (Turns.told own sheet (p .at) t i e) (Turns.past-got own sheet (p .at) i e) z (subst (λ x. CountTaken mode k p k' r x) (Turns.at-got own sheet (p .at) i e) l)
       go (refused m) e =
-          let q : (r ≡ refusing m p) × (k' ≡ k) = subst (λ x. Taken mode k p k' r x) (Turns.at-refused own sheet (p .at) m e) l in
-          subst (λ r. Turn mode own sheet k marks rows p k' marks' rows' r) (sym (q .0))
-          (subst (λ k'. Turn mode own sheet k marks rows p k' marks' rows' (refusing m p)) (sym (q .1)) (turn-torn ready (Turns.done-refused own sheet (p .at) m e inside)))
+          let q : (r ≡ refusing m p) × (k' ≡ k) = subst (λ x. CountTaken mode k p k' r x) (Turns.at-refused own sheet (p .at) m e) l in
+          subst (λ r. CountTurn mode own sheet k marks rows p k' marks' rows' r) (sym (q .0))
+          (subst (λ k'. CountTurn mode own sheet k marks rows p k' marks' rows' (refusing m p)) (sym (q .1)) (turn-torn ready (Turns.done-refused own sheet (p .at) m e inside)))
 
 -- ---- the loop
 
 -- what holds before each turn: what is left to count is the whole answer
-pub record Underway (mode : Mode) (own : ℕ) (sheet k₀ : List ℕ) (start : CountCursor) (g k marks rows : List ℕ) (p : CountCursor) : Type 0 where
-  pub ready : Ready g k p
+pub record CountUnderway (mode : Mode) (own : ℕ) (sheet k₀ : List ℕ) (start : CountCursor) (g k marks rows : List ℕ) (p : CountCursor) : Type 0 where
+  pub ready : CountReady g k p
   pub index : p .index ≤ p .at
   pub before : Standing
   pub noted : Noted before (drop (p .at) sheet) marks rows
   pub same : left mode own sheet before k p ≡ left mode own sheet noneStanding k₀ start
 
-on-false : (b : Bool) (x y : Figures) → b ≡ false → cond b x y ≡ y
-on-false b x y e = simp e
-
-on-true : (b : Bool) (x y : Figures) → b ≡ true → cond b x y ≡ x
-on-true b x y e = simp e
-
 module _ {mode : Mode} {own : ℕ} {sheet k₀ : List ℕ} {start : CountCursor} {g k marks rows : List ℕ} {p : CountCursor}
-    (s : Underway mode own sheet k₀ start g k marks rows p) {k' marks' rows' : List ℕ} {r : CountNext} (t : Turn mode own sheet k marks rows p k' marks' rows' r) where
-  gone : Goes mode own sheet (s .before) k p k' marks' rows' r
+    (s : CountUnderway mode own sheet k₀ start g k marks rows p) {k' marks' rows' : List ℕ} {r : CountNext} (t : CountTurn mode own sheet k marks rows p k' marks' rows' r) where
+  gone : CountGoes mode own sheet (s .before) k p k' marks' rows' r
   gone = t .goes (s .before) (s .noted)
 
   pub underway-next : {g' : List ℕ} → length g' ≡ length g → r .done ≡ false
-      → Underway mode own sheet k₀ start g' k' marks' rows' (r .cursor)
+      → CountUnderway mode own sheet k₀ start g' k' marks' rows' (r .cursor)
   underway-next h e =
       let u = t .turned in
       let q = s .ready in

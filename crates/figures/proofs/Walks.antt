@@ -21,7 +21,7 @@ use Rattle.figures.specs.declared.counting.BlockPart.{BlockPart}
 use Rattle.figures.specs.declared.counting.BlockStep.{BlockStep}
 use Rattle.lowering.specs.Labels.{Role}
 use Rattle.figures.specs.Shelf.{blockIn, branchOf, counted}
-use Rattle.figures.specs.Walk.{callsOf, blockStep, Listed}
+use Rattle.figures.specs.Walk.{callsOf, blockStep, StagedBytes}
 
 -- ---- one record
 
@@ -258,7 +258,7 @@ pub walking-first : (bytes : List ℕ) (c : Count) → Walking bytes c 0 (c .rec
 walking-first bytes c =
     record { rest = λ rs e. begin bytes c rs e; inside = omega arith; records = omega arith; calls = omega arith; block = omega arith }
 
-module _ {bytes : List ℕ} {c : Count} {at n m b : ℕ} {p : BlockPart} (v : Walking bytes c at n m b p) (l : Listed bytes) (h : at < length bytes)
+module _ {bytes : List ℕ} {c : Count} {at n m b : ℕ} {p : BlockPart} (v : Walking bytes c at n m b p) (l : StagedBytes bytes) (h : at < length bytes)
     {size kind label : ℕ} (e : size ≡ getD bytes at 0) (f : kind ≡ getD bytes (at + 2) 0) (g : label ≡ getD bytes (at + 4) 0) where
   pub forth : Stepped bytes c (l .records) at n m b p size kind label
   forth = step (v .rest (l .records) (l .same)) h e f g

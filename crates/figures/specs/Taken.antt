@@ -23,16 +23,16 @@ use Rattle.figures.specs.declared.entry.Figures.{Figures}
 use Rattle.figures.specs.declared.turn.CountCursor.{CountCursor}
 use Rattle.figures.specs.declared.turn.CountNext.{CountNext}
 use Rattle.figures.specs.Shelf.{refusal, branchOf, counted, run, shelfFrom}
-use Rattle.figures.specs.Walk.{Listed, Within}
+use Rattle.figures.specs.Walk.{StagedBytes, CountWithin}
 use Rattle.sheet.specs.declared.setup.Mode.{Mode}
 
 -- the stage and the constants, where the count stands
-pub record Ready (g k : List ℕ) (p : CountCursor) : Type 0 where
+pub record CountReady (g k : List ℕ) (p : CountCursor) : Type 0 where
   pub stage : length g ≡ 704
   pub words : length k ≡ 256
   pub count : p .constants ≤ 256
   pub space : space (take (p .constants) k) ≤ 256
-  pub taken : Within (p .taken)
+  pub taken : CountWithin (p .taken)
 
 -- the figures where the work ends here with a number, and those of the instructions from here on
 abbrev pub figuresAt : ℕ → CountCursor → Figures
@@ -66,17 +66,17 @@ finished t c next p =
 abbrev pub full : CountCursor → Role → List Record → Bool
 full p i rs = ltb 65536 (counted (p .taken) i rs .bytes)
 
-pub record Ended (t : Output) (i : Role) (rs : List Record) (next : ℕ) (k : List ℕ) (p : CountCursor) (k' : List ℕ) (r : CountNext) : Type 0 where
+pub record CountEnded (t : Output) (i : Role) (rs : List Record) (next : ℕ) (k : List ℕ) (p : CountCursor) (k' : List ℕ) (r : CountNext) : Type 0 where
   pub stands : r ≡ cond (full p i rs) (refusing 7 p) (finished t (counted (p .taken) i rs) next p)
   pub added : k' ≡ cond (full p i rs) k (sets k (p .constants) (take (t .added .count) (t .added .words)))
 
-abbrev pub Finished : Output → List ℕ → ℕ → ℕ → List ℕ → CountCursor → List ℕ → CountNext → Type 0
-Finished t bytes n next k p k' r = (i : Role) → n ≡ branchOf i → (rs : List Record) → bytes ≡ encodeAll rs → Ended t i rs next k p k' r
+abbrev pub CountFinished : Output → List ℕ → ℕ → ℕ → List ℕ → CountCursor → List ℕ → CountNext → Type 0
+CountFinished t bytes n next k p k' r = (i : Role) → n ≡ branchOf i → (rs : List Record) → bytes ≡ encodeAll rs → CountEnded t i rs next k p k' r
 
 -- what that asks of the turn and of the constants
-pub record Fits (t : Output) (bytes k : List ℕ) (p : CountCursor) : Type 0 where
-  pub listed : Listed bytes
-  pub taken : Within (p .taken)
+pub record CountFits (t : Output) (bytes k : List ℕ) (p : CountCursor) : Type 0 where
+  pub listed : StagedBytes bytes
+  pub taken : CountWithin (p .taken)
   pub words : length k ≡ 256
   pub few : t .added .count ≤ length (t .added .words)
   pub count : p .constants + t .added .count ≤ 256
@@ -87,7 +87,7 @@ pub record CountKept (k : List ℕ) (k' : List ℕ) (r : CountNext) : Type 0 whe
   pub words : length k' ≡ length k
   pub count : r .cursor .constants ≤ 256
   pub space : space (take (r .cursor .constants) k') ≤ 256
-  pub taken : Within (r .cursor .taken)
+  pub taken : CountWithin (r .cursor .taken)
 
 -- a label of the sheet's own
 abbrev pub OwnLabel : Role → Type 0
@@ -105,6 +105,6 @@ pub record CountedOne (mode : Mode) (i : Instruction) (next : ℕ) (k : List ℕ
   pub turned : OwnLabel (role i) → CountKept k k' r
 
 -- one turn: an instruction that is read is counted; one that a number refuses as it is read has changed nothing
-abbrev pub Taken : Mode → List ℕ → CountCursor → List ℕ → CountNext → Read (Item Instruction) → Type 0
-Taken mode k p k' r (got x) = CountedOne mode (x .item) (x .next) k p k' r
-Taken mode k p k' r (refused n) = (r ≡ refusing n p) × (k' ≡ k)
+abbrev pub CountTaken : Mode → List ℕ → CountCursor → List ℕ → CountNext → Read (Item Instruction) → Type 0
+CountTaken mode k p k' r (got x) = CountedOne mode (x .item) (x .next) k p k' r
+CountTaken mode k p k' r (refused n) = (r ≡ refusing n p) × (k' ≡ k)

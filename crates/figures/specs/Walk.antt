@@ -26,7 +26,7 @@ blockStep BlockPart.Inside kind label = cond (ltb kind 14) (record { adds = 1; n
 blockStep BlockPart.Behind kind label = record { adds = 0; next = BlockPart.Behind }
 
 -- bytes of records, no more than the stage has
-pub record Listed (bytes : List ℕ) : Type 0 where
+pub record StagedBytes (bytes : List ℕ) : Type 0 where
   pub records : List Record
   pub same : bytes ≡ encodeAll records
   pub short : length bytes ≤ 704
@@ -36,7 +36,7 @@ abbrev pub Counts : List ℕ → ℕ → Count → Count → Type 0
 Counts bytes n c r = (i : Role) → n ≡ branchOf i → (rs : List Record) → bytes ≡ encodeAll rs → r ≡ counted c i rs
 
 -- a count of at most 65,536 bytes
-pub record Within (c : Count) : Type 0 where
+pub record CountWithin (c : Count) : Type 0 where
   pub bytes : c .bytes ≤ 65536
   pub records : c .records ≤ c .bytes
   pub calls : c .calls ≤ c .records

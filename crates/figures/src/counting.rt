@@ -3,7 +3,7 @@ ghost use mathlib.Core.Path.{_≡_};
 ghost use Prim.Native.Nat.{_≤_};
 ghost use Rattle.lowering.specs.Labels.{role};
 ghost use Rattle.figures.specs.Shelf.{branchOf};
-ghost use Rattle.figures.specs.Walk.{callsOf, blockStep, Listed, Within, Counts};
+ghost use Rattle.figures.specs.Walk.{callsOf, blockStep, StagedBytes, CountWithin, Counts};
 use mir::fields::byte;
 use mir::records::Instruction;
 
@@ -111,8 +111,8 @@ fn block_step(part: BlockPart, kind: u8, label: u8) -> BlockStep
 
 // The records of one instruction more, from their bytes; `branches` is 1 where it branches.
 pub(crate) fn count_records(bytes: &[u8], branches: usize, before: Count) -> Count
-    requires { ⌜ Listed (now bytes) ⌝ }
-    requires { ⌜ Within before ⌝ }
+    requires { ⌜ StagedBytes (now bytes) ⌝ }
+    requires { ⌜ CountWithin before ⌝ }
     requires { ⌜ branches ≤ 1 ⌝ }
     ensures { λ r. ⌜ Counts (now (bytes .entry)) branches before r ⌝ }
 {

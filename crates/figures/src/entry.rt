@@ -5,8 +5,8 @@ ghost use lib.ListN.{length, drop, replicate};
 ghost use Rattle.lowering.specs.Labels.{noneStanding};
 ghost use Rattle.refusals.specs.Noted.{Noted};
 ghost use Rattle.figures.specs.Shelf as Spec;
-ghost use Rattle.figures.specs.Walk.{Within};
-ghost use Rattle.figures.specs.Taken.{Ready, left, figuresAt};
+ghost use Rattle.figures.specs.Walk.{CountWithin};
+ghost use Rattle.figures.specs.Taken.{CountReady, left, figuresAt};
 use super::counting::Count;
 use super::turn::CountCursor;
 use super::turn::one;
@@ -42,7 +42,7 @@ fn refusal(number: u8, index: usize) -> Figures
 
 // The records of a play: all, less the block where no branch stands, and the block once for each Call.
 fn records_run(taken: Count) -> usize
-    requires { ⌜ Within taken ⌝ }
+    requires { ⌜ CountWithin taken ⌝ }
     ensures { λ r. ⌜ r ≡ Spec.run taken ⌝ }
 {
     let block = taken.block;
@@ -54,7 +54,7 @@ fn records_run(taken: Count) -> usize
 
 // The figures where the work ends with a number.
 fn figures_at(number: u8, p: CountCursor) -> Figures
-    requires { ⌜ Within (p .taken) ⌝ }
+    requires { ⌜ CountWithin (p .taken) ⌝ }
     ensures { λ r. ⌜ r ≡ figuresAt number p ⌝ }
 {
     if number != 0 {
@@ -80,7 +80,7 @@ fn run(
     rows: &mut [u8],
     constants: &mut [u64],
 ) -> Figures
-    requires { ⌜ Ready (replicate 704 0) (now constants) start ⌝ }
+    requires { ⌜ CountReady (replicate 704 0) (now constants) start ⌝ }
     requires { ⌜ (start .index ≤ start .at) × (length (now sheet) ≤ 16384) ⌝ }
     requires { ⌜ Noted noneStanding (drop (start .at) (now sheet)) (now marks) (now rows) ⌝ }
     ensures { λ r. ⌜ r ≡ left mode own (now (sheet .entry)) noneStanding (now (constants .entry)) start ⌝ }
@@ -112,7 +112,7 @@ fn run_marked(
     start: CountCursor,
     constants: &mut [u64],
 ) -> Figures
-    requires { ⌜ Ready (replicate 704 0) (now constants) start ⌝ }
+    requires { ⌜ CountReady (replicate 704 0) (now constants) start ⌝ }
     requires { ⌜ (start .index ≤ start .at) × (length (now sheet) ≤ 16384) ⌝ }
     ensures { λ r. ⌜ r ≡ left mode own (now (sheet .entry)) noneStanding (now (constants .entry)) start ⌝ }
 {

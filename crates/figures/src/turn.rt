@@ -2,7 +2,7 @@
 ghost use mathlib.Core.Path.{_≡_};
 ghost use Prim.Native.Nat.{_≤_, _<_};
 ghost use Rattle.sheet.specs.Instruction.{instructionAt};
-ghost use Rattle.figures.specs.Taken.{Ready, Fits, Finished, CountedOne, Taken, refusing};
+ghost use Rattle.figures.specs.Taken.{CountReady, CountFits, CountFinished, CountedOne, CountTaken, refusing};
 use super::counting::Count;
 use super::counting::branch_of;
 use super::counting::count_records;
@@ -53,9 +53,9 @@ fn finish(
     p: CountCursor,
     constants: &mut [u64],
 ) -> CountNext
-    requires { ⌜ Fits t (now bytes) (now constants) p ⌝ }
+    requires { ⌜ CountFits t (now bytes) (now constants) p ⌝ }
     requires { ⌜ branches ≤ 1 ⌝ }
-    ensures { λ r. ⌜ Finished t (now (bytes .entry)) branches next (now (constants .entry)) p (now (constants .exit)) r ⌝ }
+    ensures { λ r. ⌜ CountFinished t (now (bytes .entry)) branches next (now (constants .entry)) p (now (constants .exit)) r ⌝ }
 {
     let taken = count_records(bytes, branches, p.taken);
     if 65536 < taken.bytes {
@@ -90,7 +90,7 @@ fn lower_one(
     stage: &mut [u8],
     constants: &mut [u64],
 ) -> CountNext
-    requires { ⌜ Ready (now stage) (now constants) p ⌝ }
+    requires { ⌜ CountReady (now stage) (now constants) p ⌝ }
     requires { ⌜ p .index < 65536 ⌝ }
     ensures { λ r. ⌜ CountedOne mode instruction next (now (constants .entry)) p (now (constants .exit)) r ⌝ }
 {
@@ -115,9 +115,9 @@ pub(crate) fn one(
     stage: &mut [u8],
     constants: &mut [u64],
 ) -> CountNext
-    requires { ⌜ Ready (now stage) (now constants) p ⌝ }
+    requires { ⌜ CountReady (now stage) (now constants) p ⌝ }
     requires { ⌜ p .index < 65536 ⌝ }
-    ensures { λ r. ⌜ Taken mode (now (constants .entry)) p (now (constants .exit)) r (instructionAt own (now (sheet .entry)) (p .at)) ⌝ }
+    ensures { λ r. ⌜ CountTaken mode (now (constants .entry)) p (now (constants .exit)) r (instructionAt own (now (sheet .entry)) (p .at)) ⌝ }
 {
     let at = p.at;
     match read_instruction(sheet, at, own) {

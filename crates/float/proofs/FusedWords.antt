@@ -196,26 +196,18 @@ sum-right-zero s t a b c h e = go (Bool·beq s t) refl
     go true q = sum-like s t a b c q ∙ ap (λ (x : ℕ). round binary64 s x c) {x = a + b} {y = a} (omega arith)
     go false q = sum-more s t a b c q (omega arith) ∙ ap (λ (x : ℕ). round binary64 s x c) {x = a - b} {y = a} (omega arith)
 
-pub unpacked-product : (a b c : ℕ) (r s : Bool) (m n : ℕ) (e f g : ℤ) → Unpacked a r m e → Unpacked b s n f → c % 2 ^ 63 ≡ 0 → mag g < 8192 → biased g + 8213 ≡ biased e + biased f
-    → round binary64 (unlike r s) (m * 1024 * (n * 2048) * up g) (down g) ≡ fusedMultiplyAdd binary64 (ofBits binary64 a) (ofBits binary64 b) (ofBits binary64 c)
-unpacked-product a b c r s m n e f g X Y z G is =
+pub unpacked-product : (a b c : ℕ) (r s : Bool) (m n : ℕ) (e f : ℤ) → Unpacked a r m e → Unpacked b s n f → c % 2 ^ 63 ≡ 0
+    → fusedMultiplyAdd binary64 (ofBits binary64 a) (ofBits binary64 b) (ofBits binary64 c) ≡ round binary64 (unlike r s) (m * n * 2 ^ (biased e + biased f)) (2 ^ 16384)
+unpacked-product a b c r s m n e f X Y z =
     let L = 2 ^ 8192 in
-    round-pow (unlike r s) (m * 1024 * (n * 2048)) g (biased g) 8192 (is-biased g G)
-    ∙ sym (fused-at (ofBits binary64 a) (ofBits binary64 b) (ofBits binary64 c) r s (leb (2 ^ 63) c) (m * 2 ^ biased e) (n * 2 ^ biased f) 0 L L 1 (pow-pos 8192) (pow-pos 8192) (omega arith)
+    fused-at (ofBits binary64 a) (ofBits binary64 b) (ofBits binary64 c) r s (leb (2 ^ 63) c) (m * 2 ^ biased e) (n * 2 ^ biased f) 0 L L 1 (pow-pos 8192) (pow-pos 8192) (omega arith)
     (unpacked-value a r m e X) (unpacked-value b s n f Y) (subst (λ (x : Float). HasValue x (leb (2 ^ 63) c) 0 1) (sym (word-zero c z)) (refl, refl))
     ∙ sum-right-zero (unlike r s) (leb (2 ^ 63) c) (m * 2 ^ biased e * (n * 2 ^ biased f) * 1) (0 * (L * L)) (L * L * 1)
     (mul-pos (mul-pos (mul-pos (positive m (X .lo)) (pow-pos (biased e))) (mul-pos (positive n (Y .lo)) (pow-pos (biased f)))) one-pos) (zero-mul (L * L))
-    ∙ round-same binary64 (unlike r s) (m * 2 ^ biased e * (n * 2 ^ biased f) * 1) (L * L * 1) (m * 1024 * (n * 2048) * 2 ^ biased g) L (mul-pos (mul-pos (pow-pos 8192) (pow-pos 8192)) one-pos) (pow-pos 8192)
-    (one (2 ^ biased e) (2 ^ biased f) L ∙ ap (λ (x : ℕ). m * n * x * L) powers ∙ two (2 ^ biased g) L))
+    ∙ ap (λ (x : ℕ). round binary64 (unlike r s) x (2 ^ 16384)) (one (2 ^ biased e) (2 ^ biased f) ∙ ap (λ (x : ℕ). m * n * x) (sym (pow-add 2 (biased e) (biased f))))
   where
     positive : (m : ℕ) → 2 ^ 52 ≤ m → 0 < m
     positive m h = omega arith
 
-    one : (A B C : ℕ) → m * A * (n * B) * 1 * C ≡ m * n * (A * B) * C
-    one A B C = omega arith
-
-    two : (D C : ℕ) → m * n * (D * 2 ^ 21 * C) * C ≡ m * 1024 * (n * 2048) * D * (C * C * 1)
-    two D C = omega arith
-
-    powers : 2 ^ biased e * 2 ^ biased f ≡ 2 ^ biased g * 2 ^ 21 * 2 ^ 8192
-    powers = sym (pow-add 2 (biased e) (biased f)) ∙ ap (λ (x : ℕ). 2 ^ x) {x = biased e + biased f} {y = biased g + 21 + 8192} (omega arith) ∙ sym (shifts (2 ^ biased g) 21 8192 ∙ sym (pow-add 2 (biased g) (21 + 8192)) ∙ ap (λ (x : ℕ). 2 ^ x) {x = biased g + (21 + 8192)} {y = biased g + 21 + 8192} (omega arith))
+    one : (A B : ℕ) → m * A * (n * B) * 1 ≡ m * n * (A * B)
+    one A B = omega arith

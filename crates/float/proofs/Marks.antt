@@ -1,5 +1,5 @@
 -- The words of results (`word` of specs/Word): a number's goes by its value alone, a NaN's by the first operand that is one. Assumes nothing.
-use mathlib.Core.Path.{_≡_, refl, sym, ap, _∙_}
+use mathlib.Core.Path.{_≡_, refl, sym, ap, ap₂, _∙_}
 use mathlib.Core.Bool.{Bool, true, false, true≢false, cond, Bool·beq, _&&_}
 use mathlib.Core.List.{List, [], _∷_}
 use Prim.Native.Nat.{ℕ, zero, suc, _+_, _-_, _*_, _/_, _%_, _^_, _≤_, compare}
@@ -10,7 +10,7 @@ use lib.Bits.{bitOr, or-mod, or-add-and, and-le-r}
 use lib.Ieee.{Float, nan, inf, fin, binary64, size, nearest, odd, units, round, sum, fits, isNan, ofBits, toBits}
 use lib.Ieee.Bits.{is-false, nanBits-is, nanBits-above, ofBits-toBits}
 use lib.Ieee.Fits.{round-is}
-use Rattle.float.specs.Word.{value, mark, word}
+use Rattle.float.specs.Word.{value, mark, word, flag}
 use Rattle.float.proofs.Nan.{only-nan, not-nan}
 
 -- ---- numbers
@@ -68,6 +68,13 @@ unfolding ofBits isNan
 padded a b nan = refl
 padded a b (inf s) = refl
 padded a b (fin s m e) = refl
+
+-- an operation, and a comparison, on values that were read
+pub computed : (op : Float → Float → Float) (a b : ℕ) {x y : Float} {r : ℕ} → r ≡ word (a ∷ b ∷ 0 ∷ []) (op x y) → x ≡ value a → y ≡ value b → r ≡ word (a ∷ b ∷ []) (op (value a) (value b))
+computed op a b e p q = e ∙ ap₂ (λ (x y : Float). word (a ∷ b ∷ 0 ∷ []) (op x y)) p q ∙ padded a b (op (value a) (value b))
+
+pub compared : (test : Float → Float → Bool) {x y u v : Float} {r : ℕ} → r ≡ flag (test x y) → x ≡ u → y ≡ v → r ≡ flag (test u v)
+compared test e p q = e ∙ ap₂ (λ (x y : Float). flag (test x y)) p q
 
 -- a NaN's pattern with bit 51 set is one
 still-nan : (a : ℕ) → isNan (value a) ≡ true → isNan (value (bitOr a (2 ^ 51))) ≡ true

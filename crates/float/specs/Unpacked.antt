@@ -19,7 +19,7 @@ pub record Unpacked (a : ℕ) (neg : Bool) (m : ℕ) (e : ℤ) : Type 0 where
   pub place : biased e ≤ 7118 + a % 2 ^ 63 / 2 ^ 52
 
 -- a significand of 53 binary digits, and an exponent in a word's range
-pub record Sized (m : ℕ) (e : ℤ) : Type 0 where
+pub record Normalized (m : ℕ) (e : ℤ) : Type 0 where
   pub lo : 2 ^ 52 ≤ m
   pub hi : m < 2 ^ 53
   pub small : mag e < 1200

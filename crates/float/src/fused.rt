@@ -1,11 +1,12 @@
 // Fused multiply-add of finite words.
-ghost use Prim.Native.Nat.{_+_, _*_, _%_, _^_, _<_};
+ghost use Prim.Native.Nat.{_+_, _*_, _%_, _^_, _<_, _≤_};
 ghost use mathlib.Core.Path.{_≡_};
 ghost use lib.Signed.{mag};
 ghost use lib.Ieee.{binary64, toBits, unlike};
 ghost use lib.Ieee as Ieee;
 ghost use Rattle.float.specs.Biased.{biased};
-ghost use Rattle.float.specs.Unpacked.{Sized};
+ghost use Rattle.float.specs.Near.{both, Scaled};
+ghost use Rattle.float.specs.Unpacked.{Normalized};
 ghost use Rattle.float.specs.Word as Word;
 use super::abs;
 use super::exponent::gap;
@@ -30,11 +31,27 @@ pub(crate) fn product_exponent(a: i32, b: i32) -> i32
     sum(sum(a, b), -21)
 }
 
-// x * y + z, of values that are finite and not zero. The product is written with 21 digits more and the addend with 73, so
-// that both have 126 or 127. The one with the smaller exponent is moved down to the other; digits that it loses leave a
+// x * y, of values that are finite and not zero, rounded once.
+pub(crate) fn rounded_product(x: Parts, y: Parts) -> u64
+    requires { ⌜ Normalized (x .m) (x .e) × Normalized (y .m) (y .e) ⌝ }
+    ensures { λ r. ⌜ r ≡ toBits binary64 (Ieee.round binary64 (unlike (x .neg) (y .neg)) (x .m * y .m * 2 ^ (biased (x .e) + biased (y .e))) (2 ^ 16384)) ⌝ }
+{
+    round_wide(x.neg != y.neg, product(x.m, y.m), sum(x.e, y.e))
+}
+
+// ±a * 2^ea and ±b * 2^eb added, and rounded once, where eb is not above ea. b is moved down; digits that it loses leave a
 // sticky one.
+pub(crate) fn aligned_sum(s: bool, a: Wide, ea: i32, t: bool, b: Wide, eb: i32) -> u64
+    requires { ⌜ Scaled (both (a .hi) (a .lo)) × Scaled (both (b .hi) (b .lo)) × (mag ea < 4000) × (mag eb < 4000) × (biased eb ≤ biased ea) ⌝ }
+    ensures { λ r. ⌜ r ≡ toBits binary64 (Ieee.sum binary64 s (both (a .hi) (a .lo) * 2 ^ biased ea) t (both (b .hi) (b .lo) * 2 ^ biased eb) (2 ^ 8192)) ⌝ }
+{
+    signed_sum(s, a, t, jam_wide(b, gap(ea, eb)), ea)
+}
+
+// x * y + z, of values that are finite and not zero. The product is written with 21 digits more and the addend with 73, so
+// that both have 126 or 127.
 pub(crate) fn fused_parts(x: Parts, y: Parts, z: Parts) -> u64
-    requires { ⌜ Sized (x .m) (x .e) × Sized (y .m) (y .e) × Sized (z .m) (z .e) ⌝ }
+    requires { ⌜ Normalized (x .m) (x .e) × Normalized (y .m) (y .e) × Normalized (z .m) (z .e) ⌝ }
     ensures { λ r. ⌜ r ≡ toBits binary64 (Ieee.sum binary64 (unlike (x .neg) (y .neg)) (x .m * y .m * 2 ^ (biased (x .e) + biased (y .e)))
         (z .neg) (z .m * 2 ^ (biased (z .e) + 8192)) (2 ^ 16384)) ⌝ }
 {
@@ -47,11 +64,9 @@ pub(crate) fn fused_parts(x: Parts, y: Parts, z: Parts) -> u64
         lo: 0,
     };
     if not_above(ez, ep) {
-        let b = jam_wide(w, gap(ep, ez));
-        return signed_sum(neg, p, z.neg, b, ep);
+        return aligned_sum(neg, p, ep, z.neg, w, ez);
     }
-    let b = jam_wide(p, gap(ez, ep));
-    signed_sum(z.neg, w, neg, b, ez)
+    aligned_sum(z.neg, w, ez, neg, p, ep)
 }
 
 // a * b + c, of finite words. A product that is zero is exact, and addition gives the sum.
@@ -65,8 +80,7 @@ pub(crate) fn fused_finite(a: u64, b: u64, c: u64) -> u64
     let x = unpack(a);
     let y = unpack(b);
     if abs(c) == 0 {
-        let p = product(x.m * 1024, y.m * 2048);
-        return round_wide(x.neg != y.neg, p, product_exponent(x.e, y.e));
+        return rounded_product(x, y);
     }
     let z = unpack(c);
     fused_parts(x, y, z)

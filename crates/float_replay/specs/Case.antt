@@ -1,17 +1,11 @@
 -- A case of the list: 41 bytes, the operation's number, four operands and the hardware's answer, words little-endian. Assumes nothing.
-use Prim.Native.Nat.{ℕ, _+_, _*_, _^_}
+use Prim.Native.Nat.{ℕ}
 use mathlib.Core.Bool.{Bool, not, _&&_}
 use mathlib.Core.List.{List, [], _∷_}
 use lib.ListN.{getD}
 use lib.Dec.{eqb, ltb}
 use Rattle.float.specs.Word as Word
-
--- the word whose lowest byte stands at i
-abbrev pub u16At : List ℕ → ℕ → ℕ
-u16At s i =
-    getD s i 0 + 2 ^ 8 * getD s (i + 1) 0 + 2 ^ 16 * getD s (i + 2) 0 + 2 ^ 24 * getD s (i + 3) 0 + 2 ^ 32 * getD s (i + 4) 0 + 2 ^ 40 * getD s (i + 5) 0
-    + 2 ^ 48 * getD s (i + 6) 0
-    + 2 ^ 56 * getD s (i + 7) 0
+use Rattle.words.specs.Bytes.{wordAt}
 
 -- what each operation gives, by its number; the operands it does not have are passed over
 abbrev pub answers : ℕ → ℕ → ℕ → ℕ → List ℕ
@@ -29,4 +23,4 @@ answer op a b c d = getD (answers a b c d) op 0
 
 -- whether the answer is not the one that `float` gives; no operation has a number above 34
 unfoldable pub differs : List ℕ → Bool
-differs s = not (ltb (getD s 0 0) 35 && eqb (answer (getD s 0 0) (u16At s 1) (u16At s 9) (u16At s 17) (u16At s 25)) (u16At s 33))
+differs s = not (ltb (getD s 0 0) 35 && eqb (answer (getD s 0 0) (wordAt s 1) (wordAt s 9) (wordAt s 17) (wordAt s 25)) (wordAt s 33))

@@ -1,31 +1,10 @@
 // One case: its words, and whether `float` gives its answer.
-ghost use Prim.Native.Nat.{_+_, _<_, _≤_};
+ghost use Prim.Native.Nat.{_≤_};
 ghost use mathlib.Core.Path.{_≡_};
 ghost use lib.ListN.{length};
 ghost use Rattle.float_replay.specs.Case as Case;
-ghost use Rattle.float_replay.specs.Case.{u16At, answer};
-
-fn wide(x: u8) -> u64
-    ensures { λ r. ⌜ (r ≡ x) × (r < 256) ⌝ }
-{
-    x as u64
-}
-
-// The word whose lowest byte stands at i.
-fn word(s: &[u8], i: usize) -> u64
-    requires { ⌜ i + 8 ≤ length (now s) ⌝ }
-    ensures { λ r. ⌜ r ≡ u16At (now (s .entry)) i ⌝ }
-{
-    let low = wide(s[i])
-        + 0x100 * wide(s[i + 1])
-        + 0x1_0000 * wide(s[i + 2])
-        + 0x100_0000 * wide(s[i + 3]);
-    let high = wide(s[i + 4])
-        + 0x100 * wide(s[i + 5])
-        + 0x1_0000 * wide(s[i + 6])
-        + 0x100_0000 * wide(s[i + 7]);
-    low + 0x1_0000_0000 * high
-}
+ghost use Rattle.float_replay.specs.Case.{answer};
+use words::word_at;
 
 // What the operation gives; 0 where no operation has that number.
 fn result(op: u8, a: u64, b: u64, c: u64, d: u64) -> u64
@@ -80,6 +59,12 @@ pub(crate) fn differs(s: &[u8]) -> bool
     if op >= 35 {
         return true;
     }
-    let r = result(op, word(s, 1), word(s, 9), word(s, 17), word(s, 25));
-    r != word(s, 33)
+    let r = result(
+        op,
+        word_at(s, 1),
+        word_at(s, 9),
+        word_at(s, 17),
+        word_at(s, 25),
+    );
+    r != word_at(s, 33)
 }

@@ -1,18 +1,11 @@
 // The counts of a replay.
-ghost use Prim.Native.Nat.{_+_, _*_, _/_, _<_, _≤_};
+ghost use Prim.Native.Nat.{_/_, _<_, _≤_};
 ghost use mathlib.Core.Path.{_≡_};
 ghost use lib.ListN.{length};
 ghost use Rattle.float_replay.specs.Tally as Tally;
-ghost use Rattle.float_replay.specs.Tally.{raised, tallied, counted, replayed};
+ghost use Rattle.float_replay.specs.Tally.{tallied, counted, replayed};
 use crate::case::differs;
-
-// One more at i.
-fn raise(t: &mut [u64; 74], i: usize)
-    requires { ⌜ i < 74 ⌝ }
-    ensures { λ _. ⌜ now (t .exit) ≡ raised (now (t .entry)) i ⌝ }
-{
-    t[i] = std::num::wrapping_add_u64(t[i], 1);
-}
+use replay::tally::raise;
 
 // One case more of k, which differs or does not.
 fn tally(t: &mut [u64; 74], k: usize, d: bool)

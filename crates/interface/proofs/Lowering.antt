@@ -1,48 +1,34 @@
 -- Lowering over words and over bytes: the answer's 128 bytes, and the constants' words.
-use Prim.Native.Nat.{ℕ, _+_, _/_, _%_, _≤_, _<_}
+use Prim.Native.Nat.{ℕ, _+_, _/_, _≤_, _<_}
 use mathlib.Core.Path.{_≡_, refl, sym, ap, _∙_, subst}
 use mathlib.Core.Bool.{cond}
-use mathlib.Core.List.{List, [], _∷_, _++_, map}
+use mathlib.Core.List.{List, [], _∷_}
 use native.Mathlib.Nat.{min-le-left}
 use native.Mathlib.Omega.{arith}
-use lib.ListN.{length, take, getD, length-append, length-map, length-take}
-use lib.Seq.{sets, length-sets}
+use lib.ListN.{length, take, getD, length-take}
+use lib.Seq.{sets}
 use borrow.Author.Tests.{eq-eqb, ne-eqb}
 use Rattle.mir.proofs.Passing.{either}
+use Rattle.lowering.specs.RecordBytes.{recordBytes}
 use Rattle.lowering.specs.Lower.{lowerSheet}
+use Rattle.lowering.proofs.RecordStored.{length-record, both-stored}
 use Rattle.complexify.specs.declared.entry.LowerAnswer as Lowered
 use Rattle.complexify.specs.Entry as Lower
 use Rattle.complexify.proofs.Within.{within}
 use Rattle.words.specs.Bytes.{bytesOf, wordsOf, stored}
-use Rattle.words.proofs.Lengths.{length-bytesOf, length-wordsOf, sets-append, sets-whole, sets-front, bytesOf-sets}
+use Rattle.words.proofs.Lengths.{length-bytesOf, length-wordsOf, sets-front, bytesOf-sets}
 use Rattle.words.proofs.RoundTrip.{bytesOf-wordsOf}
 use Rattle.words.proofs.Stored.{stored-fits}
-use Rattle.interface.specs.Calls.{flag, lowerAnswer, lowerCall}
+use Rattle.interface.specs.Calls.{lowerAnswer, lowerCall}
 
--- three runs of stores, one after the other, that fill the slice
-three-runs : (l a b c : List ℕ) {x y z : List ℕ} → length l ≡ 128 → length a ≡ 32 → length b ≡ 32 → length c ≡ 64
-    → x ≡ stored l 0 a → y ≡ sets x 32 b → z ≡ stored y 64 c → z ≡ a ++ (b ++ c)
-three-runs l a b c {x} {y} {z} hl ha hb hc e f g =
-    let m = length-append a (b ++ c) in
-    let n = length-append b c in
-    let whole = sets-whole l (a ++ (b ++ c)) (omega arith) in
-    let first = sets-append l a (b ++ c) 0 in
-    let second = sets-append (sets l 0 a) b c 32 in
-    let p : y ≡ sets (sets l 0 a) 32 b = f ∙ ap (λ v. sets v 32 b) (e ∙ stored-fits l 0 a (omega arith)) in
-    let long : length y ≡ length l = ap length p ∙ length-sets (sets l 0 a) 32 b ∙ length-sets l 0 a in
-    g ∙ stored-fits y 64 c (omega (arith, long)) ∙ ap (λ v. sets v 64 c) p
-    ∙ sym (ap (λ k. sets (sets (sets l 0 a) 32 b) (32 + k) c) hb)
-    ∙ sym second
-    ∙ sym (ap (λ k. sets (sets l 0 a) (0 + k) (b ++ c)) ha)
-    ∙ sym first
-    ∙ whole
-
-pub told : (a : Lowered.LowerAnswer) (l : List ℕ) {x y z : List ℕ} → length l ≡ 128 → length (a .real .regs) ≡ 32 → length (a .real .places) ≡ 64
-    → x ≡ stored l 0 (bytesOf (a .number ∷ a .index ∷ a .written ∷ a .count ∷ [])) → y ≡ sets x 32 (map flag (a .real .regs))
-    → z ≡ stored y 64 (a .real .places) → z ≡ lowerAnswer a
-told a l hl hr hp =
-    three-runs l (bytesOf (a .number ∷ a .index ∷ a .written ∷ a .count ∷ [])) (map flag (a .real .regs)) (a .real .places) hl
-    (length-bytesOf (a .number ∷ a .index ∷ a .written ∷ a .count ∷ [])) (length-map (a .real .regs) flag ∙ hr) hp
+-- the numbers and the record of realness fill the answer
+pub told : (a : Lowered.LowerAnswer) (l : List ℕ) {x r y : List ℕ} → length l ≡ 128 → length (a .real .regs) ≡ 32 → length (a .real .places) ≡ 64
+    → x ≡ stored l 0 (bytesOf (a .number ∷ a .index ∷ a .written ∷ a .count ∷ [])) → r ≡ recordBytes (a .real) → y ≡ stored x 32 r → y ≡ lowerAnswer a
+told a l {x} hl hr hp e g f =
+    let b : List ℕ = bytesOf (a .number ∷ a .index ∷ a .written ∷ a .count ∷ []) in
+    let n : length b ≡ 32 = length-bytesOf (a .number ∷ a .index ∷ a .written ∷ a .count ∷ []) in
+    let m = length-record (a .real) hr hp in
+    f ∙ ap (stored x 32) g ∙ both-stored l b (recordBytes (a .real)) 32 n (omega (arith, m, hl)) (e ∙ stored-fits l 0 b (omega (arith, n, hl)))
 
 module _ (sheet listing constants lent : List ℕ) (whole-answer : length lent ≡ 128) where
   pub wrong-constants : {a : Lowered.LowerAnswer} {r : List ℕ} → (length constants ≡ 2048 → ⊥) → a ≡ Lower.refusedSetup → r ≡ lowerAnswer a

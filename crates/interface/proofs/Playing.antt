@@ -1,14 +1,14 @@
 -- Playing over words and over bytes: the constants' words, and too many of them.
-use Prim.Native.Nat.{ℕ, _/_, _%_, _≤_, _<_}
+use Prim.Native.Nat.{ℕ, _/_, _%_, _<_}
 use mathlib.Core.Path.{_≡_, refl, sym, ap, _∙_}
 use mathlib.Core.Bool.{Bool, true, false, not, _||_}
 use mathlib.Core.List.{List, [], _∷_}
 use native.Mathlib.Omega.{arith}
 use lib.ListN.{length}
 use lib.Dec.{ltb, eqb}
-use borrow.Author.Tests.{eq-eqb, ne-eqb, lt-ltb}
+use borrow.Author.Tests.{eq-eqb, lt-ltb}
 use Rattle.player_machine.specs.Machine.{Store}
-use Rattle.player_machine.specs.Answer.{Answer, refuse, answer}
+use Rattle.player_machine.specs.Answer.{refuse, answer}
 use Rattle.player.specs.declared.PlayAnswer as player
 use Rattle.player.specs.Values.{whole}
 use Rattle.words.specs.Bytes.{bytesOf, wordsOf, stored}

@@ -1,9 +1,10 @@
 -- What the C functions give, over the bytes that a caller lends.
 use Prim.Native.Nat.{ℕ, _%_}
-use mathlib.Core.Bool.{Bool, not, cond, _||_}
+use mathlib.Core.Bool.{not, cond, _||_}
 use mathlib.Core.List.{List, [], _∷_, _++_, map}
 use lib.ListN.{length}
 use lib.Dec.{eqb}
+use Rattle.mir.specs.Encode.{flagByte}
 use Rattle.player_machine.specs.Answer.{Answer, answer}
 use Rattle.complexify.specs.declared.entry.LowerAnswer as Lowered
 use Rattle.complexify.specs.Entry as Lower
@@ -38,15 +39,11 @@ pub record LowerCall : Type 0 where
   pub constants : List ℕ
   pub answer : List ℕ
 
--- 1: recorded as real
-abbrev pub flag : Bool → ℕ
-flag real = cond real 1 0
-
--- the answer of lowering: number, index, bytes written and count of constants, eight bytes each; the flags of the 32 registers; the 64 bytes
--- of real places
+-- the answer of lowering: number, index, bytes written and count of constants, eight bytes each; the flags of the 32 registers, 1 where one is
+-- recorded as real; the 64 bytes of real places
 abbrev pub lowerAnswer : Lowered.LowerAnswer → List ℕ
 lowerAnswer a =
-    bytesOf (a .number ∷ a .index ∷ a .written ∷ a .count ∷ []) ++ (map flag (a .real .regs) ++ a .real .places)
+    bytesOf (a .number ∷ a .index ∷ a .written ∷ a .count ∷ []) ++ (map flagByte (a .real .regs) ++ a .real .places)
 
 -- An answer of another length than 128 bytes is refused by 8 with nothing written. Constants of another length than 256 words of eight
 -- bytes are refused by 8 as the entry refuses a wrong setup: listing and constants unchanged. Otherwise the call gives what the entry gives

@@ -6,12 +6,9 @@ ghost use Rattle.player_machine.specs.Answer.{answer};
 ghost use Rattle.player.specs.Values.{whole};
 ghost use Rattle.complexify.specs.Entry as Entry;
 ghost use Rattle.words.specs.Bytes.{bytesOf, wordsOf, stored};
-ghost use Rattle.interface.specs.Calls.{PlayCall, LowerCall, playCall, lowerCall, lowerAnswer};
-
-mod flags;
-
+ghost use Rattle.interface.specs.Calls.{playCall, lowerCall, lowerAnswer};
 use complexify::entry::LowerAnswer;
-use flags::put_flags;
+use lowering::bytes::record_bytes;
 use lowering::realness::Realness;
 use player::PlayAnswer;
 use words::load;
@@ -85,11 +82,8 @@ fn put_answer(out: &mut [u8], a: LowerAnswer)
         a.count as u64,
     ];
     save(out, &numbers);
-    let real = a.real;
-    let regs = real.regs;
-    let places = real.places;
-    put_flags(out, 32, regs);
-    put_bytes(out, 64, &places);
+    let record = record_bytes(a.real);
+    put_bytes(out, 32, &record);
 }
 
 // What constants of another length than 256 words give.

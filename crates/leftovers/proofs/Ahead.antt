@@ -10,7 +10,7 @@ use Rattle.mir.specs.Read.{Read, got, refused}
 use Rattle.mir.specs.Field.{u16At}
 use Rattle.mir.specs.Decode.{onto, decodedFrom, decoded}
 use Rattle.sheet.specs.Instruction.{instructionFrom, instructions}
-use Rattle.sheet.proofs.Refusals.{refused-by}
+use Rattle.sheet.proofs.Ranges.{refused-by}
 use Rattle.sheet.proofs.Reading.{whole}
 use Rattle.lowering.specs.Labels.{role, sees, later}
 use Rattle.lowering.specs.Lower.{past}

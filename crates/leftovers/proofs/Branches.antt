@@ -30,7 +30,8 @@ use Rattle.leftovers.proofs.Sought.{Without, none≢some, some-inj}
 use Rattle.leftovers.proofs.Moves.{OwnWay, Moves, working, labelled, branched, decided, untouched}
 use Rattle.leftovers.proofs.Methods.{Keeps}
 use Rattle.leftovers.proofs.Root.{Block}
-use Rattle.leftovers.proofs.Instructions.{InRange, AllIn, Works, Cleared, HalfOk, rerun-keeps}
+use Rattle.sheet.proofs.Ranges.{InRange}
+use Rattle.leftovers.proofs.Instructions.{AllIn, Works, Cleared, HalfOk, rerun-keeps}
 use Rattle.leftovers.proofs.Listing.{Said, quiet, directs, calls, opens, InSome, AllOutside, rerun-said}
 
 -- ---- the labels and branches among a working instruction's records are Root's

@@ -1,7 +1,7 @@
 -- `ensure_complex` clears an imaginary half: the methods that begin with it.
 use mathlib.Core.Path.{_≡_, refl, sym, _∙_, subst}
 use mathlib.Core.Bool.{Bool, true, false, true≢false}
-use mathlib.Core.Logic.{_⊎_, inl, inr}
+use mathlib.Core.Logic.{_⊎_, ⊎-elim, inl, inr}
 use mathlib.Core.List.{List, [], _∷_, map}
 use Prim.Native.Nat.{ℕ, _<_}
 use native.Mathlib.Omega.{arith}
@@ -25,10 +25,10 @@ use Rattle.lowering.specs.Complexifier as c
 use Rattle.lowering.specs.Complexifier.{State, then, emit}
 use Rattle.leftovers.specs.Kept.{Kept, kept-im}
 use Rattle.player_machine.proofs.Drawing.{xor-zero}
-use Rattle.leftovers.proofs.Rows.{weaken, either}
+use Rattle.leftovers.proofs.Rows.{weaken}
 use Rattle.leftovers.proofs.Names.{rename, good, kept-new, leaf-agree, halves-apart, im-apart}
 use Rattle.mir.proofs.Decoding.{none}
-use Rattle.records.proofs.Holding.{Stacked}
+use Rattle.mir.proofs.IfRead.{Stacked}
 use Rattle.leftovers.proofs.Held.{all-listed}
 use Rattle.leftovers.proofs.Names.{rename-held}
 use Rattle.leftovers.proofs.Stretch.{Safe, join, leaf, leaf₂, works-safe}
@@ -72,7 +72,7 @@ module _ (k : List ℕ) (B : List Work) (X Z : ℕ → Type 0) (H : Type 0) (s :
           (λ few. rename-held a a a (Loc.Mem 0) k l few (lit< tt) tt tt)
       go false e =
           works-safe []
-          (λ σ τ _ g. weaken (λ w q. either (λ q. q) (λ c. subst (Kept (s .real)) c (kept-im a ha e)) (kept-new a q)) g)
+          (λ σ τ _ g. weaken (λ w q. ⊎-elim (λ q. q) (λ c. subst (Kept (s .real)) c (kept-im a ha e)) (kept-new a q)) g)
           (λ σ r h n. (refl, inl refl))
           (λ few. none)
 

@@ -10,9 +10,11 @@ use Rattle.mir.specs.declared.records.Work.{Work}
 use Rattle.mir.specs.declared.records.Record.{Record}
 use Rattle.mir.specs.Place.{index}
 use Rattle.mir.specs.Takes.{takesUni, takesBin, takesFused}
+use Rattle.mir.proofs.Tables.{and-left, and-right}
 use Rattle.mir.proofs.Decoding.{none, and}
-use Rattle.records.proofs.Holding.{Saved, Stacked, Holds, AllHold}
-use Rattle.leftovers.proofs.Rows.{T→true, has, all-in, and-l, and-r, ren}
+use Rattle.mir.proofs.IfRead.{Saved, Stacked}
+use Rattle.records.proofs.Holding.{Holds, AllHold}
+use Rattle.leftovers.proofs.Rows.{T→true, has, all-in, ren}
 
 abbrev pub All : (ℕ → Type 0) → List ℕ → Type 0
 All P [] = Unit {0}
@@ -82,14 +84,14 @@ module _ (count : ℕ) (few : count ≤ 65536) (f : ℕ → ℕ) (p : Loc) (hp :
   unfolding all-in
   lows [] t = tt
   lows (x ∷ xs) t =
-      (low x (and-l (has x registers) (all-in xs registers) t), lows xs (and-r (has x registers) (all-in xs registers) t))
+      (low x (and-left (has x registers) (all-in xs registers) t), lows xs (and-right (has x registers) (all-in xs registers) t))
 
   -- with an operation that is tested first
   taken : (b : Bool) (xs : List ℕ) → T (b && all-in xs registers) → b ≡ true
-  taken b xs t = T→true b (and-l b (all-in xs registers) t)
+  taken b xs t = T→true b (and-left b (all-in xs registers) t)
 
   after : (b : Bool) (xs : List ℕ) → T (b && all-in xs registers) → All (λ n. f n ≤ 65) xs
-  after b xs t = lows xs (and-r b (all-in xs registers) t)
+  after b xs t = lows xs (and-right b (all-in xs registers) t)
 
   held-line : (w : Work) → T (listed w) → Asks count p (w ∷ []) → Holds count (Record.Work (ren f (λ q. p) w))
   unfolding listed ren
@@ -119,4 +121,4 @@ module _ (count : ℕ) (few : count ≤ 65536) (f : ℕ → ℕ) (p : Loc) (hp :
   held-lines [] t h = none
   held-lines (w ∷ l) t h =
       let q = split count p w l h in
-      and (held-line w (and-l (listed w) (all-listed l) t) (q .0)) (held-lines l (and-r (listed w) (all-listed l) t) (q .1))
+      and (held-line w (and-left (listed w) (all-listed l) t) (q .0)) (held-lines l (and-right (listed w) (all-listed l) t) (q .1))

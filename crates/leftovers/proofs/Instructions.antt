@@ -12,7 +12,6 @@ use Rattle.mir.specs.declared.ops.FusedOp.{FusedOp}
 use Rattle.mir.specs.declared.records.Work.{Work}
 use Rattle.mir.specs.declared.records.Instruction.{Instruction}
 use Rattle.mir.specs.Register.{re, im}
-use Rattle.mir.specs.Place.{index}
 use Rattle.sheet.specs.declared.setup.Mode.{Mode}
 use Rattle.sheet.specs.Setup.{isStable}
 use Rattle.lowering.specs.declared.realness.Realness.{Realness}
@@ -25,7 +24,7 @@ use Rattle.lowering.specs.Complexifier.{State, then, unlisted, copied, asReal, 
 use Rattle.lowering.specs.Rerun.{rerunUni, rerunBin, rerunFused, rerun}
 use Rattle.leftovers.proofs.Names.{rename, good}
 use Rattle.leftovers.proofs.Stretch.{join}
-use Rattle.records.proofs.Holding.{Saved, Stacked}
+use Rattle.sheet.proofs.Ranges.{InRange}
 use Rattle.leftovers.specs.Leftovers.{IsDestination, IsOperand}
 use Rattle.leftovers.proofs.Methods.{Keeps, two, unary, binary, settled, fmov-keeps, each-keeps, abs-keeps, recip-keeps, plus-keeps, minus-keeps}
 use Rattle.leftovers.proofs.Methods.{times-keeps, divide-keeps, arith-keeps, order-keeps, bits-keeps}
@@ -33,23 +32,6 @@ use Rattle.leftovers.proofs.Clearing.{compare-keeps, ifelse-keeps}
 use Rattle.leftovers.proofs.Places.{load-keeps, save-keeps}
 use Rattle.leftovers.proofs.Halving.{half-keeps}
 use Rattle.leftovers.proofs.Root.{Block, unlisted-keeps, root-keeps, root-defines, compare-zero-keeps, frame-any}
-
--- registers, places and constants within a sheet's limits
-abbrev pub InRange : ℕ → Instruction → Type 0
-InRange count Instruction.Nop = Unit {0}
-InRange count (Instruction.Uni op d a) = (d < 32) × (a < 32)
-InRange count (Instruction.Bi op d a b) = (d < 32) × (a < 32) × (b < 32)
-InRange count (Instruction.Mov d a) = (d < 32) × (a < 32)
-InRange count (Instruction.Load d p) = (d < 32) × (index p < 256)
-InRange count (Instruction.Save a p) = (a < 32) × (index p < 256) × Saved p
-InRange count (Instruction.LoadConst d i) = (d < 32) × (i < count)
-InRange count (Instruction.Fused op d a b c) = (d < 32) × (a < 32) × (b < 32) × (c < 32)
-InRange count (Instruction.IfElse d a b p) = (d < 32) × (a < 32) × (b < 32) × (index p < 256) × Stacked p
-InRange count (Instruction.LoadMath op d a p) = (d < 32) × (a < 32) × (index p < 256)
-InRange count (Instruction.LoadConstMath op d a i) = (d < 32) × (a < 32) × (i < count)
-InRange count (Instruction.Label l) = 2 < l
-InRange count (Instruction.Branch l) = 2 < l
-InRange count (Instruction.BranchIf c l e) = (c < 32) × (2 < l)
 
 -- every instruction is in range
 abbrev pub AllIn : ℕ → List Instruction → Type 0

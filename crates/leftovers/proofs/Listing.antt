@@ -30,7 +30,8 @@ use Rattle.lowering.specs.Complexifier.{bothAsReal, bothAsComplex}
 use Rattle.lowering.specs.Rerun.{compareZero, rerunUni, rerunBin, rerunFused, rerunArith, rerun, complexify}
 use Rattle.lowering.specs.Complexifier.{aroundBlock, threeLines, withReal, savedReal}
 use Rattle.leftovers.proofs.Methods.{two}
-use Rattle.leftovers.proofs.Instructions.{InRange, AllIn, Works}
+use Rattle.sheet.proofs.Ranges.{InRange}
+use Rattle.leftovers.proofs.Instructions.{AllIn, Works}
 use Rattle.leftovers.proofs.Constants.{Stable, min-positive, infinity, quarter, mask, floor, Grown, same, grown-then, grown-three}
 use Rattle.leftovers.proofs.Root.{Block, root-block-fine}
 

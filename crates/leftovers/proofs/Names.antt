@@ -16,6 +16,7 @@ use Rattle.mir.specs.declared.records.Loc.{Loc}
 use Rattle.mir.specs.declared.records.Work.{Work}
 use Rattle.mir.specs.declared.records.Record.{Record}
 use Rattle.mir.specs.Register.{re, im}
+use Rattle.mir.proofs.Tables.{and-left, and-right}
 use Rattle.records.proofs.Holding.{AllHold}
 use Rattle.mir.specs.Place.{class, index}
 use Rattle.player_machine.specs.Machine.{Store, at, place, execs}
@@ -24,7 +25,7 @@ use Rattle.lowering.specs.Realness.{isRealReg, isRealLoc, setReg}
 use Rattle.leftovers.specs.Kept.{Kept, kept-re, kept-im, kept-word, kept-next}
 use Rattle.leftovers.proofs.Rows.{Agree, weaken, has, all-in, check, known, given, ren, Named}
 use Rattle.leftovers.proofs.Held.{All, registers, all-listed, Asks, held-lines}
-use Rattle.leftovers.proofs.Rows.{or-cases, and-l, and-r, either, steps-agree, steps-keep}
+use Rattle.leftovers.proofs.Rows.{or-cases, steps-agree, steps-keep}
 
 -- the word that a name means: Temp, scratch and Ret mean themselves, a place's real word means p's, and its imaginary word p's
 unfoldable pub name : ℕ → ℕ → ℕ → Loc → ℕ → ℕ
@@ -55,13 +56,13 @@ rename d a b p l = map (ren (name d a b p) (λ q. p)) l
 
 pub pick-all : (P : ℕ → Type 0) (xs : List ℕ) (n : ℕ) → All P xs → T (has n xs) → P n
 pick-all P (x ∷ xs) n h m =
-    either (λ e. rw (eqb→eq n x e) (h .0)) (λ t. pick-all P xs n (h .1) t) (or-cases (eqb n x) (has n xs) m)
+    ⊎-elim (λ e. rw (eqb→eq n x e) (h .0)) (λ t. pick-all P xs n (h .1) t) (or-cases (eqb n x) (has n xs) m)
 
 pub in-all : (n : ℕ) (xs ys : List ℕ) → T (all-in xs ys) → T (has n xs) → T (has n ys)
 unfolding all-in
 in-all n (x ∷ xs) ys h m =
-    either (λ e. rw (eqb→eq n x e) (and-l (has x ys) (all-in xs ys) h))
-    (λ t. in-all n xs ys (and-r (has x ys) (all-in xs ys) h) t)
+    ⊎-elim (λ e. rw (eqb→eq n x e) (and-left (has x ys) (all-in xs ys) h))
+    (λ t. in-all n xs ys (and-right (has x ys) (all-in xs ys) h) t)
     (or-cases (eqb n x) (has n xs) m)
 
 -- ---- the halves
@@ -235,7 +236,7 @@ module _ (ρ : Realness) (d a b : ℕ) (p : Loc) (hd : d < 32) (ha : a < 32) (hb
       out : (g : Bool) → T (g || has 5 (known (start x y z) l)) → (w : ℕ) → Kept (setReg ρ d g) w
           → Named (name d a b p) (λ q. p) (name-real d a b p) (name-imaginary d a b p) (Kept ρ) (known (start x y z) l) w
       out true t w q = inl (kept-up d q)
-      out false t w q = either (λ q. inl q) (λ e. inr (5, t, e)) (kept-new d q)
+      out false t w q = ⊎-elim (λ q. inl q) (λ e. inr (5, t, e)) (kept-new d q)
 
 -- lines that pass the test can be held
 names-low : (d a b : ℕ) (p : Loc) → All (λ n. name d a b p n ≤ 65) registers

@@ -1,7 +1,7 @@
 -- Loads and saves, and the record of real places.
 use mathlib.Core.Path.{_≡_, refl, sym, _∙_}
 use mathlib.Core.Bool.{Bool, true, false}
-use mathlib.Core.Logic.{_⊎_, inl, inr}
+use mathlib.Core.Logic.{_⊎_, ⊎-elim, inl, inr}
 use mathlib.Core.List.{List, [], _∷_, map}
 use Prim.Native.Nat.{ℕ, suc, _+_, _<_}
 use native.Mathlib.Omega.{arith}
@@ -17,9 +17,9 @@ use Rattle.lowering.specs.Lines.{loadLines, saveLines}
 use Rattle.lowering.specs.Complexifier as c
 use Rattle.lowering.specs.Complexifier.{State, then, emit}
 use Rattle.leftovers.specs.Kept.{Kept, kept-re, kept-im, kept-word, kept-next}
-use Rattle.leftovers.proofs.Rows.{weaken, either, Named, all-in, given, check, known}
+use Rattle.leftovers.proofs.Rows.{weaken, Named, all-in, given, check, known}
 use Rattle.leftovers.proofs.Names.{rename, good, name, lines-agree, lines-frame}
-use Rattle.records.proofs.Holding.{Saved}
+use Rattle.mir.proofs.IfRead.{Saved}
 use Rattle.leftovers.proofs.Held.{all-listed}
 use Rattle.leftovers.proofs.Names.{rename-held}
 use Rattle.leftovers.proofs.Stretch.{Safe, join, leaf, works-safe}
@@ -65,7 +65,7 @@ module _ (k : List ℕ) (B : List Work) (X Z : ℕ → Type 0) (H : Type 0) (a :
   unfolding saveLines all-listed rename name Named check known given all-in
   store-keeps ρ e =
       works-safe (saveLines a p)
-      (λ σ τ _ g. weaken (λ w q. either (λ q. inl q) (λ e. inr (71, tt, e)) (kept-saved p hp q))
+      (λ σ τ _ g. weaken (λ w q. ⊎-elim (λ q. inl q) (λ e. inr (71, tt, e)) (kept-saved p hp q))
       (lines-agree ρ 31 a a p k (6 ∷ 7 ∷ []) l (kept-re a ha, (kept-im a ha e, tt)) tt g))
       (lines-frame X Z 31 a a p k l tt (λ r h n. omega arith))
       (λ few. rename-held 31 a a p k l few hp tt (sv, tt))

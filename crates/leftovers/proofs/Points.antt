@@ -1,7 +1,7 @@
 -- A whole play of a whole sheet, by its points.
 use mathlib.Core.Path.{_≡_, refl, sym, ap, _∙_, subst}
 use mathlib.Core.Bool.{Bool, true, false, cond}
-use mathlib.Core.List.{List, [], _∷_, _++_, append-assoc, append-nil}
+use mathlib.Core.List.{List, [], _∷_, _++_, append-assoc}
 use mathlib.Core.Option.{Option, none, some}
 use Prim.Native.Nat.{ℕ, suc, _+_, _-_, _*_, _≤_, _<_}
 use native.Mathlib.Nat.{le-refl, le-trans}
@@ -57,17 +57,6 @@ complexify-append m (i ∷ l) l' s =
     regroup : _≡_ {A = Out} (record { records = o .records ++ (p .records ++ q .records); after = q .after })
         (record { records = (o .records ++ p .records) ++ q .records; after = q .after })
     regroup = λ j. record { records = sym (append-assoc (o .records) (p .records) (q .records)) j; after = q .after }
-
-pub complexify-snoc : (m : Mode) (l : List Instruction) (i : Instruction) (s : State)
-    → complexify m (l ++ i ∷ []) s ≡ then (complexify m l s) (rerun m i)
-unfolding complexify then unlisted
-complexify-snoc m l i s =
-    complexify-append m l (i ∷ []) s
-    ∙ (λ j. record {
-      records =
-          complexify m l s .records ++ append-nil (rerun m i (complexify m l s .after) .records) j;
-      after = rerun m i (complexify m l s .after) .after;
-    })
 
 -- ---- playing on from a point
 

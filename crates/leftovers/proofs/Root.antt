@@ -1,7 +1,7 @@
 -- Root: the Call, the block that it plays and that the play passes over where it stands; and the comparison with zero.
 use mathlib.Core.Path.{_≡_, refl, subst}
 use mathlib.Core.Bool.{and-self, Bool, true, false, _&&_}
-use mathlib.Core.Logic.{_⊎_, inl, inr}
+use mathlib.Core.Logic.{_⊎_, ⊎-elim, inl, inr}
 use mathlib.Core.List.{List, [], _∷_, _++_, map, append-assoc}
 use Prim.Native.Nat.{ℕ, suc, _+_, _≤_, _<_}
 use native.Mathlib.Nat.{add-assoc, suc-add, zero-add}
@@ -24,7 +24,7 @@ use Rattle.lowering.specs.Complexifier as c
 use Rattle.lowering.specs.Complexifier.{State, then, unlisted, emit, byOne, byTwo}
 use Rattle.lowering.specs.Rerun.{compareZero}
 use Rattle.leftovers.specs.Kept.{Kept, kept-re, kept-im}
-use Rattle.leftovers.proofs.Rows.{Agree, weaken, either, Named, all-in, given, check, known, has}
+use Rattle.leftovers.proofs.Rows.{Agree, weaken, Named, all-in, given, check, known, has}
 use Rattle.leftovers.proofs.Names.{rename, name, free, kept-new, lines-agree, lines-keep}
 use Rattle.mir.proofs.Decoding.{none, and}
 use Rattle.records.proofs.Holding.{AllHold}
@@ -54,7 +54,7 @@ module _ (k : List ℕ) (t : List Work) where
       record {
         agree =
             λ ρ {σ} {τ} x g. subst (λ (l : List Work). Agree (Kept (setReg ρ 30 false)) (execs k l σ) (execs k l τ)) e
-            (weaken (λ w q. either (λ q. inl q) (λ e. inr (65, h, e)) (kept-new 30 q))
+            (weaken (λ w q. ⊎-elim (λ q. inl q) (λ e. inr (65, h, e)) (kept-new 30 q))
             (lines-agree ρ 30 31 31 (Loc.Stack 2) k (0 ∷ 1 ∷ []) t (kept-re 31 (lit< tt), (kept-im 31 (lit< tt) x, tt)) c g));
         keep =
             λ σ r w h q. subst (λ (l : List Work). at (execs k l σ) w ≡ at σ w) e

@@ -1,7 +1,7 @@
 -- What two stores agree on after a row of working records, by one computed check over names of words.
 use mathlib.Core.Path.{_≡_, refl, sym, ap, _∙_}
 use mathlib.Core.Bool.{Bool, true, false, cond, _&&_, _||_, true≢false}
-use mathlib.Core.Logic.{_≢_, _⊎_, inl, inr}
+use mathlib.Core.Logic.{_≢_, _⊎_, ⊎-elim, inl, inr}
 use mathlib.Core.List.{List, [], _∷_, _++_, map}
 use Prim.Native.Nat.{ℕ, suc, _<_}
 use native.Mathlib.Omega.{arith}
@@ -11,6 +11,7 @@ use lib.Seq.{getD-set-same, getD-set-other}
 use lib.Dec.{T, eqb, eqb→eq, eqb-refl}
 use Rattle.mir.specs.declared.records.Loc.{Loc}
 use Rattle.mir.specs.declared.records.Work.{Work}
+use Rattle.mir.proofs.Tables.{and-left, and-right}
 use Rattle.player_machine.specs.Machine.{Store, at, place, Write, _≔_, writes, put, exec, execs}
 use Rattle.player_machine.specs.Draws.{isXor, draws, fills, target, AgreeAt, done, same, Off, clear, other}
 use Rattle.player_machine.proofs.Drawing.{depends, written, stays}
@@ -59,20 +60,10 @@ pub or-r : (a b : Bool) → T b → T (a || b)
 or-r true b h = tt
 or-r false b h = h
 
-pub and-l : (a b : Bool) → T (a && b) → T a
-and-l true b h = tt
-
-pub and-r : (a b : Bool) → T (a && b) → T b
-and-r true b h = h
-
-pub either : {A B D : Type 0} → (A → D) → (B → D) → A ⊎ B → D
-either f g (inl a) = f a
-either f g (inr b) = g b
-
 pub has-split : (n : ℕ) (xs ys : List ℕ) → T (has n (xs ++ ys)) → T (has n xs) ⊎ T (has n ys)
 has-split n [] ys h = inr h
 has-split n (x ∷ xs) ys h =
-    either (λ e. inl (or-l (eqb n x) (has n xs) e)) (λ h'. either (λ a. inl (or-r (eqb n x) (has n xs) a)) (λ b. inr b) (has-split n xs ys h'))
+    ⊎-elim (λ e. inl (or-l (eqb n x) (has n xs) e)) (λ h'. ⊎-elim (λ a. inl (or-r (eqb n x) (has n xs) a)) (λ b. inr b) (has-split n xs ys h'))
     (or-cases (eqb n x) (has n (xs ++ ys)) h)
 
 pub eq→eqb : {a b : ℕ} → a ≡ b → T (eqb a b)
@@ -81,7 +72,7 @@ eq→eqb {a} e = rw (← e) (eqb-refl a)
 pub has-map : (f : ℕ → ℕ) (n : ℕ) (xs : List ℕ) → T (has n xs) → T (has (f n) (map f xs))
 has-map f n [] h = h
 has-map f n (x ∷ xs) h =
-    either (λ e. or-l (eqb (f n) (f x)) (has (f n) (map f xs)) (eq→eqb (ap f (eqb→eq n x e))))
+    ⊎-elim (λ e. or-l (eqb (f n) (f x)) (has (f n) (map f xs)) (eq→eqb (ap f (eqb→eq n x e))))
     (λ t. or-r (eqb (f n) (f x)) (has (f n) (map f xs)) (has-map f n xs t))
     (or-cases (eqb n x) (has n xs) h)
 
@@ -93,7 +84,7 @@ put-agree {C} (i ≔ v ∷ ws) g = weaken (λ w. regroup w) (put-agree ws (set-a
   where
     regroup : (w : ℕ) → C w ⊎ T (eqb w i || has w (map target ws)) → (C w ⊎ (w ≡ i)) ⊎ T (has w (map target ws))
     regroup w (inl c) = inl (inl c)
-    regroup w (inr h) = either (λ e. inl (inr (eqb→eq w i e))) (λ t. inr t) (or-cases (eqb w i) (has w (map target ws)) h)
+    regroup w (inr h) = ⊎-elim (λ e. inl (inr (eqb→eq w i e))) (λ t. inr t) (or-cases (eqb w i) (has w (map target ws)) h)
 
 -- ---- the check at names of words: a name is an index in the store, and a renaming says which word it means
 
@@ -134,7 +125,7 @@ T→true true h = refl
 
 pub has-left : (n : ℕ) (xs ys : List ℕ) → T (has n xs) → T (has n (xs ++ ys))
 has-left n (x ∷ xs) ys h =
-    either (λ e. or-l (eqb n x) (has n (xs ++ ys)) e) (λ t. or-r (eqb n x) (has n (xs ++ ys)) (has-left n xs ys t)) (or-cases (eqb n x) (has n xs) h)
+    ⊎-elim (λ e. or-l (eqb n x) (has n (xs ++ ys)) e) (λ t. or-r (eqb n x) (has n (xs ++ ys)) (has-left n xs ys t)) (or-cases (eqb n x) (has n xs) h)
 
 pub has-right : (n : ℕ) (xs ys : List ℕ) → T (has n ys) → T (has n (xs ++ ys))
 has-right n [] ys h = h
@@ -184,7 +175,7 @@ module _ (f : ℕ → ℕ) (g : Loc → Loc) (real : (q : Loc) → f (place q) �
     agree-at : {σ τ : Store} (xs cl : List ℕ) → ((n : ℕ) → T (has n cl) → at σ (f n) ≡ at τ (f n)) → T (all-in xs cl) → AgreeAt σ τ (map f xs)
     unfolding all-in
     agree-at [] cl s h = done
-    agree-at (x ∷ xs) cl s h = same (s x (and-l (has x cl) (all-in xs cl) h)) (agree-at xs cl s (and-r (has x cl) (all-in xs cl) h))
+    agree-at (x ∷ xs) cl s h = same (s x (and-left (has x cl) (all-in xs cl) h)) (agree-at xs cl s (and-right (has x cl) (all-in xs cl) h))
 
     off-map : (w : ℕ) (xs : List ℕ) → ((n : ℕ) → T (has n xs) → f n ≢ w) → Off w (map f xs)
     off-map w [] h = clear
@@ -201,7 +192,7 @@ module _ (f : ℕ → ℕ) (g : Loc → Loc) (real : (q : Loc) → f (place q) �
       unfolding Named
       told σ cl a w (inl c) = inl (inl c)
       told σ cl a w (inr m) =
-          either (λ x. inr (rw (written k (ren f g a) σ, fills-ren a, ← m .2) (has-map f (m .0) (fills a) x))) (λ c. inl (inr (m .0, c, m .2)))
+          ⊎-elim (λ x. inr (rw (written k (ren f g a) σ, fills-ren a, ← m .2) (has-map f (m .0) (fills a) x))) (λ c. inl (inr (m .0, c, m .2)))
           (has-split (m .0) (fills a) cl (m .1))
 
       step-agree : {σ τ : Store} (cl : List ℕ) (a : Work) → T (all-in (draws a) cl) → Agree (Named C cl) σ τ
@@ -216,8 +207,8 @@ module _ (f : ℕ → ℕ) (g : Loc → Loc) (real : (q : Loc) → f (place q) �
       unfolding execs check known
       steps-agree cl [] h ag = ag
       steps-agree cl (a ∷ l) h ag =
-          steps-agree (fills a ++ cl) l (and-r (all-in (draws a) cl) (check (fills a ++ cl) l) h)
-          (step-agree cl a (and-l (all-in (draws a) cl) (check (fills a ++ cl) l) h) ag)
+          steps-agree (fills a ++ cl) l (and-right (all-in (draws a) cl) (check (fills a ++ cl) l) h)
+          (step-agree cl a (and-left (all-in (draws a) cl) (check (fills a ++ cl) l) h) ag)
 
     -- the words that no line fills stay
     step-keeps : (k : List ℕ) (σ : Store) (w : ℕ) (a : Work) → ((n : ℕ) → T (has n (fills a)) → f n ≢ w) → at (exec k (ren f g a) σ) w ≡ at σ w

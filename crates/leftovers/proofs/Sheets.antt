@@ -25,7 +25,8 @@ use Rattle.leftovers.proofs.Accepting.{wrote}
 use Rattle.leftovers.proofs.Ranges.{all-in-range}
 use Rattle.leftovers.specs.Leftovers.{Sheet, sheetOf, Accepted, Lowered, lowered, point}
 use Rattle.leftovers.proofs.Constants.{grown-few, grown-length}
-use Rattle.leftovers.proofs.Instructions.{InRange, AllIn}
+use Rattle.sheet.proofs.Ranges.{InRange}
+use Rattle.leftovers.proofs.Instructions.{AllIn}
 use Rattle.leftovers.proofs.Listing.{grows, finds-block}
 use Rattle.leftovers.proofs.Jumping.{Fair, no-breach}
 use Rattle.leftovers.proofs.Points.{whole, playFrom, point-below, all-kinds, all-held}

@@ -1,12 +1,12 @@
 -- What 10 and 11 leave: each branch meets its label with the records held there, and the listing's own labels and branches are fair.
 use Prim.Native.Nat.{ℕ, _+_, _<_}
 use mathlib.Core.Path.{_≡_, refl, sym, ap, _∙_, subst}
-use mathlib.Core.Bool.{Bool, true, false, not, cond, _&&_, _||_, true≢false}
+use mathlib.Core.Bool.{Bool, true, false, not, cond, _&&_, _||_, true≢false, or-assoc, or-false}
 use mathlib.Core.List.{List, [], _∷_, _++_, reverseAux}
 use mathlib.Core.Option.{Option, none, some}
 use native.Mathlib.Omega.{arith}
 use native.Mathlib.Nat.{zero-add}
-use borrow.Author.Tests.{eqb-true, eq-eqb, lt-ltb}
+use borrow.Author.Tests.{eqb-true, eq-eqb, lt-ltb, not-false}
 use lib.Dec.{ltb, eqb}
 use Rattle.mir.specs.declared.records.Work.{Work}
 use Rattle.mir.specs.declared.records.Record.{Record}
@@ -39,14 +39,10 @@ pub data Among (x : Sent) : List Sent → Type 0 where
   here : {xs : List Sent} → Among x (x ∷ xs)
   there : {y : Sent} {xs : List Sent} → Among x xs → Among x (y ∷ xs)
 
-not-not : (b : Bool) → not b ≡ false → b ≡ true
-not-not true e = refl
-not-not false e = absurd (true≢false e)
-
 equal-at : (l : ℕ) (ρ : Realness) (x : Sent) (xs : List Sent) → x .label ≡ l → differs l ρ xs ≡ false → Among x xs → x .real ≡ ρ
 equal-at l ρ x (_ ∷ xs) e d here =
     let f = or-left (eqb (x .label) l && not (sameRecords (x .real) ρ)) (differs l ρ xs) d in
-    same-records (x .real) ρ (not-not (sameRecords (x .real) ρ) (rw (eq-eqb (x .label) l e) at f))
+    same-records (x .real) ρ (not-false (sameRecords (x .real) ρ) (rw (eq-eqb (x .label) l e) at f))
 equal-at l ρ x (y ∷ xs) e d (there a) =
     equal-at l ρ x xs e (or-right (eqb (y .label) l && not (sameRecords (y .real) ρ)) (differs l ρ xs) d) a
 
@@ -92,7 +88,7 @@ module _ (k : List ℕ) (B : List Work) (m : Mode) where
       go (Labels.labels n) p c = tt
       go (Labels.branches n) p c =
           meets (record { label = n; real = s .real }) is (past rest) (passed (Labels.branches n) (s .real) b) (rerun m i s .after) here
-          (sym (later-stands count n r) ∙ not-not (later n (past rest)) (or-left (not (later n (past rest))) (Labels.stands n (b .labels)) p)) c
+          (sym (later-stands count n r) ∙ not-false (later n (past rest)) (or-left (not (later n (past rest))) (Labels.stands n (b .labels)) p)) c
 
 -- ---- the listing is fair
 
@@ -108,12 +104,8 @@ has-append : (p : Record → Bool) (rs rs' : List Record) → has p (rs ++ rs') 
 unfolding tally
 has-append p [] rs' = refl
 has-append p (r ∷ rs) rs' =
-    has-cons p r (rs ++ rs') ∙ ap (λ (q : Bool). p r || q) (has-append p rs rs') ∙ or-assoc (p r) (has p rs) (has p rs')
+    has-cons p r (rs ++ rs') ∙ ap (λ (q : Bool). p r || q) (has-append p rs rs') ∙ sym (or-assoc (p r) (has p rs) (has p rs'))
     ∙ ap (λ (q : Bool). q || has p rs') (sym (has-cons p r rs))
-  where
-    or-assoc : (a b c : Bool) → (a || (b || c)) ≡ ((a || b) || c)
-    or-assoc true b c = refl
-    or-assoc false b c = refl
 
 has-without : (l : ℕ) (rs : List Record) → Without l rs → has (isLabel l) rs ≡ false
 unfolding tally
@@ -142,11 +134,7 @@ module _ (m : Mode) where
   one-label l h (working-one {i} z) s =
       has-without l (rerun m i s .records) (tame-without l h (rerun m i s .records) (works-tame m i s z))
       ∙ sym (ap (λ (r : Role). sees l (labelIn r)) (works-role i z))
-  one-label l h (label-one n) s = has-cons (isLabel l) (Record.Label n) [] ∙ or-none (eqb n l)
-    where
-      or-none : (q : Bool) → (q || false) ≡ q
-      or-none true = refl
-      or-none false = refl
+  one-label l h (label-one n) s = has-cons (isLabel l) (Record.Label n) [] ∙ or-false (eqb n l)
   one-label l h (branch-one n) s = refl
   one-label l h (branch-if-one r n e) s = refl
 
@@ -169,7 +157,7 @@ module _ (m : Mode) where
   unfolding misplaced
   branch-fair count l is rest before b s r p h q = (
     listed-labels l q is s ∙ sym (later-stands count l r)
-        ∙ not-not (later l rest) (or-left (not (later l rest)) (Labels.stands l (b .labels)) p),
+        ∙ not-false (later l rest) (or-left (not (later l rest)) (Labels.stands l (b .labels)) p),
     h l q ∙ or-right (not (later l rest)) (Labels.stands l (b .labels)) p,
   )
 

@@ -1,76 +1,53 @@
 -- A record that is read has as many bytes as its own.
 use Prim.Native.Nat.{ℕ, _+_}
-use mathlib.Core.Path.{_≡_, refl, sym, ap, _∙_, subst}
-use mathlib.Core.Bool.{Bool, true, false, cond}
-use mathlib.Core.List.{List, [], _∷_}
-use lib.ListN.{length, getD, drop}
-use lib.Dec.{ltb, leb, eqb}
-use borrow.Author.Tests.{eqb-true}
+use mathlib.Core.Path.{_≡_, refl, sym, ap, _∙_}
+use mathlib.Core.Bool.{true}
+use mathlib.Core.List.{List}
+use lib.ListN.{length, drop}
+use lib.Dec.{ltb}
 use Rattle.mir.specs.declared.records.Work.{Work}
 use Rattle.mir.specs.declared.records.Record.{Record}
 use Rattle.mir.specs.Length.{lengthOf}
 use Rattle.mir.specs.Encode.{recordOf, encode}
-use Rattle.mir.specs.Read.{Read, got, refused, refuse, andThen, above, registers}
-use Rattle.mir.specs.Operation.{uniOps, binOps, arithOps, fusedOps, taken}
-use Rattle.mir.specs.Field.{u16At, takesKind, headFrom, placeAt, savePlace, condPlace}
+use Rattle.mir.specs.Read.{got}
+use Rattle.mir.specs.Operation.{arithOps}
+use Rattle.mir.specs.Takes.{takesArith}
+use Rattle.mir.specs.Field.{byteAt, bytesAt, u16At, takesKind, headFrom}
 use Rattle.mir.specs.Decode.{readAt}
-use Rattle.mir.proofs.Passing.{either, passed, then, got-same, clash}
+use Rattle.mir.proofs.Passing.{then, got-same}
 use Rattle.mir.proofs.Heads.{headed}
-use Rattle.mir.specs.Takes.{takesUni, takesBin, takesArith, takesFused}
+use Rattle.mir.proofs.IfRead.{IfRead, read, told, if-got, tested, parted, chosen, limited, operation, place, save}
+use Rattle.mir.proofs.ByKind.{uni, bi, mov, load, saving, load-const, fused, if-else}
 use Rattle.records.specs.Record.{fieldsFrom, recordFrom, recordAt}
 
--- what is read has k bytes
-record Makes (k : ℕ) (x : Read Record) : Type 0 where
-  size : (r : Record) → x ≡ got r → length (encode r) ≡ k
+-- what is read of a kind has the kind's length
+module _ (count kind : ℕ) (s : List ℕ) where
+  abbrev Fits : Record → Type 0
+  Fits r = length (encode r) ≡ lengthOf kind
 
-module _ {k : ℕ} where
-  made : (a : Record) → length (encode a) ≡ k → Makes k (got a)
-  made a h = record { size = λ r e. ap (λ r. length (encode r)) (sym (got-same a r e)) ∙ h }
+  fits : {size : ℕ} (n : ℕ) → kind ≡ n → size ≡ lengthOf n → size ≡ lengthOf kind
+  fits n k e = e ∙ ap lengthOf (sym k)
 
-  nothing : (n : ℕ) → Makes k (refused n)
-  nothing n = record { size = λ r e. absurd (clash n r e) }
-
-  tested : (b : Bool) (n : ℕ) {x : Read Record} → Makes k x → Makes k (refuse b n x)
-  tested true n p = nothing n
-  tested false n p = p
-
-  named : (limit : ℕ) (xs : List ℕ) {x : Read Record} → Makes k x → Makes k (registers limit xs x)
-  named limit xs p = tested (above limit xs) 3 p
-
-  after : {A : Type 0} (x : Read A) {f : A → Read Record} → ((a : A) → Makes k (f a)) → Makes k (andThen x f)
-  after (got a) p = p a
-  after (refused n) p = nothing n
-
--- by kind
-chosen : (j kind : ℕ) {x y : Read Record} → Makes (lengthOf j) x → Makes (lengthOf kind) y → Makes (lengthOf kind) (cond (eqb kind j) x y)
-chosen j kind {x} {y} p q =
-    either (eqb kind j)
-    (λ t. subst (λ b. Makes (lengthOf kind) (cond b x y)) (sym t) (subst (λ n. Makes (lengthOf n) x) (sym (eqb-true kind j t)) p))
-    (λ t. subst (λ b. Makes (lengthOf kind) (cond b x y)) (sym t) q)
-
-module _ (count : ℕ) (s : List ℕ) where
-  abbrev byte : ℕ → ℕ
-  byte i = getD s i 0
-
-  fields-size : (kind : ℕ) → Makes (lengthOf kind) (fieldsFrom count kind s)
+  fields-size : IfRead Fits (fieldsFrom count kind s)
   unfolding fieldsFrom recordOf
-  fields-size kind =
-      chosen 1 kind (after (taken (takesUni true) uniOps (byte 4)) (λ op. named 65 (byte 5 ∷ byte 6 ∷ []) (made (Record.Work (Work.Uni op (byte 5) (byte 6))) refl)))
-      (chosen 2 kind (after (taken (takesBin true) binOps (byte 4)) (λ op. named 65 (byte 5 ∷ byte 6 ∷ byte 7 ∷ []) (made (Record.Work (Work.Bi op (byte 5) (byte 6) (byte 7))) refl)))
-      (chosen 3 kind (named 65 (byte 4 ∷ byte 5 ∷ []) (made (Record.Work (Work.Mov (byte 4) (byte 5))) refl))
-      (chosen 4 kind (named 65 (byte 4 ∷ []) (after (placeAt s 5) (λ loc. made (Record.Work (Work.Load (byte 4) loc)) refl)))
-      (chosen 5 kind (named 65 (byte 4 ∷ []) (after (savePlace s 5) (λ loc. made (Record.Work (Work.Save (byte 4) loc)) refl)))
-      (chosen 6 kind (named 65 (byte 4 ∷ []) (tested (leb count (u16At s 5)) 5 (made (Record.Work (Work.LoadConst (byte 4) (u16At s 5))) refl)))
-      (chosen 7 kind (after (taken (takesFused true) fusedOps (byte 4)) (λ op. named 65 (byte 5 ∷ byte 6 ∷ byte 7 ∷ byte 8 ∷ []) (made (Record.Work (Work.Fused op (byte 5) (byte 6) (byte 7) (byte 8))) refl)))
-      (chosen 8 kind (named 65 (byte 4 ∷ byte 5 ∷ byte 6 ∷ []) (after (condPlace s 7) (λ loc. made (Record.Work (Work.IfElse (byte 4) (byte 5) (byte 6) loc)) refl)))
-      (chosen 11 kind (named 65 (byte 4 ∷ byte 5 ∷ []) (after (placeAt s 6) (λ loc. made (Record.Work (Work.LoadComplex (byte 4) (byte 5) loc)) refl)))
-      (chosen 12 kind (named 65 (byte 4 ∷ byte 5 ∷ []) (after (savePlace s 6) (λ loc. made (Record.Work (Work.SaveComplex (byte 4) (byte 5) loc)) refl)))
-      (chosen 13 kind (after (taken takesArith arithOps (byte 4)) (λ op. named 65 (byte 5 ∷ byte 6 ∷ byte 7 ∷ byte 8 ∷ byte 9 ∷ byte 10 ∷ []) (made (Record.Work (Work.ComplexBi op (byte 5) (byte 6) (byte 7) (byte 8) (byte 9) (byte 10))) refl)))
-      (chosen 14 kind (made (Record.Label (byte 4)) refl)
-      (chosen 15 kind (made (Record.Branch (byte 4)) refl)
-      (chosen 16 kind (made (Record.Call (byte 4)) refl)
-      (chosen 17 kind (tested (ltb 1 (byte 6)) 2 (named 65 (byte 4 ∷ []) (made (Record.BranchIf (byte 4) (byte 5) (eqb (byte 6) 1)) refl)))
-      (nothing 2)))))))))))))))
+  fields-size =
+      let b = byteAt s in
+      chosen kind 1 (λ k. uni true s (λ op d a. Record.Work (Work.Uni op d a)) (λ op d a t x y. fits 1 k refl))
+      (chosen kind 2 (λ k. bi true s (λ op d a b. Record.Work (Work.Bi op d a b)) (λ op d a b t x y z. fits 2 k refl))
+      (chosen kind 3 (λ k. mov true s (λ d a. Record.Work (Work.Mov d a)) (λ d a x y. fits 3 k refl))
+      (chosen kind 4 (λ k. load true s (λ d p. Record.Work (Work.Load d p)) (λ d p x q. fits 4 k refl))
+      (chosen kind 5 (λ k. saving true s (λ a p. Record.Work (Work.Save a p)) (λ a p x q. fits 5 k refl))
+      (chosen kind 6 (λ k. load-const true s (λ d i. Record.Work (Work.LoadConst d i)) count (λ d x c. fits 6 k refl))
+      (chosen kind 7 (λ k. fused true s (λ op d a b c. Record.Work (Work.Fused op d a b c)) (λ op d a b c t x y z w. fits 7 k refl))
+      (chosen kind 8 (λ k. if-else true s (λ d a b p. Record.Work (Work.IfElse d a b p)) (λ d a b p x y z q. fits 8 k refl))
+      (chosen kind 11 (λ k. limited 65 (bytesAt s 4 2) (λ l. parted (place s 6) (λ p q. read (fits 11 k refl))))
+      (chosen kind 12 (λ k. limited 65 (bytesAt s 4 2) (λ l. parted (save s 6) (λ p q. read (fits 12 k refl))))
+      (chosen kind 13 (λ k. parted (operation takesArith arithOps (b 4)) (λ op t. limited 65 (bytesAt s 5 6) (λ l. read (fits 13 k refl))))
+      (chosen kind 14 (λ k. read (fits 14 k refl))
+      (chosen kind 15 (λ k. read (fits 15 k refl))
+      (chosen kind 16 (λ k. read (fits 16 k refl))
+      (chosen kind 17 (λ k. tested (ltb 1 (b 6)) 1 (λ e. limited 65 (bytesAt s 4 1) (λ l. read (fits 17 k refl))))
+      told))))))))))))))
 
 -- a record at a position reaches to the next
 pub sized : (count : ℕ) (s : List ℕ) (at : ℕ) (r : Record) (next : ℕ) → recordAt count s at ≡ got (record { item = r; next = next })
@@ -82,5 +59,5 @@ sized count s at r next e =
     let h = then (headFrom (takesKind true) (drop at s)) (λ kind. fieldsFrom count kind (drop at s)) (t .first) (t .found) in
     let k = headed (takesKind true) (drop at s) (h .first) (h .found) in
     ap (λ r. at + length (encode r)) (sym (ap (λ y. y .item) y))
-    ∙ ap (λ n. at + n) (fields-size count (drop at s) (h .first) .size (t .first) (h .rest) ∙ ap lengthOf (k .same) ∙ k .sized .rule)
+    ∙ ap (λ n. at + n) (if-got (fields-size count (h .first) (drop at s)) (h .rest) ∙ ap lengthOf (k .same) ∙ k .sized .rule)
     ∙ ap (λ y. y .next) y

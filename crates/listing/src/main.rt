@@ -1,8 +1,7 @@
 // listing [SHEET]: lowers a sheet, from a file or from standard input, and prints its constants and its listing, or the refusal, with its
 // word where a file is named.
 ghost use Prim.Native.Nat.{_+_, _*_, _≤_};
-ghost use mathlib.Core.Path.{_≡_};
-ghost use lib.ListN.{length, take};
+ghost use lib.ListN.{length};
 ghost use Rattle.pages.specs.Puts.{Puts};
 ghost use Rattle.io.specs.Counts.{Counts};
 ghost use Rattle.text.specs.Line.{Prints};

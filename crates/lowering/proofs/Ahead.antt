@@ -1,22 +1,24 @@
 -- What looking ahead sees of an instruction that is read: its label.
 use Prim.Native.Nat.{ℕ, suc, pred, _≤_}
-use mathlib.Core.Path.{_≡_, refl, sym, ap, _∙_, subst}
-use mathlib.Core.Bool.{Bool, true, false, cond, _||_}
+use mathlib.Core.Path.{_≡_, refl, sym, ap, _∙_}
+use mathlib.Core.Bool.{false, cond, _||_}
 use mathlib.Core.List.{List, [], _∷_}
 use mathlib.Core.Option.{Option, none, some}
 use native.Mathlib.Omega.{arith}
-use borrow.Author.Tests.{le-ltb, eq-eqb, eqb-true}
+use borrow.Author.Tests.{le-ltb, eq-eqb}
 use lib.ListN.{length, drop}
-use lib.Dec.{ltb, leb, eqb}
+use lib.Dec.{ltb, eqb}
 use Rattle.mir.specs.declared.records.Instruction.{Instruction}
 use Rattle.mir.specs.Length.{lengthOf}
-use Rattle.mir.specs.Operation.{uniOps, binOps, arithOps, fusedOps, taken}
-use Rattle.mir.specs.Takes.{takesUni, takesBin, takesArith, takesFused}
-use Rattle.mir.specs.Read.{Read, got, refused, refuse, andThen, above}
-use Rattle.mir.specs.Field.{byteAt, bytesAt, u16At, takesKind, headFrom, placeAt, savePlace, condPlace}
+use Rattle.mir.specs.Operation.{arithOps}
+use Rattle.mir.specs.Takes.{takesArith}
+use Rattle.mir.specs.Read.{got}
+use Rattle.mir.specs.Field.{byteAt, bytesAt, u16At, takesKind, headFrom}
 use Rattle.mir.specs.Decode.{ahead, decodedFrom, decoded}
-use Rattle.mir.proofs.Passing.{then, clash}
+use Rattle.mir.proofs.Passing.{then}
 use Rattle.mir.proofs.Heads.{headed}
+use Rattle.mir.proofs.IfRead.{IfRead, read, told, if-got, tested, parted, chosen, limited, counted, operation, place}
+use Rattle.mir.proofs.ByKind.{uni, bi, mov, load, saving, load-const, fused, if-else}
 use Rattle.mir.proofs.Decoding.{decoded-skip}
 use Rattle.sheet.specs.Instruction.{fieldsFrom, instructionFrom}
 use Rattle.sheet.proofs.Reading.{whole}
@@ -33,66 +35,41 @@ labelIn (Labels.branches l) = none
 abbrev seenAt : ℕ → List ℕ → Option ℕ
 seenAt kind s = cond (eqb kind 14) (some (byteAt s 4)) none
 
--- what is read, if it is not refused, is as P says
-data IfRead {A : Type 0} (P : A → Type 0) : Read A → Type 0 where
-  read : {a : A} → P a → IfRead P (got a)
-  told : {n : ℕ} → IfRead P (refused n)
-
-tested : {A : Type 0} {P : A → Type 0} (b : Bool) (n : ℕ) {r : Read A} → IfRead P r → IfRead P (refuse b n r)
-tested true n h = told
-tested false n h = h
-
-parted : {A B : Type 0} {P : B → Type 0} (x : Read A) {f : A → Read B} → ((a : A) → IfRead P (f a)) → IfRead P (andThen x f)
-parted (got a) h = h a
-parted (refused n) h = told
-
-chosen : {A : Type 0} {P : A → Type 0} (b : Bool) {x y : Read A} → (b ≡ true → IfRead P x) → IfRead P y → IfRead P (cond b x y)
-chosen true h k = h refl
-chosen false h k = k
-
 module _ (count kind : ℕ) (s : List ℕ) where
   abbrev Seen : Instruction → Type 0
   Seen i = labelIn (role i) ≡ seenAt kind s
 
   -- an instruction of another kind
-  other : (k : ℕ) → eqb kind k ≡ true → eqb k 14 ≡ false → none ≡ seenAt kind s
-  other k e f = rw (eqb-true kind k e, f) refl
+  other : (k : ℕ) → kind ≡ k → eqb k 14 ≡ false → none ≡ seenAt kind s
+  other k e f = rw (e, f) refl
 
   fields-seen : IfRead Seen (fieldsFrom count kind s)
   unfolding fieldsFrom role
   fields-seen =
       let b = byteAt s in
-      chosen (eqb kind 0) (λ e. read (other 0 e refl))
-      (chosen (eqb kind 1)
-      (λ e. parted (taken (takesUni false) uniOps (b 4)) (λ op. tested (above 31 (bytesAt s 5 2)) 3 (read (other 1 e refl))))
-      (chosen (eqb kind 2)
-      (λ e. parted (taken (takesBin false) binOps (b 4)) (λ op. tested (above 31 (bytesAt s 5 3)) 3 (read (other 2 e refl))))
-      (chosen (eqb kind 3) (λ e. tested (above 31 (bytesAt s 4 2)) 3 (read (other 3 e refl)))
-      (chosen (eqb kind 4) (λ e. tested (above 31 (bytesAt s 4 1)) 3 (parted (placeAt s 5) (λ p. read (other 4 e refl))))
-      (chosen (eqb kind 5) (λ e. tested (above 31 (bytesAt s 4 1)) 3 (parted (savePlace s 5) (λ p. read (other 5 e refl))))
-      (chosen (eqb kind 6)
-      (λ e. tested (above 31 (bytesAt s 4 1)) 3 (tested (leb count (u16At s 5)) 5 (read (other 6 e refl))))
-      (chosen (eqb kind 7)
-      (λ e. parted (taken (takesFused false) fusedOps (b 4)) (λ op. tested (above 31 (bytesAt s 5 4)) 3 (read (other 7 e refl))))
-      (chosen (eqb kind 8) (λ e. tested (above 31 (bytesAt s 4 3)) 3 (parted (condPlace s 7) (λ p. read (other 8 e refl))))
-      (chosen (eqb kind 9)
-      (λ e. parted (taken takesArith arithOps (b 4))
-      (λ op. tested (above 31 (bytesAt s 5 2)) 3 (parted (placeAt s 7) (λ p. read (other 9 e refl)))))
-      (chosen (eqb kind 10)
-      (λ e. parted (taken takesArith arithOps (b 4))
-      (λ op. tested (above 31 (bytesAt s 5 2)) 3 (tested (leb count (u16At s 7)) 5 (read (other 10 e refl)))))
-      (chosen (eqb kind 14) (λ e. tested (ltb (b 4) 3) 10 (read (rw e refl)))
-      (chosen (eqb kind 15) (λ e. tested (ltb (b 4) 3) 10 (read (other 15 e refl)))
-      (chosen (eqb kind 17)
-      (λ e. tested (above 31 (bytesAt s 4 1)) 3 (tested (ltb (b 5) 3) 10 (tested (ltb 1 (b 6)) 10 (read (other 17 e refl)))))
+      chosen kind 0 (λ k. read (other 0 k refl))
+      (chosen kind 1 (λ k. uni false s Instruction.Uni (λ op d a t x y. other 1 k refl))
+      (chosen kind 2 (λ k. bi false s Instruction.Bi (λ op d a b t x y z. other 2 k refl))
+      (chosen kind 3 (λ k. mov false s Instruction.Mov (λ d a x y. other 3 k refl))
+      (chosen kind 4 (λ k. load false s Instruction.Load (λ d p x q. other 4 k refl))
+      (chosen kind 5 (λ k. saving false s Instruction.Save (λ a p x q. other 5 k refl))
+      (chosen kind 6 (λ k. load-const false s Instruction.LoadConst count (λ d x c. other 6 k refl))
+      (chosen kind 7 (λ k. fused false s Instruction.Fused (λ op d a b c t x y z w. other 7 k refl))
+      (chosen kind 8 (λ k. if-else false s Instruction.IfElse (λ d a b p x y z q. other 8 k refl))
+      (chosen kind 9
+      (λ k. parted (operation takesArith arithOps (b 4))
+      (λ op t. limited 31 (bytesAt s 5 2) (λ l. parted (place s 7) (λ p q. read (other 9 k refl)))))
+      (chosen kind 10
+      (λ k. parted (operation takesArith arithOps (b 4))
+      (λ op t. limited 31 (bytesAt s 5 2) (λ l. counted count (u16At s 7) (λ c. read (other 10 k refl)))))
+      (chosen kind 14 (λ k. tested (ltb (b 4) 3) 9 (λ e. read (rw k refl)))
+      (chosen kind 15 (λ k. tested (ltb (b 4) 3) 9 (λ e. read (other 15 k refl)))
+      (chosen kind 17
+      (λ k. limited 31 (bytesAt s 4 1) (λ l. tested (ltb (b 5) 3) 9 (λ e. tested (ltb 1 (b 6)) 9 (λ f. read (other 17 k refl)))))
       told)))))))))))))
 
   pub fields-label : (i : Instruction) → fieldsFrom count kind s ≡ got i → Seen i
-  fields-label i e = go (fieldsFrom count kind s) e fields-seen
-    where
-      go : (r : Read Instruction) → r ≡ got i → IfRead Seen r → Seen i
-      go (got a) e (read p) = subst Seen (cc) p
-      go (refused n) e told = absurd (clash n i e)
+  fields-label i e = if-got fields-seen e
 
 -- what looking ahead sees of an instruction
 pub one-seen : (count : ℕ) (s : List ℕ) (i : Instruction) → instructionFrom count s ≡ got i → labelSeen s ≡ got (labelIn (role i))

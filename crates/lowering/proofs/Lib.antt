@@ -1,3 +1,5 @@
 mod Bits
 pub mod Ahead
 pub mod Same
+pub mod Tests
+pub mod RecordStored

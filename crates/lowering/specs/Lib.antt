@@ -1,7 +1,9 @@
 pub mod Realness
+pub mod RecordBytes
 pub mod Pushes
 pub mod Lines
 pub mod Complexifier
 pub mod Rerun
 pub mod Labels
 pub mod Lower
+pub mod Paper

@@ -5,8 +5,9 @@ pub mod Placing
 mod Puts
 pub mod Parts
 pub mod Passing
-pub mod Refusals
 pub mod Heads
+pub mod IfRead
+pub mod ByKind
 pub mod Decoding
 pub mod Numbering
 pub mod Written

@@ -5,5 +5,6 @@ pub mod Takes
 pub mod Length
 pub mod Read
 pub mod Field
+pub mod Kinds
 pub mod Encode
 pub mod Decode

@@ -1,6 +1,5 @@
 // The entry of `nearest` as a C function. Words go in and out as eight bytes each, the lowest first.
 ghost use mathlib.Core.Path.{_≡_};
-ghost use mathlib.Core.List.{[], _∷_};
 ghost use Rattle.words.specs.Bytes.{wordsOf};
 ghost use Rattle.nearest.specs.Nearest.{nearest};
 ghost use Rattle.nearest.specs.Answer.{asValues};

@@ -1,6 +1,6 @@
 // The running peak as a C function. Words go in and out as eight bytes each, the lowest first.
 ghost use mathlib.Core.Path.{_≡_};
-ghost use Rattle.peak_call.specs.PeakCall.{PeakCall, peakCall};
+ghost use Rattle.peak_call.specs.PeakCall.{peakCall};
 use words::load;
 use words::save;
 

@@ -1,34 +1,17 @@
 -- The parts of a case, from what the functions that make them give. Assumes nothing.
 use Prim.Native.Nat.{ℕ, _+_, _*_, _-_, _≤_}
-use mathlib.Core.Bool.{Bool, false}
 use mathlib.Core.List.{List}
-use mathlib.Core.Path.{_≡_, refl, sym, ap, _∙_}
+use mathlib.Core.Path.{_≡_, ap, _∙_}
 use native.Mathlib.Omega.{arith}
-use borrow.Author.Tests.{ltb-false}
 use lib.ListN.{length, take, drop, replicate, length-drop}
 use lib.Seq.{length-take-le}
-use lib.Dec.{ltb}
 use Rattle.player_machine.specs.Answer.{Answer, answer}
 use Rattle.words.specs.Bytes.{wordAt, wordsOf, stored}
 use Rattle.words.proofs.Lengths.{length-wordsOf}
 use Rattle.words.proofs.Stored.{stored-whole}
 use Rattle.replay.specs.Numbers.{u32At}
 use Rattle.replay.proofs.Parts.{take-replicate}
-use Rattle.replay.proofs.Replaying.{or-first, or-rest}
-use Rattle.play_replay.specs.Case.{Whole, cut, patched, constantsAt, fillAt, changedAt, listing, constants, filled, before, after, answered}
-
--- a case that is not cut is whole
-pub is-whole : (s : List ℕ) → cut s ≡ false → Whole s
-unfolding cut
-is-whole s e =
-    let one = or-rest (ltb (length s) 48) _ e in
-    let two = or-rest (ltb 257 (u32At s 4)) _ one in
-    record {
-      head = ltb-false _ _ (or-first (ltb (length s) 48) _ e);
-      constants = ltb-false _ _ (or-first (ltb 257 (u32At s 4)) _ one);
-      store = ltb-false _ _ (or-first (ltb 1603 (u32At s 8)) _ two);
-      rest = ltb-false _ _ (or-rest (ltb 1603 (u32At s 8)) _ two);
-    }
+use Rattle.play_replay.specs.Case.{patched, constantsAt, fillAt, changedAt, listing, constants, filled, before, after, answered}
 
 module _ (s : List ℕ) where
   pub loaded : (l₀ : List ℕ) {l : List ℕ} {k end : ℕ}

@@ -1,13 +1,14 @@
 -- A case of the list: what is played, and the answer and the store that are expected; numbers little-endian. Assumes nothing.
-use Prim.Native.Nat.{ℕ, zero, suc, _+_, _*_, _≤_}
-use mathlib.Core.Bool.{Bool, not, _&&_, _||_}
+use Prim.Native.Nat.{ℕ, zero, suc, _+_, _*_}
+use mathlib.Core.Bool.{Bool, not, _&&_}
 use mathlib.Core.List.{List}
-use lib.ListN.{length, set, take, drop, replicate}
-use lib.Dec.{eqb, ltb}
+use lib.ListN.{set, take, drop, replicate}
+use lib.Dec.{eqb}
 use Rattle.player_machine.specs.Answer.{Answer, answer}
 use Rattle.words.specs.Bytes.{wordAt, wordsOf}
 use Rattle.replay.specs.Numbers.{u32At}
 use Rattle.replay.specs.Same.{same}
+use Rattle.replay.specs.Whole.{cutAt, WholeAt}
 use Rattle.replay.specs.Tally.{Cases}
 
 -- where the constants, the word that fills the store, the words set before and the words changed begin, and where the case ends
@@ -26,16 +27,12 @@ changedAt s = beforeAt s + 12 * u32At s 12
 abbrev pub end : List ℕ → ℕ
 end s = changedAt s + 12 * u32At s 16
 
--- the bytes begin with no whole case; a case has at most 257 constants and 1,603 words of the store
-unfoldable pub cut : List ℕ → Bool
-cut s = ltb (length s) 48 || (ltb 257 (u32At s 4) || (ltb 1603 (u32At s 8) || ltb (length s) (end s)))
+-- the bytes begin with no whole case that ends at a position; a case has at most 257 constants and 1,603 words of the store
+abbrev pub cut : ℕ → List ℕ → Bool
+cut = cutAt 48 257 1603
 
--- what a whole case has
-pub record Whole (s : List ℕ) : Type 0 where
-  pub head : 48 ≤ length s
-  pub constants : u32At s 4 ≤ 257
-  pub store : u32At s 8 ≤ 1603
-  pub rest : end s ≤ length s
+abbrev pub WholePlay : List ℕ → Type 0
+WholePlay s = WholeAt 48 257 1603 (end s) s
 
 -- a store with n words set, from the pairs of an index and a word that begin at a position
 unfoldable pub patched : List ℕ → ℕ → List ℕ → ℕ → List ℕ
@@ -72,4 +69,4 @@ abbrev pub differs : List ℕ → Bool
 differs s = not (expected s (answered s))
 
 abbrev pub cases : Cases
-cases = record { cut = cut; end = end; number = λ s. answered s .number; differs = differs }
+cases = record { end = end; cut = cut; number = λ s. answered s .number; differs = differs }

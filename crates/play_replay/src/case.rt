@@ -1,9 +1,9 @@
-// One case: whether it is whole, and how the player answers it.
+// One case: where it ends, and how the player answers it.
 ghost use Prim.Native.Nat.{_^_, _<_};
 ghost use mathlib.Core.Path.{_≡_};
 ghost use lib.ListN.{length};
 ghost use Rattle.play_replay.specs.Case as Case;
-ghost use Rattle.play_replay.specs.Case.{Whole, cut, fillAt, changedAt, filled, answered, expected, differs};
+ghost use Rattle.play_replay.specs.Case.{WholePlay, fillAt, changedAt, filled, answered, expected, differs};
 ghost use Rattle.replay.specs.Numbers.{u32At};
 ghost use Rattle.player.specs.Values.{whole};
 use crate::stores::patch;
@@ -34,25 +34,9 @@ pub fn end(s: &[u8]) -> usize
     changed_at(s) + 12 * count_at(s, 16)
 }
 
-// Whether the bytes begin with no whole case.
-pub fn is_cut(s: &[u8]) -> bool
-    ensures { λ r. ⌜ r ≡ cut (now (s .entry)) ⌝ }
-{
-    if s.len() < 48 {
-        return true;
-    }
-    if 257 < count_at(s, 4) {
-        return true;
-    }
-    if 1603 < count_at(s, 8) {
-        return true;
-    }
-    s.len() < end(s)
-}
-
 // Makes the store before the play of a filled one.
 fn make_before(s: &[u8], store: &mut [u64])
-    requires { ⌜ Whole (now s) × (now store ≡ filled (now s)) ⌝ }
+    requires { ⌜ WholePlay (now s) × (now store ≡ filled (now s)) ⌝ }
     ensures { λ _. ⌜ now (store .exit) ≡ Case.before (now (s .entry)) ⌝ }
 {
     patch(s, fill_at(s) + 8, count_at(s, 12), store);
@@ -60,7 +44,7 @@ fn make_before(s: &[u8], store: &mut [u64])
 
 // Makes the store expected at the end of a filled one.
 fn make_after(s: &[u8], store: &mut [u64])
-    requires { ⌜ Whole (now s) × (now store ≡ filled (now s)) ⌝ }
+    requires { ⌜ WholePlay (now s) × (now store ≡ filled (now s)) ⌝ }
     ensures { λ _. ⌜ now (store .exit) ≡ Case.after (now (s .entry)) ⌝ }
 {
     make_before(s, store);
@@ -68,7 +52,7 @@ fn make_after(s: &[u8], store: &mut [u64])
 }
 
 // What a play gave.
-pub struct Outcome {
+pub struct PlayOutcome {
     pub number: u8,
     pub differs: bool,
 }
@@ -91,23 +75,23 @@ fn agrees(s: &[u8], a: PlayAnswer, store: &[u64], after: &[u64]) -> bool
 }
 
 // Plays the case, and compares what the player gives with what the case expects.
-fn judge(s: &[u8], constants: &[u64], store: &mut [u64], after: &[u64]) -> Outcome
-    requires { ⌜ Whole (now s) × ((now constants ≡ Case.constants (now s)) × ((now store ≡ Case.before (now s)) × (now after ≡ Case.after (now s)))) ⌝ }
+fn judge(s: &[u8], constants: &[u64], store: &mut [u64], after: &[u64]) -> PlayOutcome
+    requires { ⌜ WholePlay (now s) × ((now constants ≡ Case.constants (now s)) × ((now store ≡ Case.before (now s)) × (now after ≡ Case.after (now s)))) ⌝ }
     ensures { λ r. ⌜ (r .number ≡ answered (now (s .entry)) .number) × (r .differs ≡ differs (now (s .entry))) ⌝ }
 {
     let listing_end = 48 + count_at(s, 0);
     let start = word_at(s, 20) as usize;
     let a = player::play(&s[48..listing_end], constants, store, start);
     let agreed = agrees(s, a, store, after);
-    Outcome {
+    PlayOutcome {
         number: a.number,
         differs: !agreed,
     }
 }
 
 // Makes what the case s plays, of room for its constants and filled stores, and plays it.
-fn replay_in(s: &[u8], constants: &mut [u64], store: &mut [u64], after: &mut [u64]) -> Outcome
-    requires { ⌜ Whole (now s) × ((length (now constants) ≡ u32At (now s) 4) × ((now store ≡ filled (now s)) × (now after ≡ filled (now s)))) ⌝ }
+fn replay_in(s: &[u8], constants: &mut [u64], store: &mut [u64], after: &mut [u64]) -> PlayOutcome
+    requires { ⌜ WholePlay (now s) × ((length (now constants) ≡ u32At (now s) 4) × ((now store ≡ filled (now s)) × (now after ≡ filled (now s)))) ⌝ }
     ensures { λ r. ⌜ (r .number ≡ answered (now (s .entry)) .number) × (r .differs ≡ differs (now (s .entry))) ⌝ }
 {
     let at = 48 + count_at(s, 0);
@@ -119,8 +103,8 @@ fn replay_in(s: &[u8], constants: &mut [u64], store: &mut [u64], after: &mut [u6
 }
 
 // Replays the case at the start of s.
-pub(crate) fn replay_case(s: &[u8]) -> Outcome
-    requires { ⌜ Whole (now s) ⌝ }
+pub(crate) fn replay_case(s: &[u8]) -> PlayOutcome
+    requires { ⌜ WholePlay (now s) ⌝ }
     ensures { λ r. ⌜ (r .number ≡ answered (now (s .entry)) .number) × (r .differs ≡ differs (now (s .entry))) ⌝ }
 {
     let fill = word_at(s, fill_at(s));

@@ -2,91 +2,62 @@
 use Prim.Native.Nat.{ℕ}
 use mathlib.Core.Path.{_≡_, refl, sym, ap, _∙_}
 use mathlib.Core.Bool.{Bool, true, false, cond, true≢false}
-use mathlib.Core.List.{List, [], _∷_}
-use mathlib.Core.Option.{none, some}
-use lib.Dec.{ltb, leb, eqb}
+use mathlib.Core.List.{List}
+use mathlib.Core.Option.{Option, none, some}
+use lib.Dec.{ltb, eqb}
 use borrow.Author.Tests.{eqb-true, ne-eqb}
 use Rattle.mir.specs.declared.records.Work.{Work}
 use Rattle.mir.specs.declared.records.Record.{Record}
-use Rattle.mir.specs.Read.{Read, got, refused, refuse, andThen, above, registers}
-use Rattle.mir.specs.Operation.{uniOps, binOps, arithOps, fusedOps, taken}
-use Rattle.mir.specs.Takes.{takesUni, takesBin, takesArith, takesFused}
-use Rattle.mir.specs.Field.{byteAt, u16At, takesKind, headFrom, placeAt, savePlace, condPlace}
-use Rattle.mir.proofs.Passing.{then, got-same, clash}
+use Rattle.mir.specs.Read.{got}
+use Rattle.mir.specs.Operation.{arithOps}
+use Rattle.mir.specs.Takes.{takesArith}
+use Rattle.mir.specs.Field.{byteAt, bytesAt, u16At, takesKind, headFrom}
+use Rattle.mir.proofs.Passing.{then}
 use Rattle.mir.proofs.Heads.{headed}
+use Rattle.mir.proofs.IfRead.{IfRead, read, told, if-got, tested, parted, chosen, limited, operation, place, save}
+use Rattle.mir.proofs.ByKind.{uni, bi, mov, load, saving, load-const, fused, if-else}
 use Rattle.records.specs.Record.{fieldsFrom, recordFrom}
 use Rattle.player_machine.specs.Machine.{isLabel}
 use Rattle.player_machine.specs.Jumps.{isJump, isReturn}
 use Rattle.player.specs.Encoded.{jumpOf, jumpEncoded, jumpIn, such}
 
-module _ (kind : ℕ) (s : List ℕ) where
-  -- what was read is what a kind and the fields encode
-  data Encodes : Read Record → Type 0 where
-    read : {r : Record} → jumpOf kind s ≡ jumpIn r → Encodes (got r)
-    told : {n : ℕ} → Encodes (refused n)
+-- what was read is what a kind and the fields encode
+module _ (count kind : ℕ) (s : List ℕ) where
+  abbrev Encodes : Record → Type 0
+  Encodes r = jumpOf kind s ≡ jumpIn r
 
-  spelt : {x : Read Record} {r : Record} → Encodes x → x ≡ got r → jumpOf kind s ≡ jumpIn r
-  spelt (read e) f = e ∙ ap jumpIn (got-same _ _ f)
-  spelt (told {n}) f = absurd (clash n _ f)
+  encodes : {j : Option Record} (n : ℕ) → kind ≡ n → jumpOf n s ≡ j → jumpOf kind s ≡ j
+  encodes n k e = ap (λ k. jumpOf k s) k ∙ e
 
-  -- the tests and the parts of a reader keep it
-  tested : (b : Bool) (n : ℕ) {x : Read Record} → Encodes x → Encodes (refuse b n x)
-  tested true n h = told
-  tested false n h = h
-
-  parted : {A : Type 0} (x : Read A) {f : A → Read Record} → ((a : A) → Encodes (f a)) → Encodes (andThen x f)
-  parted (got a) h = h a
-  parted (refused n) h = told
-
-  limited : (xs : List ℕ) {x : Read Record} → Encodes x → Encodes (registers 65 xs x)
-  limited xs h = tested (above 65 xs) 3 h
-
-  -- a kind by its test
-  chosen : (n : ℕ) {x y : Read Record} → (kind ≡ n → Encodes x) → Encodes y → Encodes (cond (eqb kind n) x y)
-  chosen n {x} {y} f h = go (eqb kind n) (λ e. f (eqb-true kind n e))
-    where
-      go : (b : Bool) → (b ≡ true → Encodes x) → Encodes (cond b x y)
-      go true f = f refl
-      go false f = h
-
-  works : {w : Work} (n : ℕ) → none ≡ jumpOf n s → kind ≡ n → Encodes (got (Record.Work w))
-  works n e k = read (ap (λ k. jumpOf k s) k ∙ sym e)
-
-  jumps : {r : Record} (n : ℕ) → jumpOf n s ≡ jumpIn r → kind ≡ n → Encodes (got r)
-  jumps n e k = read (ap (λ k. jumpOf k s) k ∙ e)
-
--- kind by kind
-fields : (count : ℕ) (s : List ℕ) → Encodes (u16At s 2) s (fieldsFrom count (u16At s 2) s)
-unfolding fieldsFrom
-fields count s =
-    let b = byteAt s in
-    chosen _ _ 1 (λ k. parted _ _ (taken (takesUni true) uniOps (b 4)) (λ op. limited _ _ (b 5 ∷ b 6 ∷ []) (works _ _ 1 refl k)))
-    (chosen _ _ 2 (λ k. parted _ _ (taken (takesBin true) binOps (b 4)) (λ op. limited _ _ (b 5 ∷ b 6 ∷ b 7 ∷ []) (works _ _ 2 refl k)))
-    (chosen _ _ 3 (λ k. limited _ _ (b 4 ∷ b 5 ∷ []) (works _ _ 3 refl k))
-    (chosen _ _ 4 (λ k. limited _ _ (b 4 ∷ []) (parted _ _ (placeAt s 5) (λ loc. works _ _ 4 refl k)))
-    (chosen _ _ 5 (λ k. limited _ _ (b 4 ∷ []) (parted _ _ (savePlace s 5) (λ loc. works _ _ 5 refl k)))
-    (chosen _ _ 6 (λ k. limited _ _ (b 4 ∷ []) (tested _ _ (leb count (u16At s 5)) 5 (works _ _ 6 refl k)))
-    (chosen _ _ 7
-    (λ k. parted _ _ (taken (takesFused true) fusedOps (b 4)) (λ op. limited _ _ (b 5 ∷ b 6 ∷ b 7 ∷ b 8 ∷ []) (works _ _ 7 refl k)))
-    (chosen _ _ 8 (λ k. limited _ _ (b 4 ∷ b 5 ∷ b 6 ∷ []) (parted _ _ (condPlace s 7) (λ loc. works _ _ 8 refl k)))
-    (chosen _ _ 11 (λ k. limited _ _ (b 4 ∷ b 5 ∷ []) (parted _ _ (placeAt s 6) (λ loc. works _ _ 11 refl k)))
-    (chosen _ _ 12 (λ k. limited _ _ (b 4 ∷ b 5 ∷ []) (parted _ _ (savePlace s 6) (λ loc. works _ _ 12 refl k)))
-    (chosen _ _ 13
-    (λ k.
-    parted _ _ (taken takesArith arithOps (b 4))
-    (λ op. limited _ _ (b 5 ∷ b 6 ∷ b 7 ∷ b 8 ∷ b 9 ∷ b 10 ∷ []) (works _ _ 13 refl k)))
-    (chosen _ _ 14 (λ k. jumps _ _ 14 refl k)
-    (chosen _ _ 15 (λ k. jumps _ _ 15 refl k)
-    (chosen _ _ 16 (λ k. jumps _ _ 16 refl k)
-    (chosen _ _ 17 (λ k. tested _ _ (ltb 1 (b 6)) 2 (limited _ _ (b 4 ∷ []) (jumps _ _ 17 refl k)))
-    told))))))))))))))
+  -- kind by kind
+  fields : IfRead Encodes (fieldsFrom count kind s)
+  unfolding fieldsFrom
+  fields =
+      let b = byteAt s in
+      chosen kind 1 (λ k. uni true s (λ op d a. Record.Work (Work.Uni op d a)) (λ op d a t x y. encodes 1 k refl))
+      (chosen kind 2 (λ k. bi true s (λ op d a b. Record.Work (Work.Bi op d a b)) (λ op d a b t x y z. encodes 2 k refl))
+      (chosen kind 3 (λ k. mov true s (λ d a. Record.Work (Work.Mov d a)) (λ d a x y. encodes 3 k refl))
+      (chosen kind 4 (λ k. load true s (λ d p. Record.Work (Work.Load d p)) (λ d p x q. encodes 4 k refl))
+      (chosen kind 5 (λ k. saving true s (λ a p. Record.Work (Work.Save a p)) (λ a p x q. encodes 5 k refl))
+      (chosen kind 6 (λ k. load-const true s (λ d i. Record.Work (Work.LoadConst d i)) count (λ d x c. encodes 6 k refl))
+      (chosen kind 7 (λ k. fused true s (λ op d a b c. Record.Work (Work.Fused op d a b c)) (λ op d a b c t x y z w. encodes 7 k refl))
+      (chosen kind 8 (λ k. if-else true s (λ d a b p. Record.Work (Work.IfElse d a b p)) (λ d a b p x y z q. encodes 8 k refl))
+      (chosen kind 11 (λ k. limited 65 (bytesAt s 4 2) (λ l. parted (place s 6) (λ p q. read (encodes 11 k refl))))
+      (chosen kind 12 (λ k. limited 65 (bytesAt s 4 2) (λ l. parted (save s 6) (λ p q. read (encodes 12 k refl))))
+      (chosen kind 13
+      (λ k. parted (operation takesArith arithOps (b 4)) (λ op t. limited 65 (bytesAt s 5 6) (λ l. read (encodes 13 k refl))))
+      (chosen kind 14 (λ k. read (encodes 14 k refl))
+      (chosen kind 15 (λ k. read (encodes 15 k refl))
+      (chosen kind 16 (λ k. read (encodes 16 k refl))
+      (chosen kind 17 (λ k. tested (ltb 1 (b 6)) 1 (λ e. limited 65 (bytesAt s 4 1) (λ l. read (encodes 17 k refl))))
+      told))))))))))))))
 
 pub encoding : (count : ℕ) (s : List ℕ) (rec : Record) → recordFrom count s ≡ got rec → jumpEncoded s ≡ jumpIn rec
 unfolding recordFrom
 encoding count s rec e =
     let t = then (headFrom (takesKind true) s) (λ kind. fieldsFrom count kind s) rec e in
     let h = headed (takesKind true) s (t .first) (t .found) in
-    spelt _ _ (fields count s) (ap (λ kind. fieldsFrom count kind s) (sym (h .same)) ∙ t .rest)
+    if-got (fields count (u16At s 2) s) (ap (λ kind. fieldsFrom count kind s) (sym (h .same)) ∙ t .rest)
 
 -- the jump that a record is
 jump-by : (rec r : Record) → jumpIn rec ≡ some r → rec ≡ r

@@ -18,7 +18,8 @@ use Rattle.mir.specs.Operation.{uniOps, binOps, arithOps, fusedOps}
 use Rattle.mir.specs.Field.{u16At, among, takesKind, headFrom, placeAt, savePlace, condPlace}
 use Rattle.mir.specs.Encode.{recordOf, encodeAll}
 use Rattle.mir.specs.Decode.{decodedFrom, decoded}
-use Rattle.records.specs.Record.{uniFrom, biFrom, movFrom, loadFrom, saveFrom, loadConstFrom, fusedFrom, ifElseFrom, loadComplexFrom, saveComplexFrom, complexBiFrom, labelFrom, branchFrom, callFrom, branchIfFrom, fieldsFrom, recordFrom}
+use Rattle.mir.specs.Kinds.{uniFrom, biFrom, movFrom, loadFrom, saveFrom, loadConstFrom, fusedFrom, ifElseFrom}
+use Rattle.records.specs.Record.{loadComplexFrom, saveComplexFrom, complexBiFrom, labelFrom, branchFrom, callFrom, branchIfFrom, fieldsFrom, recordFrom}
 use Rattle.player_machine.specs.Machine.{Store, at, uniWord, binWord, fusedWord, complexWords, writes, put, exec, execs, works, isLabel, seek, block, ticks, play}
 use Rattle.player_machine.specs.Jumps.{breach}
 use Rattle.player_machine.specs.Answer.{Answer, answer}

@@ -14,7 +14,8 @@ use Rattle.mir.specs.Field.{byteAt, u16At, takesKind, headFrom, placeAt, savedT
 use Rattle.mir.proofs.Passing.{passed, then, got-same, clash}
 use Rattle.mir.proofs.Heads.{headed}
 use Rattle.mir.specs.Takes.{takesUni, takesBin, takesArith, takesFused}
-use Rattle.records.specs.Record.{uniFrom, biFrom, movFrom, loadFrom, saveFrom, loadConstFrom, fusedFrom, ifElseFrom, loadComplexFrom, saveComplexFrom, complexBiFrom, labelFrom, branchFrom, callFrom, branchIfFrom, fieldsFrom, recordFrom}
+use Rattle.mir.specs.Kinds.{uniFrom, biFrom, movFrom, loadFrom, saveFrom, loadConstFrom, fusedFrom, ifElseFrom}
+use Rattle.records.specs.Record.{loadComplexFrom, saveComplexFrom, complexBiFrom, labelFrom, branchFrom, callFrom, branchIfFrom, fieldsFrom, recordFrom}
 use Rattle.player_work.specs.Encoded.{ofPart, workIn, uniEncoded, biEncoded, movEncoded, loadEncoded, saveEncoded, loadConstEncoded, fusedEncoded, ifElseEncoded, loadComplexEncoded, saveComplexEncoded, complexBiEncoded, encoded}
 
 -- registers that were not refused
@@ -67,35 +68,35 @@ jump : (j r : Record) → none ≡ workIn j → got j ≡ got r → none ≡ wor
 jump j r n e = n ∙ ap workIn (got-same j r e)
 
 module _ (count : ℕ) (s : List ℕ) (r : Record) where
-  uni : uniFrom s ≡ got r → uniEncoded s ≡ workIn r
+  uni : uniFrom true (λ op dst s1. Record.Work (Work.Uni op dst s1)) s ≡ got r → uniEncoded s ≡ workIn r
   unfolding uniFrom uniEncoded
   uni e = with-operation (taken (takesUni true) uniOps (byteAt s 4)) (byteAt s 5 ∷ byteAt s 6 ∷ []) _ r e
 
-  bi : biFrom s ≡ got r → biEncoded s ≡ workIn r
+  bi : biFrom true (λ op dst s1 s2. Record.Work (Work.Bi op dst s1 s2)) s ≡ got r → biEncoded s ≡ workIn r
   unfolding biFrom biEncoded
   bi e = with-operation (taken (takesBin true) binOps (byteAt s 4)) (byteAt s 5 ∷ byteAt s 6 ∷ byteAt s 7 ∷ []) _ r e
 
-  mov : movFrom s ≡ got r → movEncoded s ≡ workIn r
+  mov : movFrom true (λ dst s1. Record.Work (Work.Mov dst s1)) s ≡ got r → movEncoded s ≡ workIn r
   unfolding movFrom movEncoded
   mov e = ap workIn (got-same _ r (low (byteAt s 4 ∷ byteAt s 5 ∷ []) _ r e))
 
-  load : loadFrom s ≡ got r → loadEncoded s ≡ workIn r
+  load : loadFrom true (λ dst loc. Record.Work (Work.Load dst loc)) s ≡ got r → loadEncoded s ≡ workIn r
   unfolding loadFrom loadEncoded
   load e = with-place (placeAt s 5) (byteAt s 4 ∷ []) _ r e
 
-  save : saveFrom s ≡ got r → saveEncoded s ≡ workIn r
+  save : saveFrom true (λ src loc. Record.Work (Work.Save src loc)) s ≡ got r → saveEncoded s ≡ workIn r
   unfolding saveFrom saveEncoded savePlace
   save e = with-classed (placeAt s 5) savedTo saved-same (byteAt s 4 ∷ []) _ r e
 
-  load-const : loadConstFrom count s ≡ got r → loadConstEncoded s ≡ workIn r
+  load-const : loadConstFrom true (λ dst idx. Record.Work (Work.LoadConst dst idx)) count s ≡ got r → loadConstEncoded s ≡ workIn r
   unfolding loadConstFrom loadConstEncoded
   load-const e = ap workIn (got-same _ r (passed (leb count (u16At s 5)) 5 _ r (low (byteAt s 4 ∷ []) _ r e) .rest))
 
-  fused : fusedFrom s ≡ got r → fusedEncoded s ≡ workIn r
+  fused : fusedFrom true (λ op dst a b c. Record.Work (Work.Fused op dst a b c)) s ≡ got r → fusedEncoded s ≡ workIn r
   unfolding fusedFrom fusedEncoded
   fused e = with-operation (taken (takesFused true) fusedOps (byteAt s 4)) (byteAt s 5 ∷ byteAt s 6 ∷ byteAt s 7 ∷ byteAt s 8 ∷ []) _ r e
 
-  if-else : ifElseFrom s ≡ got r → ifElseEncoded s ≡ workIn r
+  if-else : ifElseFrom true (λ dst t f loc. Record.Work (Work.IfElse dst t f loc)) s ≡ got r → ifElseEncoded s ≡ workIn r
   unfolding ifElseFrom ifElseEncoded condPlace
   if-else e = with-classed (placeAt s 7) onStack stacked-same (byteAt s 4 ∷ byteAt s 5 ∷ byteAt s 6 ∷ []) _ r e
 
@@ -133,14 +134,14 @@ module _ (count : ℕ) (s : List ℕ) (r : Record) where
   unfolding fieldsFrom encoded
   fields e =
       let k = u16At s 2 in
-      both (eqb k 1) (uniFrom s) _ (uniEncoded s) _ r e uni (λ e.
-      both (eqb k 2) (biFrom s) _ (biEncoded s) _ r e bi (λ e.
-      both (eqb k 3) (movFrom s) _ (movEncoded s) _ r e mov (λ e.
-      both (eqb k 4) (loadFrom s) _ (loadEncoded s) _ r e load (λ e.
-      both (eqb k 5) (saveFrom s) _ (saveEncoded s) _ r e save (λ e.
-      both (eqb k 6) (loadConstFrom count s) _ (loadConstEncoded s) _ r e load-const (λ e.
-      both (eqb k 7) (fusedFrom s) _ (fusedEncoded s) _ r e fused (λ e.
-      both (eqb k 8) (ifElseFrom s) _ (ifElseEncoded s) _ r e if-else (λ e.
+      both (eqb k 1) _ _ (uniEncoded s) _ r e uni (λ e.
+      both (eqb k 2) _ _ (biEncoded s) _ r e bi (λ e.
+      both (eqb k 3) _ _ (movEncoded s) _ r e mov (λ e.
+      both (eqb k 4) _ _ (loadEncoded s) _ r e load (λ e.
+      both (eqb k 5) _ _ (saveEncoded s) _ r e save (λ e.
+      both (eqb k 6) _ _ (loadConstEncoded s) _ r e load-const (λ e.
+      both (eqb k 7) _ _ (fusedEncoded s) _ r e fused (λ e.
+      both (eqb k 8) _ _ (ifElseEncoded s) _ r e if-else (λ e.
       both (eqb k 11) (loadComplexFrom s) _ (loadComplexEncoded s) _ r e load-complex (λ e.
       both (eqb k 12) (saveComplexFrom s) _ (saveComplexEncoded s) _ r e save-complex (λ e.
       both (eqb k 13) (complexBiFrom s) _ (complexBiEncoded s) _ r e complex-bi (λ e.

@@ -1,216 +1,59 @@
 -- What is read from bytes is a record that a listing can hold.
-use Prim.Native.Nat.{ℕ, zero, suc, _+_, _≤_, _<_}
-use mathlib.Core.Path.{_≡_, sym, ap, _∙_, subst}
-use mathlib.Core.Bool.{Bool, true, false, not, cond}
-use mathlib.Core.List.{List, [], _∷_}
-use native.Mathlib.Nat.{not-suc-le-zero}
+use Prim.Native.Nat.{ℕ}
+use mathlib.Core.Path.{_≡_}
+use mathlib.Core.Bool.{true}
+use mathlib.Core.List.{List}
 use native.Mathlib.Omega.{arith}
-use lib.ListN.{length, getD}
-use lib.Dec.{ltb, leb, eqb}
-use borrow.Author.Tests.{ltb-false, leb-false, not-false}
-use Rattle.mir.specs.declared.records.Loc.{Loc}
+use lib.Dec.{ltb, eqb}
+use Rattle.mir.specs.declared.records.Work.{Work}
 use Rattle.mir.specs.declared.records.Record.{Record}
-use Rattle.mir.specs.Place.{index}
-use Rattle.mir.specs.Operation.{uniOps, binOps, arithOps, fusedOps, taken}
-use Rattle.mir.specs.Read.{Read, got, refused, above, registers}
-use Rattle.mir.specs.Field.{byteAt, u16At, takesKind, headFrom, classed, placeAt, savedTo, savePlace, onStack, condPlace}
-use Rattle.mir.proofs.Passing.{passed, then, got-same, clash, or-left, or-right}
+use Rattle.mir.specs.Operation.{arithOps}
+use Rattle.mir.specs.Takes.{takesArith}
+use Rattle.mir.specs.Read.{got}
+use Rattle.mir.specs.Field.{byteAt, bytesAt, u16At, takesKind}
+use Rattle.mir.proofs.IfRead.{IfRead, read, told, if-got, tested, parted, chosen, limited, operation, place, save, head}
+use Rattle.mir.proofs.ByKind.{uni, bi, mov, load, saving, load-const, fused, if-else}
 use Rattle.mir.proofs.Decoding.{Bytes, items, each}
-use Rattle.mir.specs.Takes.{takesUni, takesBin, takesArith, takesFused}
-use Rattle.records.specs.Record.{uniFrom, biFrom, movFrom, loadFrom, saveFrom, loadConstFrom, fusedFrom, ifElseFrom, loadComplexFrom, saveComplexFrom, complexBiFrom, labelFrom, branchFrom, callFrom, branchIfFrom, fieldsFrom, recordFrom}
-use Rattle.records.proofs.Holding.{Saved, Stacked, Holds, AllHold}
+use Rattle.records.specs.Record.{fieldsFrom, recordFrom}
+use Rattle.records.proofs.Holding.{Holds, AllHold}
 
--- registers that were not refused
-record Low {A : Type 0} (limit : ℕ) (xs : List ℕ) (r : Read A) (a : A) : Type 0 where
-  low : (i : ℕ) → i < length xs → getD xs i 0 ≤ limit
-  rest : r ≡ got a
+-- kind by kind
+held-fields : (count kind : ℕ) (s : List ℕ) → IfRead (λ r. Bytes s → Holds count r) (fieldsFrom count kind s)
+unfolding fieldsFrom u16At
+held-fields count kind s =
+    let b = byteAt s in
+    chosen kind 1 (λ k. uni true s (λ op d a. Record.Work (Work.Uni op d a)) (λ op d a t x y bytes. (t, x, y)))
+    (chosen kind 2 (λ k. bi true s (λ op d a b. Record.Work (Work.Bi op d a b)) (λ op d a b t x y z bytes. (t, x, y, z)))
+    (chosen kind 3 (λ k. mov true s (λ d a. Record.Work (Work.Mov d a)) (λ d a x y bytes. (x, y)))
+    (chosen kind 4 (λ k. load true s (λ d p. Record.Work (Work.Load d p)) (λ d p x q bytes. (x, q)))
+    (chosen kind 5 (λ k. saving true s (λ a p. Record.Work (Work.Save a p)) (λ a p x q bytes. (x, q)))
+    (chosen kind 6 (λ k. load-const true s (λ d i. Record.Work (Work.LoadConst d i)) count (λ d x c bytes. (x, c, omega (arith, bytes 5, bytes 6))))
+    (chosen kind 7 (λ k. fused true s (λ op d a b c. Record.Work (Work.Fused op d a b c)) (λ op d a b c t x y z w bytes. (t, x, y, z, w)))
+    (chosen kind 8 (λ k. if-else true s (λ d a b p. Record.Work (Work.IfElse d a b p)) (λ d a b p x y z q bytes. (x, y, z, q)))
+    (chosen kind 11
+    (λ k. limited 65 (bytesAt s 4 2)
+    (λ l. parted (place s 6) (λ p q. read {a = Record.Work (Work.LoadComplex (b 4) (b 5) p)} (λ bytes. (l .0, l .1 .0, q)))))
+    (chosen kind 12
+    (λ k. limited 65 (bytesAt s 4 2)
+    (λ l. parted (save s 6) (λ p q. read {a = Record.Work (Work.SaveComplex (b 4) (b 5) p)} (λ bytes. (l .0, l .1 .0, q)))))
+    (chosen kind 13
+    (λ k. parted (operation takesArith arithOps (b 4)) (λ op t. limited 65 (bytesAt s 5 6)
+    (λ l. read {a = Record.Work (Work.ComplexBi op (b 5) (b 6) (b 7) (b 8) (b 9) (b 10))}
+    (λ bytes. (l .0, l .1 .0, l .1 .1 .0, l .1 .1 .1 .0, l .1 .1 .1 .1 .0, l .1 .1 .1 .1 .1 .0)))))
+    (chosen kind 14 (λ k. read {a = Record.Label (b 4)} (λ bytes. tt))
+    (chosen kind 15 (λ k. read {a = Record.Branch (b 4)} (λ bytes. tt))
+    (chosen kind 16 (λ k. read {a = Record.Call (b 4)} (λ bytes. tt))
+    (chosen kind 17
+    (λ k. tested (ltb 1 (b 6)) 1
+    (λ e. limited 65 (bytesAt s 4 1) (λ l. read {a = Record.BranchIf (b 4) (b 5) (eqb (b 6) 1)} (λ bytes. l .0))))
+    told))))))))))))))
 
-low-at : (limit : ℕ) (xs : List ℕ) → above limit xs ≡ false → (i : ℕ) → i < length xs → getD xs i 0 ≤ limit
-low-at limit [] e i h = absurd (not-suc-le-zero h)
-low-at limit (x ∷ xs) e zero h = ltb-false limit x (or-left (ltb limit x) (above limit xs) e)
-low-at limit (x ∷ xs) e (suc i) h = low-at limit xs (or-right (ltb limit x) (above limit xs) e) i (omega arith)
+pub one-held : (count : ℕ) (s : List ℕ) → IfRead (λ r. Bytes s → Holds count r) (recordFrom count s)
+unfolding recordFrom
+one-held count s = parted (head (takesKind true) s) (λ kind h. held-fields count kind s)
 
-lows : {A : Type 0} (limit : ℕ) (xs : List ℕ) (r : Read A) (a : A) → registers limit xs r ≡ got a → Low limit xs r a
-lows limit xs r a e = let p = passed (above limit xs) 3 r a e in record { low = low-at limit xs (p .test); rest = p .rest }
-
--- an operation that was not refused
-pub taken-takes : {A : Type 0} (takes : A → Bool) (ops : List A) (n : ℕ) (op : A) → taken takes ops n ≡ got op → takes op ≡ true
-taken-takes takes [] n op e = absurd (clash 2 op e)
-taken-takes takes (o ∷ ops) zero op e =
-    let p = passed (not (takes o)) 2 (got o) op e in
-    ap takes (sym (got-same o op (p .rest))) ∙ not-false (takes o) (p .test)
-taken-takes takes (o ∷ ops) (suc n) op e = taken-takes takes ops n op e
-
--- by which branch something was read
-pub by : {A P : Type 0} (b : Bool) (x y : Read A) (a : A) → cond b x y ≡ got a → (x ≡ got a → P) → (y ≡ got a → P) → P
-by true x y a e f g = f e
-by false x y a e f g = g e
-
--- places that were not refused
-classed-index : (c w : ℕ) (p : Loc) → classed c w ≡ got p → w ≡ index p
-classed-index c w p e =
-    by (eqb c 0) (got (Loc.Stack w)) _ p e
-    (λ e. ap index (got-same (Loc.Stack w) p e))
-    (λ e.
-    by (eqb c 1) (got (Loc.Mem w)) _ p e
-    (λ e. ap index (got-same (Loc.Mem w) p e))
-    (λ e.
-    by (eqb c 2) (got (Loc.Param w)) (refused 4) p e
-    (λ e. ap index (got-same (Loc.Param w) p e))
-    (λ e. absurd (clash 4 p e))))
-
-pub place-index : (s : List ℕ) (i : ℕ) (p : Loc) → placeAt s i ≡ got p → index p ≤ 255
-unfolding placeAt
-place-index s i p e =
-    let w = u16At s (i + 1) in
-    let q = passed (ltb 255 w) 4 (classed (getD s i 0) w) p e in
-    let h = ltb-false 255 w (q .test) in
-    omega (arith, classed-index (getD s i 0) w p (q .rest))
-
-saved-from : (q p : Loc) → index q ≤ 255 → savedTo q ≡ got p → Saved p
-saved-from (Loc.Stack n) p h e = subst Saved (got-same (Loc.Stack n) p e) h
-saved-from (Loc.Mem n) p h e = subst Saved (got-same (Loc.Mem n) p e) h
-saved-from (Loc.Param n) p h e = absurd (clash 4 p e)
-
-pub save-held : (s : List ℕ) (i : ℕ) (p : Loc) → savePlace s i ≡ got p → Saved p
-unfolding savePlace
-save-held s i p e =
-    let t = then (placeAt s i) savedTo p e in
-    saved-from (t .first) p (place-index s i (t .first) (t .found)) (t .rest)
-
-stacked-from : (q p : Loc) → index q ≤ 255 → onStack q ≡ got p → Stacked p
-stacked-from (Loc.Stack n) p h e = subst Stacked (got-same (Loc.Stack n) p e) h
-stacked-from (Loc.Mem n) p h e = absurd (clash 4 p e)
-stacked-from (Loc.Param n) p h e = absurd (clash 4 p e)
-
-pub cond-held : (s : List ℕ) (i : ℕ) (p : Loc) → condPlace s i ≡ got p → Stacked p
-unfolding condPlace
-cond-held s i p e =
-    let t = then (placeAt s i) onStack p e in
-    stacked-from (t .first) p (place-index s i (t .first) (t .found)) (t .rest)
-
-module _ (count : ℕ) (s : List ℕ) (r : Record) where
-  held-uni : uniFrom s ≡ got r → Holds count r
-  unfolding uniFrom
-  held-uni e =
-      let t = then (taken (takesUni true) uniOps (byteAt s 4)) _ r e in
-      let l = lows 65 (byteAt s 5 ∷ byteAt s 6 ∷ []) _ r (t .rest) in
-      subst (Holds count) (got-same _ r (l .rest)) (taken-takes (takesUni true) uniOps (byteAt s 4) (t .first) (t .found), l .low 0 (omega arith), l .low 1 (omega arith))
-
-  held-bi : biFrom s ≡ got r → Holds count r
-  unfolding biFrom
-  held-bi e =
-      let t = then (taken (takesBin true) binOps (byteAt s 4)) _ r e in
-      let l = lows 65 (byteAt s 5 ∷ byteAt s 6 ∷ byteAt s 7 ∷ []) _ r (t .rest) in
-      subst (Holds count) (got-same _ r (l .rest)) (taken-takes (takesBin true) binOps (byteAt s 4) (t .first) (t .found), l .low 0 (omega arith), l .low 1 (omega arith), l .low 2 (omega arith))
-
-  held-mov : movFrom s ≡ got r → Holds count r
-  unfolding movFrom
-  held-mov e =
-      let l = lows 65 (byteAt s 4 ∷ byteAt s 5 ∷ []) _ r e in
-      subst (Holds count) (got-same _ r (l .rest)) (l .low 0 (omega arith), l .low 1 (omega arith))
-
-  held-load : loadFrom s ≡ got r → Holds count r
-  unfolding loadFrom
-  held-load e =
-      let l = lows 65 (byteAt s 4 ∷ []) _ r e in
-      let t = then (placeAt s 5) _ r (l .rest) in
-      subst (Holds count) (got-same _ r (t .rest)) (l .low 0 (omega arith), place-index s 5 (t .first) (t .found))
-
-  held-save : saveFrom s ≡ got r → Holds count r
-  unfolding saveFrom
-  held-save e =
-      let l = lows 65 (byteAt s 4 ∷ []) _ r e in
-      let t = then (savePlace s 5) _ r (l .rest) in
-      subst (Holds count) (got-same _ r (t .rest)) (l .low 0 (omega arith), save-held s 5 (t .first) (t .found))
-
-  held-load-const : Bytes s → loadConstFrom count s ≡ got r → Holds count r
-  unfolding loadConstFrom u16At
-  held-load-const b e =
-      let l = lows 65 (byteAt s 4 ∷ []) _ r e in
-      let p = passed (leb count (u16At s 5)) 5 _ r (l .rest) in
-      subst (Holds count) (got-same _ r (p .rest))
-      (l .low 0 (omega arith), leb-false count (u16At s 5) (p .test), omega (arith, b 5, b 6))
-
-  held-fused : fusedFrom s ≡ got r → Holds count r
-  unfolding fusedFrom
-  held-fused e =
-      let t = then (taken (takesFused true) fusedOps (byteAt s 4)) _ r e in
-      let l = lows 65 (byteAt s 5 ∷ byteAt s 6 ∷ byteAt s 7 ∷ byteAt s 8 ∷ []) _ r (t .rest) in
-      subst (Holds count) (got-same _ r (l .rest)) (taken-takes (takesFused true) fusedOps (byteAt s 4) (t .first) (t .found), l .low 0 (omega arith), l .low 1 (omega arith), l .low 2 (omega arith), l .low 3 (omega arith))
-
-  held-if-else : ifElseFrom s ≡ got r → Holds count r
-  unfolding ifElseFrom
-  held-if-else e =
-      let l = lows 65 (byteAt s 4 ∷ byteAt s 5 ∷ byteAt s 6 ∷ []) _ r e in
-      let t = then (condPlace s 7) _ r (l .rest) in
-      subst (Holds count) (got-same _ r (t .rest)) (l .low 0 (omega arith), l .low 1 (omega arith), l .low 2 (omega arith), cond-held s 7 (t .first) (t .found))
-
-  held-load-complex : loadComplexFrom s ≡ got r → Holds count r
-  unfolding loadComplexFrom
-  held-load-complex e =
-      let l = lows 65 (byteAt s 4 ∷ byteAt s 5 ∷ []) _ r e in
-      let t = then (placeAt s 6) _ r (l .rest) in
-      subst (Holds count) (got-same _ r (t .rest)) (l .low 0 (omega arith), l .low 1 (omega arith), place-index s 6 (t .first) (t .found))
-
-  held-save-complex : saveComplexFrom s ≡ got r → Holds count r
-  unfolding saveComplexFrom
-  held-save-complex e =
-      let l = lows 65 (byteAt s 4 ∷ byteAt s 5 ∷ []) _ r e in
-      let t = then (savePlace s 6) _ r (l .rest) in
-      subst (Holds count) (got-same _ r (t .rest)) (l .low 0 (omega arith), l .low 1 (omega arith), save-held s 6 (t .first) (t .found))
-
-  held-complex-bi : complexBiFrom s ≡ got r → Holds count r
-  unfolding complexBiFrom
-  held-complex-bi e =
-      let t = then (taken takesArith arithOps (byteAt s 4)) _ r e in
-      let l = lows 65 (byteAt s 5 ∷ byteAt s 6 ∷ byteAt s 7 ∷ byteAt s 8 ∷ byteAt s 9 ∷ byteAt s 10 ∷ []) _ r (t .rest) in
-      subst (Holds count) (got-same _ r (l .rest)) (l .low 0 (omega arith), l .low 1 (omega arith), l .low 2 (omega arith), l .low 3 (omega arith), l .low 4 (omega arith), l .low 5 (omega arith))
-
-  held-label : labelFrom s ≡ got r → Holds count r
-  unfolding labelFrom
-  held-label e = subst (Holds count) (got-same _ r e) tt
-
-  held-branch : branchFrom s ≡ got r → Holds count r
-  unfolding branchFrom
-  held-branch e = subst (Holds count) (got-same _ r e) tt
-
-  held-call : callFrom s ≡ got r → Holds count r
-  unfolding callFrom
-  held-call e = subst (Holds count) (got-same _ r e) tt
-
-  held-branch-if : branchIfFrom s ≡ got r → Holds count r
-  unfolding branchIfFrom
-  held-branch-if e =
-      let p = passed (ltb 1 (byteAt s 6)) 2 _ r e in
-      let l = lows 65 (byteAt s 4 ∷ []) _ r (p .rest) in
-      subst (Holds count) (got-same _ r (l .rest)) (l .low 0 (omega arith))
-
-  held-fields : Bytes s → (kind : ℕ) → fieldsFrom count kind s ≡ got r → Holds count r
-  unfolding fieldsFrom
-  held-fields b kind e =
-      by (eqb kind 1) (uniFrom s) _ r e held-uni (λ e.
-      by (eqb kind 2) (biFrom s) _ r e held-bi (λ e.
-      by (eqb kind 3) (movFrom s) _ r e held-mov (λ e.
-      by (eqb kind 4) (loadFrom s) _ r e held-load (λ e.
-      by (eqb kind 5) (saveFrom s) _ r e held-save (λ e.
-      by (eqb kind 6) (loadConstFrom count s) _ r e (held-load-const b) (λ e.
-      by (eqb kind 7) (fusedFrom s) _ r e held-fused (λ e.
-      by (eqb kind 8) (ifElseFrom s) _ r e held-if-else (λ e.
-      by (eqb kind 11) (loadComplexFrom s) _ r e held-load-complex (λ e.
-      by (eqb kind 12) (saveComplexFrom s) _ r e held-save-complex (λ e.
-      by (eqb kind 13) (complexBiFrom s) _ r e held-complex-bi (λ e.
-      by (eqb kind 14) (labelFrom s) _ r e held-label (λ e.
-      by (eqb kind 15) (branchFrom s) _ r e held-branch (λ e.
-      by (eqb kind 16) (callFrom s) _ r e held-call (λ e.
-      by (eqb kind 17) (branchIfFrom s) _ r e held-branch-if (λ e.
-      absurd (clash 2 r e))))))))))))))))
-
-  pub held : Bytes s → recordFrom count s ≡ got r → Holds count r
-  unfolding recordFrom
-  held b e =
-      let t = then (headFrom (takesKind true) s) (λ kind. fieldsFrom count kind s) r e in
-      held-fields b (t .first) (t .rest)
+pub held : (count : ℕ) (s : List ℕ) (r : Record) → Bytes s → recordFrom count s ≡ got r → Holds count r
+held count s r b e = if-got (one-held count s) e b
 
 -- and so is every record that is decoded
 pub all-held : (count : ℕ) (s : List ℕ) → Bytes s → AllHold count (items (recordFrom count) s)

@@ -3,24 +3,12 @@ use Prim.Native.Nat.{ℕ, _≤_, _<_}
 use mathlib.Core.Path.{_≡_}
 use mathlib.Core.Bool.{true}
 use mathlib.Core.List.{List}
-use Rattle.mir.specs.declared.records.Loc.{Loc}
 use Rattle.mir.specs.declared.records.Work.{Work}
 use Rattle.mir.specs.declared.records.Record.{Record}
 use Rattle.mir.specs.Place.{index}
+use Rattle.mir.proofs.IfRead.{Saved, Stacked}
 use Rattle.mir.proofs.Decoding.{Each}
 use Rattle.mir.specs.Takes.{takesUni, takesBin, takesFused}
-
--- a place that is saved to
-abbrev pub Saved : Loc → Type 0
-Saved (Loc.Stack i) = i ≤ 255
-Saved (Loc.Mem i) = i ≤ 255
-Saved (Loc.Param i) = ⊥
-
--- the place of a condition
-abbrev pub Stacked : Loc → Type 0
-Stacked (Loc.Stack i) = i ≤ 255
-Stacked (Loc.Mem i) = ⊥
-Stacked (Loc.Param i) = ⊥
 
 -- operations that are taken, registers to 65, places to 255, constants below the count of the lent table; any label
 abbrev pub Holds : ℕ → Record → Type 0

@@ -19,10 +19,11 @@ use Rattle.mir.specs.Decode.{Decoded, ahead, decoded}
 use Rattle.mir.specs.Encode.{twoBytes, placeBytes, flagByte, recordOf, encode, encodeAll}
 use Rattle.mir.proofs.Numbering.{uni-at, bin-at, arith-at, fused-at}
 use Rattle.mir.proofs.Written.{two, length-back, length-of, head-back, place-back, save-back, cond-back}
+use Rattle.mir.proofs.IfRead.{Saved, Stacked}
 use Rattle.mir.proofs.Decoding.{none, and, decoded-got, decoded-none}
 use Rattle.records.specs.Record.{fieldsFrom, recordFrom}
 use Rattle.records.proofs.Reading.{whole}
-use Rattle.records.proofs.Holding.{Saved, Stacked, Holds, AllHold}
+use Rattle.records.proofs.Holding.{Holds, AllHold}
 
 -- bytes are those of a record of a kind that a listing takes
 record Formed (bytes : List ℕ) : Type 0 where

@@ -1,65 +1,19 @@
 -- A listing's record, from the bytes that begin with it (document 01, Sheet, and the numbers 1 to 5 of its table). `count` is the count
--- of the table lent with the listing. Registers are tested before the place, and the place before the constant.
+-- of the table lent with the listing. The kinds 1 to 8 are those of mir/specs/Kinds; in the others too, registers are tested before the place.
 use Prim.Native.Nat.{ℕ}
 use mathlib.Core.Bool.{cond, true}
 use mathlib.Core.List.{List}
 use lib.Dec.{ltb, eqb}
 use Rattle.mir.specs.declared.records.Work.{Work}
 use Rattle.mir.specs.declared.records.Record.{Record}
-use Rattle.mir.specs.Operation.{uniOps, binOps, arithOps, fusedOps, taken}
-use Rattle.mir.specs.Takes.{takesUni, takesBin, takesArith, takesFused}
-use Rattle.mir.specs.Read.{Read, got, refused, refuse, andThen, registers, constant}
-use Rattle.mir.specs.Field.{byteAt, bytesAt, u16At, takesKind, headFrom, placeAt, savePlace, condPlace}
+use Rattle.mir.specs.Operation.{arithOps, taken}
+use Rattle.mir.specs.Takes.{takesArith}
+use Rattle.mir.specs.Read.{Read, got, refused, refuse, andThen, registers}
+use Rattle.mir.specs.Field.{byteAt, bytesAt, takesKind, headFrom, placeAt, savePlace}
+use Rattle.mir.specs.Kinds.{uniFrom, biFrom, movFrom, loadFrom, saveFrom, loadConstFrom, fusedFrom, ifElseFrom}
 use Rattle.mir.specs.Decode.{Item, readAt, Decoded, decoded}
 use Rattle.records.specs.declared.reader.ReadRecord.{ReadRecord}
 use Rattle.records.specs.declared.reader.NextRecord.{NextRecord}
-
--- 1 Uni: op, dst, s1
-unfoldable pub uniFrom : List ℕ → Read Record
-uniFrom s =
-    andThen (taken (takesUni true) uniOps (byteAt s 4))
-    (λ op. registers 65 (bytesAt s 5 2) (got (Record.Work (Work.Uni op (byteAt s 5) (byteAt s 6)))))
-
--- 2 Bi: op, dst, s1, s2
-unfoldable pub biFrom : List ℕ → Read Record
-biFrom s =
-    andThen (taken (takesBin true) binOps (byteAt s 4))
-    (λ op.
-    registers 65 (bytesAt s 5 3)
-    (got (Record.Work (Work.Bi op (byteAt s 5) (byteAt s 6) (byteAt s 7)))))
-
--- 3 Mov: dst, s1
-unfoldable pub movFrom : List ℕ → Read Record
-movFrom s = registers 65 (bytesAt s 4 2) (got (Record.Work (Work.Mov (byteAt s 4) (byteAt s 5))))
-
--- 4 Load: register, place
-unfoldable pub loadFrom : List ℕ → Read Record
-loadFrom s = registers 65 (bytesAt s 4 1) (andThen (placeAt s 5) (λ loc. got (Record.Work (Work.Load (byteAt s 4) loc))))
-
--- 5 Save: register, place
-unfoldable pub saveFrom : List ℕ → Read Record
-saveFrom s =
-    registers 65 (bytesAt s 4 1) (andThen (savePlace s 5) (λ loc. got (Record.Work (Work.Save (byteAt s 4) loc))))
-
--- 6 LoadConst: dst, constant
-unfoldable pub loadConstFrom : ℕ → List ℕ → Read Record
-loadConstFrom count s =
-    registers 65 (bytesAt s 4 1)
-    (constant count (u16At s 5) (got (Record.Work (Work.LoadConst (byteAt s 4) (u16At s 5)))))
-
--- 7 Fused: op, dst, a, b, c
-unfoldable pub fusedFrom : List ℕ → Read Record
-fusedFrom s =
-    andThen (taken (takesFused true) fusedOps (byteAt s 4))
-    (λ op.
-    registers 65 (bytesAt s 5 4)
-    (got (Record.Work (Work.Fused op (byteAt s 5) (byteAt s 6) (byteAt s 7) (byteAt s 8)))))
-
--- 8 IfElse: dst, true, false, place
-unfoldable pub ifElseFrom : List ℕ → Read Record
-ifElseFrom s =
-    registers 65 (bytesAt s 4 3)
-    (andThen (condPlace s 7) (λ loc. got (Record.Work (Work.IfElse (byteAt s 4) (byteAt s 5) (byteAt s 6) loc))))
 
 -- 11 LoadComplex: two registers, place
 unfoldable pub loadComplexFrom : List ℕ → Read Record
@@ -102,14 +56,14 @@ branchIfFrom s =
 unfoldable pub fieldsFrom : ℕ → ℕ → List ℕ → Read Record
 unfolding uniFrom biFrom movFrom loadFrom saveFrom loadConstFrom fusedFrom ifElseFrom loadComplexFrom saveComplexFrom complexBiFrom labelFrom branchFrom callFrom branchIfFrom
 fieldsFrom count kind s =
-    cond (eqb kind 1) (uniFrom s)
-    (cond (eqb kind 2) (biFrom s)
-    (cond (eqb kind 3) (movFrom s)
-    (cond (eqb kind 4) (loadFrom s)
-    (cond (eqb kind 5) (saveFrom s)
-    (cond (eqb kind 6) (loadConstFrom count s)
-    (cond (eqb kind 7) (fusedFrom s)
-    (cond (eqb kind 8) (ifElseFrom s)
+    cond (eqb kind 1) (uniFrom true (λ op dst s1. Record.Work (Work.Uni op dst s1)) s)
+    (cond (eqb kind 2) (biFrom true (λ op dst s1 s2. Record.Work (Work.Bi op dst s1 s2)) s)
+    (cond (eqb kind 3) (movFrom true (λ dst s1. Record.Work (Work.Mov dst s1)) s)
+    (cond (eqb kind 4) (loadFrom true (λ dst loc. Record.Work (Work.Load dst loc)) s)
+    (cond (eqb kind 5) (saveFrom true (λ src loc. Record.Work (Work.Save src loc)) s)
+    (cond (eqb kind 6) (loadConstFrom true (λ dst idx. Record.Work (Work.LoadConst dst idx)) count s)
+    (cond (eqb kind 7) (fusedFrom true (λ op dst a b c. Record.Work (Work.Fused op dst a b c)) s)
+    (cond (eqb kind 8) (ifElseFrom true (λ dst t f loc. Record.Work (Work.IfElse dst t f loc)) s)
     (cond (eqb kind 11) (loadComplexFrom s)
     (cond (eqb kind 12) (saveComplexFrom s)
     (cond (eqb kind 13) (complexBiFrom s)

@@ -1,6 +1,10 @@
 // A listing's record, read at a position.
 ghost use mathlib.Core.Path.{_≡_};
-ghost use Rattle.records.specs.Record.{uniFrom, biFrom, movFrom, loadFrom, saveFrom, loadConstFrom, fusedFrom, ifElseFrom, loadComplexFrom, saveComplexFrom, complexBiFrom, labelFrom, branchFrom, callFrom, branchIfFrom, fieldsFrom, recordFrom, recordAt, asRead, asNext};
+ghost use mathlib.Core.Bool.{true};
+ghost use Rattle.mir.specs.Kinds.{uniFrom, biFrom, movFrom, loadFrom, saveFrom, loadConstFrom, fusedFrom, ifElseFrom};
+ghost use Rattle.mir.specs.declared.records.Record.{Record};
+ghost use Rattle.mir.specs.declared.records.Work.{Work};
+ghost use Rattle.records.specs.Record.{loadComplexFrom, saveComplexFrom, complexBiFrom, labelFrom, branchFrom, callFrom, branchIfFrom, fieldsFrom, recordFrom, recordAt, asRead, asNext};
 ghost use Rattle.records.specs.Summary.{summaryOf};
 use mir::fields::Head;
 use mir::fields::Place;
@@ -46,7 +50,7 @@ pub struct Summary {
 }
 
 fn read_uni(s: &[u8]) -> ReadRecord
-    ensures { λ r. ⌜ asRead r ≡ uniFrom (now (s .entry)) ⌝ }
+    ensures { λ r. ⌜ asRead r ≡ uniFrom true (λ op dst s1. Record.Work (Work.Uni op dst s1)) (now (s .entry)) ⌝ }
 {
     match uni_op(byte(s, 4), true) {
         FoundUni::Op(op) => {
@@ -64,7 +68,7 @@ fn read_uni(s: &[u8]) -> ReadRecord
 }
 
 fn read_bi(s: &[u8]) -> ReadRecord
-    ensures { λ r. ⌜ asRead r ≡ biFrom (now (s .entry)) ⌝ }
+    ensures { λ r. ⌜ asRead r ≡ biFrom true (λ op dst s1 s2. Record.Work (Work.Bi op dst s1 s2)) (now (s .entry)) ⌝ }
 {
     match bin_op(byte(s, 4), true) {
         FoundBin::Op(op) => {
@@ -83,7 +87,7 @@ fn read_bi(s: &[u8]) -> ReadRecord
 }
 
 fn read_mov(s: &[u8]) -> ReadRecord
-    ensures { λ r. ⌜ asRead r ≡ movFrom (now (s .entry)) ⌝ }
+    ensures { λ r. ⌜ asRead r ≡ movFrom true (λ dst s1. Record.Work (Work.Mov dst s1)) (now (s .entry)) ⌝ }
 {
     if above(s, 4, 2, LAST) {
         return ReadRecord::Refused(3);
@@ -95,7 +99,7 @@ fn read_mov(s: &[u8]) -> ReadRecord
 }
 
 fn read_load(s: &[u8]) -> ReadRecord
-    ensures { λ r. ⌜ asRead r ≡ loadFrom (now (s .entry)) ⌝ }
+    ensures { λ r. ⌜ asRead r ≡ loadFrom true (λ dst loc. Record.Work (Work.Load dst loc)) (now (s .entry)) ⌝ }
 {
     if above(s, 4, 1, LAST) {
         return ReadRecord::Refused(3);
@@ -110,7 +114,7 @@ fn read_load(s: &[u8]) -> ReadRecord
 }
 
 fn read_save(s: &[u8]) -> ReadRecord
-    ensures { λ r. ⌜ asRead r ≡ saveFrom (now (s .entry)) ⌝ }
+    ensures { λ r. ⌜ asRead r ≡ saveFrom true (λ src loc. Record.Work (Work.Save src loc)) (now (s .entry)) ⌝ }
 {
     if above(s, 4, 1, LAST) {
         return ReadRecord::Refused(3);
@@ -125,7 +129,7 @@ fn read_save(s: &[u8]) -> ReadRecord
 }
 
 fn read_load_const(s: &[u8], count: usize) -> ReadRecord
-    ensures { λ r. ⌜ asRead r ≡ loadConstFrom count (now (s .entry)) ⌝ }
+    ensures { λ r. ⌜ asRead r ≡ loadConstFrom true (λ dst idx. Record.Work (Work.LoadConst dst idx)) count (now (s .entry)) ⌝ }
 {
     if above(s, 4, 1, LAST) {
         return ReadRecord::Refused(3);
@@ -141,7 +145,7 @@ fn read_load_const(s: &[u8], count: usize) -> ReadRecord
 }
 
 fn read_fused(s: &[u8]) -> ReadRecord
-    ensures { λ r. ⌜ asRead r ≡ fusedFrom (now (s .entry)) ⌝ }
+    ensures { λ r. ⌜ asRead r ≡ fusedFrom true (λ op dst a b c. Record.Work (Work.Fused op dst a b c)) (now (s .entry)) ⌝ }
 {
     match fused_op(byte(s, 4), true) {
         FoundFused::Op(op) => {
@@ -161,7 +165,7 @@ fn read_fused(s: &[u8]) -> ReadRecord
 }
 
 fn read_if_else(s: &[u8]) -> ReadRecord
-    ensures { λ r. ⌜ asRead r ≡ ifElseFrom (now (s .entry)) ⌝ }
+    ensures { λ r. ⌜ asRead r ≡ ifElseFrom true (λ dst t f loc. Record.Work (Work.IfElse dst t f loc)) (now (s .entry)) ⌝ }
 {
     if above(s, 4, 3, LAST) {
         return ReadRecord::Refused(3);

@@ -1,72 +1,53 @@
 -- The role of a record's instruction, by its kind and its bytes.
 use Prim.Native.Nat.{ℕ, _-_, _≤_, _<_}
 use mathlib.Core.Path.{_≡_, refl, sym, ap, _∙_}
-use mathlib.Core.Bool.{Bool, true, false, cond, _||_}
+use mathlib.Core.Bool.{Bool, true, false, or-false}
 use mathlib.Core.List.{List}
 use native.Mathlib.Omega.{arith}
-use borrow.Author.Tests.{lt-ltb, le-ltb, eqb-true}
+use borrow.Author.Tests.{lt-ltb, le-ltb}
 use lib.ListN.{length, take, drop, drop-of-length-le}
-use lib.Dec.{ltb, leb, eqb}
+use lib.Dec.{ltb, eqb}
 use Rattle.mir.specs.declared.records.Instruction.{Instruction}
-use Rattle.mir.specs.Operation.{uniOps, binOps, arithOps, fusedOps, taken}
-use Rattle.mir.specs.Takes.{takesUni, takesBin, takesArith, takesFused}
+use Rattle.mir.specs.Operation.{arithOps}
+use Rattle.mir.specs.Takes.{takesArith}
 use Rattle.mir.specs.Read.{Read, got, refused, refuse, andThen, above}
-use Rattle.mir.specs.Field.{byteAt, bytesAt, u16At, takesKind, headFrom, placeAt, savePlace, condPlace}
+use Rattle.mir.specs.Field.{byteAt, bytesAt, u16At, takesKind, headFrom}
 use Rattle.mir.proofs.Parts.{part}
 use Rattle.mir.proofs.Heads.{headed}
+use Rattle.mir.proofs.IfRead.{IfRead, read, told, parted, chosen, limited, counted, operation, place}
+use Rattle.mir.proofs.ByKind.{uni, bi, mov, load, saving, load-const, fused, if-else}
 use Rattle.sheet.specs.Instruction.{branchIfFrom, fieldsFrom, instructionFrom}
 use Rattle.lowering.specs.Labels as Labels
-use Rattle.lowering.specs.Labels.{Role, role}
+use Rattle.lowering.specs.Labels.{role}
 use Rattle.refusals.specs.Noted.{roleRead}
 
 -- what is read, if it is not refused, works
-data IfWorks : Read Instruction → Type 0 where
-  read : {i : Instruction} → role i ≡ Labels.works → IfWorks (got i)
-  told : {n : ℕ} → IfWorks (refused n)
-
-tested : (b : Bool) (n : ℕ) {r : Read Instruction} → IfWorks r → IfWorks (refuse b n r)
-tested true n h = told
-tested false n h = h
-
-parted : {A : Type 0} (x : Read A) {f : A → Read Instruction} → ((a : A) → IfWorks (f a)) → IfWorks (andThen x f)
-parted (got a) h = h a
-parted (refused n) h = told
-
-chosen : (b : Bool) {x y : Read Instruction} → (b ≡ true → IfWorks x) → IfWorks y → IfWorks (cond b x y)
-chosen true h k = h refl
-chosen false h k = k
-
-works-read : {r : Read Instruction} → IfWorks r → roleRead r ≡ Labels.works
+works-read : {r : Read Instruction} → IfRead (λ i. role i ≡ Labels.works) r → roleRead r ≡ Labels.works
 works-read (read e) = e
 works-read told = refl
 
 -- of a kind that is no label's and no branch's
 module _ (count kind : ℕ) (s : List ℕ) (label : kind ≡ 14 → ⊥) (branch : kind ≡ 15 → ⊥) (branchIf : kind ≡ 17 → ⊥) where
-  fields-work : IfWorks (fieldsFrom count kind s)
+  fields-work : IfRead (λ i. role i ≡ Labels.works) (fieldsFrom count kind s)
   unfolding fieldsFrom role
   fields-work =
       let b = byteAt s in
-      chosen (eqb kind 0) (λ e. read refl)
-      (chosen (eqb kind 1)
-      (λ e. parted (taken (takesUni false) uniOps (b 4)) (λ op. tested (above 31 (bytesAt s 5 2)) 3 (read refl)))
-      (chosen (eqb kind 2)
-      (λ e. parted (taken (takesBin false) binOps (b 4)) (λ op. tested (above 31 (bytesAt s 5 3)) 3 (read refl)))
-      (chosen (eqb kind 3) (λ e. tested (above 31 (bytesAt s 4 2)) 3 (read refl))
-      (chosen (eqb kind 4) (λ e. tested (above 31 (bytesAt s 4 1)) 3 (parted (placeAt s 5) (λ p. read refl)))
-      (chosen (eqb kind 5) (λ e. tested (above 31 (bytesAt s 4 1)) 3 (parted (savePlace s 5) (λ p. read refl)))
-      (chosen (eqb kind 6) (λ e. tested (above 31 (bytesAt s 4 1)) 3 (tested (leb count (u16At s 5)) 5 (read refl)))
-      (chosen (eqb kind 7)
-      (λ e. parted (taken (takesFused false) fusedOps (b 4)) (λ op. tested (above 31 (bytesAt s 5 4)) 3 (read refl)))
-      (chosen (eqb kind 8) (λ e. tested (above 31 (bytesAt s 4 3)) 3 (parted (condPlace s 7) (λ p. read refl)))
-      (chosen (eqb kind 9)
-      (λ e. parted (taken takesArith arithOps (b 4))
-      (λ op. tested (above 31 (bytesAt s 5 2)) 3 (parted (placeAt s 7) (λ p. read refl))))
-      (chosen (eqb kind 10)
-      (λ e. parted (taken takesArith arithOps (b 4))
-      (λ op. tested (above 31 (bytesAt s 5 2)) 3 (tested (leb count (u16At s 7)) 5 (read refl))))
-      (chosen (eqb kind 14) (λ e. absurd (label (eqb-true kind 14 e)))
-      (chosen (eqb kind 15) (λ e. absurd (branch (eqb-true kind 15 e)))
-      (chosen (eqb kind 17) (λ e. absurd (branchIf (eqb-true kind 17 e))) told)))))))))))))
+      chosen kind 0 (λ k. read refl)
+      (chosen kind 1 (λ k. uni false s Instruction.Uni (λ op d a t x y. refl))
+      (chosen kind 2 (λ k. bi false s Instruction.Bi (λ op d a b t x y z. refl))
+      (chosen kind 3 (λ k. mov false s Instruction.Mov (λ d a x y. refl))
+      (chosen kind 4 (λ k. load false s Instruction.Load (λ d p x q. refl))
+      (chosen kind 5 (λ k. saving false s Instruction.Save (λ a p x q. refl))
+      (chosen kind 6 (λ k. load-const false s Instruction.LoadConst count (λ d x c. refl))
+      (chosen kind 7 (λ k. fused false s Instruction.Fused (λ op d a b c t x y z w. refl))
+      (chosen kind 8 (λ k. if-else false s Instruction.IfElse (λ d a b p x y z q. refl))
+      (chosen kind 9
+      (λ k. parted (operation takesArith arithOps (b 4)) (λ op t. limited 31 (bytesAt s 5 2) (λ l. parted (place s 7) (λ p q. read refl))))
+      (chosen kind 10
+      (λ k. parted (operation takesArith arithOps (b 4)) (λ op t. limited 31 (bytesAt s 5 2) (λ l. counted count (u16At s 7) (λ c. read refl))))
+      (chosen kind 14 (λ k. absurd (label k))
+      (chosen kind 15 (λ k. absurd (branch k))
+      (chosen kind 17 (λ k. absurd (branchIf k)) told)))))))))))))
 
   pub fields-works : roleRead (fieldsFrom count kind s) ≡ Labels.works
   fields-works = works-read fields-work
@@ -155,18 +136,14 @@ module _ (s : List ℕ) where
   abbrev behind-register : Read Instruction
   behind-register = refuse (ltb (byteAt s 5) 3) 10 behind-label
 
-  or-none : (b : Bool) {q : Bool} → b ≡ q → (b || false) ≡ q
-  or-none true e = e
-  or-none false e = e
-
   pub if-register : {c : ℕ} → c ≡ byteAt s 4 → 31 < c → roleRead (branchIfFrom s) ≡ Labels.works
   unfolding branchIfFrom
-  if-register e h = refusing (above 31 (bytesAt s 4 1)) 3 behind-register (or-none (ltb 31 (byteAt s 4)) (lt-ltb 31 (byteAt s 4) (omega (arith, e, h))))
+  if-register e h = refusing (above 31 (bytesAt s 4 1)) 3 behind-register (or-false (ltb 31 (byteAt s 4)) ∙ lt-ltb 31 (byteAt s 4) (omega (arith, e, h)))
 
   module _ {c l : ℕ} (e : c ≡ byteAt s 4) (h : c ≤ 31) (f : l ≡ byteAt s 5) where
     to-label : roleRead (branchIfFrom s) ≡ roleRead behind-register
     unfolding branchIfFrom
-    to-label = passing (above 31 (bytesAt s 4 1)) 3 behind-register (or-none (ltb 31 (byteAt s 4)) (le-ltb 31 (byteAt s 4) (omega (arith, e, h))))
+    to-label = passing (above 31 (bytesAt s 4 1)) 3 behind-register (or-false (ltb 31 (byteAt s 4)) ∙ le-ltb 31 (byteAt s 4) (omega (arith, e, h)))
 
     pub if-low : l < 3 → roleRead (branchIfFrom s) ≡ Labels.works
     if-low k = to-label ∙ refusing (ltb (byteAt s 5) 3) 10 behind-label (lt-ltb (byteAt s 5) 3 (omega (arith, f, k)))

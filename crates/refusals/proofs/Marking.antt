@@ -1,26 +1,28 @@
 -- The tables of labels: what they tell of an instruction, and what they are behind it.
 use Prim.Native.Nat.{ℕ, zero, suc, _+_, _-_, _*_, _≤_, _<_}
 use mathlib.Core.Path.{_≡_, refl, sym, ap, _∙_, subst}
-use mathlib.Core.Bool.{Bool, true, false, not, cond, _&&_, _||_, true≢false}
+use mathlib.Core.Bool.{Bool, true, false, not, cond, _&&_, _||_, and-assoc, or-self, or-true, or-false}
 use mathlib.Core.List.{List, [], _∷_, _++_, map}
 use native.Mathlib.Numerals.{add-one}
 use native.Mathlib.Omega.{arith}
-use borrow.Author.Tests.{eqb-true, eqb-false, eq-eqb, ne-eqb, lt-ltb, le-ltb, ltb-true, ltb-false}
-use lib.ListN.{length, drop, getD, set, length-append, length-map, length-set, drop-of-length-le, List·getD-map, List·getD-eq-default}
+use borrow.Author.Tests.{eqb-true, eqb-false, eq-eqb, ne-eqb, lt-ltb, ltb-true, ltb-false}
+use lib.ListN.{length, drop, getD, set, length-set, drop-of-length-le, List·getD-eq-default}
 use lib.Dec.{ltb, eqb}
 use lib.Seq.{sets, length-sets, drop-cons, getD-set-same, getD-set-other, set-getD}
 use Rattle.mir.specs.Encode.{flagByte}
 use Rattle.mir.specs.Field.{bytesAt}
 use Rattle.mir.proofs.Passing.{either, or-left, or-right}
 use Rattle.words.specs.Bytes.{stored}
-use Rattle.words.proofs.Lengths.{sets-append, sets-whole}
 use Rattle.words.proofs.Stored.{stored-fits}
 use Rattle.lowering.specs.declared.realness.Realness.{Realness}
+use Rattle.lowering.specs.RecordBytes.{recordBytes}
 use Rattle.lowering.specs.Labels as Labels
-use Rattle.lowering.specs.Labels.{Role, Sent, Standing, later, stands, sameFlag, sameFlags, sameBytes, sameRecords, differs, misplaced, unequal, passed}
+use Rattle.lowering.specs.Labels.{Role, Standing, later, stands, sameFlag, sameFlags, sameBytes, sameRecords, differs, misplaced, unequal, passed}
 use Rattle.lowering.specs.Lower.{past}
+use Rattle.lowering.proofs.RecordStored.{length-record}
 use Rattle.lowering.proofs.Same.{same-bytes, same-records}
-use Rattle.refusals.specs.Noted.{recordBytes, row, unlike, Noted, tell, markBehind, marksBehind, rowsBehind, Passed, BranchNoted}
+use Rattle.lowering.proofs.Tests.{labelRefusal, neither}
+use Rattle.refusals.specs.Noted.{row, unlike, Noted, tell, markBehind, marksBehind, rowsBehind, Passed, BranchNoted}
 
 -- ---- records in bytes
 
@@ -30,10 +32,6 @@ same-flag-byte true false = refl
 same-flag-byte false true = refl
 same-flag-byte false false = refl
 
-and-assoc : (a b c : Bool) → (a && (b && c)) ≡ ((a && b) && c)
-and-assoc true b c = refl
-and-assoc false b c = refl
-
 same-flag-bytes : (fs gs : List Bool) (x y : List ℕ) → length fs ≡ length gs
     → sameBytes (map flagByte fs ++ x) (map flagByte gs ++ y) ≡ (sameFlags fs gs && sameBytes x y)
 same-flag-bytes [] [] x y e = refl
@@ -42,18 +40,12 @@ same-flag-bytes (f ∷ fs) [] x y e = absurd (omega (arith, e))
 same-flag-bytes (f ∷ fs) (g ∷ gs) x y e =
     ap (λ (q : Bool). q && sameBytes (map flagByte fs ++ x) (map flagByte gs ++ y)) (same-flag-byte f g)
     ∙ ap (λ (q : Bool). sameFlag f g && q) (same-flag-bytes fs gs x y (omega (arith, e)))
-    ∙ and-assoc (sameFlag f g) (sameFlags fs gs) (sameBytes x y)
+    ∙ sym (and-assoc (sameFlag f g) (sameFlags fs gs) (sameBytes x y))
 
 -- 11's comparison is that of the bytes
 same-record-bytes : (ρ ρ' : Realness) → length (ρ .regs) ≡ 32 → length (ρ' .regs) ≡ 32
     → sameBytes (recordBytes ρ) (recordBytes ρ') ≡ sameRecords ρ ρ'
 same-record-bytes ρ ρ' h k = same-flag-bytes (ρ .regs) (ρ' .regs) (ρ .places) (ρ' .places) (h ∙ sym k)
-
-pub length-record : (ρ : Realness) → length (ρ .regs) ≡ 32 → length (ρ .places) ≡ 64 → length (recordBytes ρ) ≡ 96
-length-record ρ h k =
-    let a = length-append (map flagByte (ρ .regs)) (ρ .places) in
-    let b : length (map flagByte (ρ .regs)) ≡ length (ρ .regs) = length-map (ρ .regs) flagByte in
-    omega (arith, a, b, h, k)
 
 -- ---- rows
 
@@ -132,23 +124,6 @@ compared-all rows bytes at n i h long =
     ap (λ k. sameBytes (bytesAt rows (at + i) k) (drop i bytes)) e
     ∙ ap (λ b. sameBytes [] b) (drop-of-length-le bytes {i = i} (omega (arith, h, long)))
 
--- a record's bytes, stored over 96 others
-pub record-stored : (ρ : Realness) (l : List ℕ) {m : List ℕ} → length (ρ .regs) ≡ 32 → length (ρ .places) ≡ 64 → length l ≡ 96
-    → m ≡ sets l 0 (map flagByte (ρ .regs)) → stored m 32 (ρ .places) ≡ recordBytes ρ
-record-stored ρ l {m} h k n e =
-    let f = map flagByte (ρ .regs) in
-    let a : length f ≡ length (ρ .regs) = length-map (ρ .regs) flagByte in
-    let b = length-sets l 0 f in
-    let c : 0 + length f ≡ 32 = omega (arith, a, h) in
-    ap (λ m. stored m 32 (ρ .places)) e
-    ∙ stored-fits (sets l 0 f) 32 (ρ .places) (omega (arith, b, k, n))
-    ∙ ap (λ i. sets (sets l 0 f) i (ρ .places)) (sym c)
-    ∙ sym (sets-append l f (ρ .places) 0)
-    ∙ sets-whole l (f ++ ρ .places) (length-record ρ h k ∙ sym n)
-
-pub flag-at : (regs : List Bool) (i : ℕ) → getD (map flagByte regs) i 0 ≡ flagByte (getD regs i false)
-flag-at regs i = List·getD-map flagByte regs i false
-
 -- ---- a label marked
 
 module _ (marks : List ℕ) (l v : ℕ) (h : l < length marks) where
@@ -166,10 +141,6 @@ standsAt l (Labels.branches m) = false
 
 abbrev pub SeenFirst : Role → List ℕ → Type 0
 SeenFirst i rest = (l : ℕ) → later l rest ≡ (standsAt l i || later l (past rest))
-
--- 10 before 11, or neither
-abbrev pub labelRefusal : Role → Standing → List ℕ → Realness → ℕ
-labelRefusal i b behind ρ = cond (misplaced i b behind) 10 (cond (unequal i b ρ) 11 0)
 
 -- a label that stands ahead has an entry
 inside : {b : Standing} {rest marks rows : List ℕ} (l : ℕ) → Noted b rest marks rows → ltb 0 (getD marks l 0) ≡ true → l < length marks
@@ -219,16 +190,6 @@ module _ (l : ℕ) (ρ : Realness) (marks rows : List ℕ) where
       → 0 ≡ tell (Labels.labels l) ρ marks rows
   label-alike e f g t = sym (ap (λ (q : Bool). cond q 11 0) t) ∙ by-records e f g
 
--- a label that is not refused did not stand
-not-stood : (l : ℕ) (ρ : Realness) (b : Standing) (rest : List ℕ) → labelRefusal (Labels.labels l) b (past rest) ρ ≡ 0 → stands l (b .labels) ≡ false
-unfolding misplaced unequal
-not-stood l ρ b rest e =
-    either (stands l (b .labels))
-    (λ t.
-    let z : _≡_ {A = ℕ} 10 0 = sym (ap (λ (q : Bool). cond q 10 (cond (differs l ρ (b .branches)) 11 0)) t) ∙ e in
-    absurd (omega (arith, z)))
-    (λ f. f)
-
 -- ---- a label
 
 module _ (l : ℕ) (ρ : Realness) (full : length (ρ .regs) ≡ 32) (marks rows : List ℕ) where
@@ -275,19 +236,6 @@ module _ (l : ℕ) (ρ : Realness) (full : length (ρ .regs) ≡ 32) (marks rows
 
 -- ---- a branch
 
--- the records at it, and those at the branches before
-or-same : (x : Bool) → (x || x) ≡ x
-or-same true = refl
-or-same false = refl
-
-or-true : (x : Bool) → (x || true) ≡ true
-or-true true = refl
-or-true false = refl
-
-or-false : (x : Bool) → (x || false) ≡ x
-or-false true = refl
-or-false false = refl
-
 module _ (l : ℕ) (ρ₀ : Realness) (full : length (ρ₀ .regs) ≡ 32) (wide : length (ρ₀ .places) ≡ 64) where
   -- a label's new mark and the rows, and what they tell
   record Behind (mark : ℕ) (rows : List ℕ) (mark' : ℕ) (rows' : List ℕ) : Type 0 where
@@ -330,7 +278,7 @@ module _ (l : ℕ) (ρ₀ : Realness) (full : length (ρ₀ .regs) ≡ 32) (wide
             let k = same-bytes (row l rows) (recordBytes ρ₀) e in
             ap (λ (q : Bool). not q || not (sameBytes (row l rows) (recordBytes ρ)))
             (sym (same-record-bytes ρ₀ ρ full z) ∙ ap (λ x. sameBytes x (recordBytes ρ)) (sym k))
-            ∙ or-same (not (sameBytes (row l rows) (recordBytes ρ)));
+            ∙ or-self (not (sameBytes (row l rows) (recordBytes ρ)));
       }
 
   -- one with others: no record equals both
@@ -487,7 +435,8 @@ module _ {i : Role} {ρ : Realness} {marks rows marks' rows' : List ℕ} {n : �
   goes Labels.works b rest seen t z =
       record { long = t .long; room = t .room; stood = t .stood; ahead = λ l f. sym (seen l) ∙ t .ahead l f; differ = t .differ }
   goes (Labels.labels l) b rest seen t z =
-      label-noted l ρ (p .full) marks rows b rest seen t (not-stood l ρ b rest (sym (label-told l ρ (p .full) marks rows b rest t) ∙ z))
+      label-noted l ρ (p .full) marks rows b rest seen t
+      (unfold misplaced in neither (Labels.labels l) b (past rest) ρ (sym (label-told l ρ (p .full) marks rows b rest t) ∙ z) .0)
   goes (Labels.branches l) b rest seen t z = branch-on l ρ (p .full) (p .wide) marks rows b rest seen t z
 
   pub follows : Follows i ρ marks rows marks' rows' n

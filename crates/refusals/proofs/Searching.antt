@@ -1,7 +1,7 @@
 -- The labels that looking ahead sees, marked one after the other.
 use Prim.Native.Nat.{ℕ, _+_, _-_, _*_, _≤_, _<_}
 use mathlib.Core.Path.{_≡_, refl, sym, ap, _∙_, subst}
-use mathlib.Core.Bool.{Bool, true, false, not, cond, _&&_, _||_, true≢false}
+use mathlib.Core.Bool.{Bool, true, false, not, cond, _&&_, _||_, true≢false, or-assoc, or-true, or-false}
 use mathlib.Core.List.{List, [], _∷_}
 use mathlib.Core.Option.{Option, none, some}
 use native.Mathlib.Omega.{arith}
@@ -19,7 +19,7 @@ use Rattle.mir.proofs.Passing.{either, passed, got-same}
 use Rattle.mir.proofs.Decoding as Decoding
 use Rattle.mir.proofs.Decoding.{decoded-none, decoded-torn, Bytes, Each, each}
 use Rattle.lowering.specs.declared.realness.Realness.{Realness}
-use Rattle.lowering.specs.Labels.{noneStanding, labelSeen, sees, anySees, later}
+use Rattle.lowering.specs.Labels.{noneStanding, labelSeen, anySees, later}
 use Rattle.lowering.proofs.Ahead.{ahead-one}
 use Rattle.refusals.specs.Noted.{labelHere, row, unlike, Noted, seenIn, markSeen, markAll, isLabel, anyLabel}
 use Rattle.refusals.proofs.Marking.{mark-at, mark-other}
@@ -121,14 +121,6 @@ module _ (sheet : List ℕ) (at : ℕ) where
 
 -- ---- the walk
 
-or-assoc : (x y w : Bool) → ((x || y) || w) ≡ (x || (y || w))
-or-assoc true y w = refl
-or-assoc false y w = refl
-
-or-false : (x : Bool) → (x || false) ≡ x
-or-false true = refl
-or-false false = refl
-
 -- what is marked with what is left to mark is all of it, and so with whether there is one
 pub record Halfway (os : List (Option ℕ)) (marks : List ℕ) (any : Bool) (os' : List (Option ℕ)) (marks' : List ℕ) (any' : Bool) : Type 0 where
   pub marked : markAll os' marks' ≡ markAll os marks
@@ -172,10 +164,6 @@ seen-byte s o h e =
     go : (q : Bool) → IsByte (cond q (some (byteAt s 4)) none)
     go true = h 4
     go false = tt
-
-or-true : (x : Bool) → (x || true) ≡ true
-or-true true = refl
-or-true false = refl
 
 mark-each : (os : List (Option ℕ)) (marks : List ℕ) (l : ℕ) (f : Bool) → Each IsByte os → 256 ≤ length marks → getD marks l 0 ≡ flagByte f
     → getD (markAll os marks) l 0 ≡ flagByte (f || anySees l os)

@@ -2,28 +2,24 @@
 use Prim.Native.Nat.{ℕ, _+_, _*_, _≤_, _<_}
 use mathlib.Core.Path.{_≡_}
 use mathlib.Core.Bool.{Bool, true, false, not, cond, _||_}
-use mathlib.Core.List.{List, [], _∷_, _++_, map}
+use mathlib.Core.List.{List, [], _∷_}
 use mathlib.Core.Option.{Option, none, some}
 use lib.ListN.{length, getD, set}
 use lib.Dec.{ltb, eqb}
 use Rattle.mir.specs.declared.records.Instruction.{Instruction}
-use Rattle.mir.specs.Encode.{flagByte}
 use Rattle.mir.specs.Read.{Read, got, refused}
 use Rattle.mir.specs.Field.{byteAt, bytesAt, u16At}
 use Rattle.mir.specs.Decode.{decoded}
 use Rattle.words.specs.Bytes.{stored}
 use Rattle.sheet.specs.Instruction.{fieldsFrom, instructionFrom}
 use Rattle.lowering.specs.declared.realness.Realness.{Realness}
+use Rattle.lowering.specs.RecordBytes.{recordBytes}
 use Rattle.lowering.specs.Labels as Labels
 use Rattle.lowering.specs.Labels.{Role, role, Standing, labelSeen, later, stands, sameBytes, differs}
 
 -- the label in a record's bytes, where it is a Label
 abbrev pub labelHere : List ℕ → Option ℕ
 labelHere s = cond (eqb (u16At s 2) 14) (some (byteAt s 4)) none
-
--- a record of realness in 96 bytes: the registers' flags, then the places
-abbrev pub recordBytes : Realness → List ℕ
-recordBytes ρ = map flagByte (ρ .regs) ++ ρ .places
 
 abbrev pub row : ℕ → List ℕ → List ℕ
 row l rows = bytesAt rows (96 * l) 96

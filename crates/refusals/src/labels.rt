@@ -2,21 +2,17 @@
 // What is known of a label stands in two lent tables by its number: a mark, and a row of 96 bytes.
 ghost use mathlib.Core.Path.{_≡_};
 ghost use mathlib.Core.Bool.{cond, _||_};
-ghost use mathlib.Core.List.{map};
-ghost use Prim.Native.Nat.{_≤_};
-ghost use lib.ListN.{length, drop, set};
-ghost use lib.Seq.{sets};
-ghost use Rattle.mir.specs.Encode.{flagByte};
+ghost use lib.ListN.{drop, set};
 ghost use Rattle.mir.specs.Read.{got, refused};
 ghost use Rattle.sheet.specs.Instruction.{branchIfFrom};
 ghost use Rattle.lowering.specs.Labels.{labelSeen, sameBytes, labels, branches};
-ghost use Rattle.refusals.specs.Noted.{labelHere, recordBytes, row, unlike, seenIn, markSeen, markAll, isLabel, anyLabel, roleRead, Passed, PassedKind, PassedFirst, BranchNoted};
+ghost use Rattle.refusals.specs.Noted.{labelHere, row, unlike, seenIn, markSeen, markAll, isLabel, anyLabel, roleRead, Passed, PassedKind, PassedFirst, BranchNoted};
+use lowering::bytes::record_bytes;
 use lowering::realness::Realness;
 use mir::fields::Head;
 use mir::fields::byte;
 use mir::fields::read_head;
 use mir::fields::u16_at;
-use mir::writer::flag_byte;
 use words::put_bytes;
 
 // A label's marks: one stands ahead; branches to it stood, all with the records in its row; they stood with unlike records; it stood
@@ -89,29 +85,6 @@ pub fn find_labels(sheet: &[u8], start: usize, marks: &mut [u8]) -> bool
         at += n as usize;
     }
     any
-}
-
-// The flags of the registers, as bytes.
-fn put_flags(regs: [bool; 32], bytes: &mut [u8])
-    requires { ⌜ 32 ≤ length (now bytes) ⌝ }
-    ensures { λ r. ⌜ now (bytes .exit) ≡ sets (now (bytes .entry)) 0 (map flagByte regs) ⌝ }
-{
-    let mut i: usize = 0;
-    while i < 32 {
-        bytes[i] = flag_byte(regs[i]);
-        i += 1;
-    }
-}
-
-fn record_bytes(real: Realness) -> [u8; 96]
-    ensures { λ r. ⌜ r ≡ recordBytes real ⌝ }
-{
-    let mut bytes = [0u8; 96];
-    let regs = real.regs;
-    put_flags(regs, &mut bytes);
-    let places = real.places;
-    put_bytes(&mut bytes, 32, &places);
-    bytes
 }
 
 // Whether a label's row holds these bytes.

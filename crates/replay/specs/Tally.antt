@@ -15,11 +15,11 @@ unfoldable pub tallied : List ℕ → ℕ → Bool → List ℕ
 tallied t number differs =
     cond differs (raised (raised (raised t number) 256) 257) (raised (raised t number) 256)
 
--- the cases that bytes begin with: whether there is no whole one, where the first ends, the number it is answered with, and whether the
--- answer differs from the one expected
+-- the cases that bytes begin with: where the first ends, whether there is no whole one that ends there, the number it is answered with, and
+-- whether the answer differs from the one expected
 pub record Cases : Type 0 where
-  pub cut : List ℕ → Bool
   pub end : List ℕ → ℕ
+  pub cut : ℕ → List ℕ → Bool
   pub number : List ℕ → ℕ
   pub differs : List ℕ → Bool
 
@@ -32,7 +32,7 @@ pub record Replayed : Type 0 where
 unfoldable pub replayed : Cases → ℕ → List ℕ → List ℕ → Replayed
 replayed k zero t s = record { counts = t; whole = eqb (length s) 0 }
 replayed k (suc n) t s =
-    cond (k .cut s) (record { counts = t; whole = false })
+    cond (k .cut (k .end s) s) (record { counts = t; whole = false })
     (replayed k n (tallied t (k .number s) (k .differs s)) (drop (k .end s) s))
 
 -- a list: the count of its cases, then the cases

@@ -9,7 +9,8 @@ use lib.Dec.{ltb, eqb, lit≤}
 use lib.ListN.{length, length-append}
 use Rattle.mir.proofs.Passing as mir
 use Rattle.text.specs.Text.{ascii, decimalIn, decimal, hexIn, register}
-use Rattle.reports.specs.Lines.{jumpWord, lateWord, refusalWord, refusalLine, loweredLine, playedLine, className, halfName, wordName, differenceLine}
+use Rattle.text.proofs.Short.{name-short}
+use Rattle.reports.specs.Lines.{refusalWords, refusalLine, loweredLine, playedLine, classNames, halfNames, wordName, differenceLine}
 
 pub either : (b : Bool) (x y : List ℕ) (m : ℕ) → length x ≤ m → length y ≤ m → length (cond b x y) ≤ m
 either true x y m p q = p
@@ -49,32 +50,12 @@ register-short r =
     let i = number-short r in
     either (eqb r 64) _ _ 21 (lit≤ tt) (either (eqb r 65) _ _ 21 (lit≤ tt) (omega arith))
 
-jump-short : (n : ℕ) → length (jumpWord n) ≤ 17
-unfolding ascii jumpWord
-jump-short n = either (eqb n 9) _ _ 17 (lit≤ tt) (either (eqb n 10) _ _ 17 (lit≤ tt) (lit≤ tt))
-
-late-short : (n : ℕ) → length (lateWord n) ≤ 17
-unfolding ascii lateWord
-late-short n =
-    either (eqb n 5) _ _ 17 (lit≤ tt)
-    (either (eqb n 6) _ _ 17 (lit≤ tt)
-    (either (eqb n 7) _ _ 17 (lit≤ tt)
-    (either (eqb n 8) _ _ 17 (lit≤ tt) (jump-short n))))
-
-word-short : (n : ℕ) → length (refusalWord n) ≤ 17
-unfolding ascii refusalWord
-word-short n =
-    either (eqb n 1) _ _ 17 (lit≤ tt)
-    (either (eqb n 2) _ _ 17 (lit≤ tt)
-    (either (eqb n 3) _ _ 17 (lit≤ tt)
-    (either (eqb n 4) _ _ 17 (lit≤ tt) (late-short n))))
-
 pub refusal-short : (number index : ℕ) → length (refusalLine number index) ≤ 80
 unfolding ascii refusalLine
 refusal-short number index =
     let d = number-short number in
     let e = number-short index in
-    let w = word-short number in
+    let w = name-short 16 refusalWords tt number in
     simp length-append (omega arith)
 
 pub lowered-short : (number index bytes constants : ℕ) → length (loweredLine number index bytes constants) ≤ 80
@@ -92,27 +73,19 @@ played-short number index played =
     let e = number-short played in
     either (eqb number 0) _ _ 80 (simp length-append (omega arith)) (refusal-short number index)
 
-class-short : (n : ℕ) → length (className n) ≤ 5
-unfolding ascii className
-class-short n = either (eqb n 0) _ _ 5 (lit≤ tt) (either (eqb n 1) _ _ 5 (lit≤ tt) (lit≤ tt))
-
-half-short : (n : ℕ) → length (halfName n) ≤ 3
-unfolding ascii halfName
-half-short n = either (eqb n 0) _ _ 3 (lit≤ tt) (lit≤ tt)
-
-name-short : (index : ℕ) → length (wordName index) ≤ 29
-unfolding wordName
-name-short index =
+word-short : (index : ℕ) → length (wordName index) ≤ 29
+unfolding ascii wordName
+word-short index =
     mir.either (ltb index 66)
     (λ t.
     let r = register-short index in
     simp t (omega arith))
     (λ t.
-    let c = class-short ((index - 66) / 512) in
+    let c = name-short 5 classNames tt ((index - 66) / 512) in
     let d = number-short ((index - 66) % 512 / 2) in
-    let e = half-short ((index - 66) % 2) in
+    let e = name-short 2 halfNames tt ((index - 66) % 2) in
     simp (t, length-append) (omega arith))
 
 pub difference-short : (index one other : ℕ) → length (differenceLine index one other) ≤ 80
 unfolding differenceLine
-difference-short index one other = let n = name-short index in simp length-append (omega (arith, n, hex-long 16 one, hex-long 16 other))
+difference-short index one other = let n = word-short index in simp length-append (omega (arith, n, hex-long 16 one, hex-long 16 other))

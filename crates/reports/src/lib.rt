@@ -1,65 +1,23 @@
 // The lines that the commands print, each from its first byte to its line feed.
 ghost use Rattle.text.specs.Line.{Adds, Prints};
-ghost use Rattle.reports.specs.Lines.{refusalWord, lateWord, jumpWord, refusalLine, loweredLine, playedLine, className, halfName, wordName, differenceLine};
+ghost use Rattle.reports.specs.Lines.{refusalLine, loweredLine, playedLine, wordName, differenceLine};
 use text::line::Line;
 use text::line::empty_line;
-
-// A refusal's word after a space.
-fn refusal_word(line: Line, number: u64) -> Line
-    ensures { λ r. ⌜ Adds line (refusalWord number) r ⌝ }
-{
-    if number == 1 {
-        return line.text(b" torn record");
-    }
-    if number == 2 {
-        return line.text(b" unknown work");
-    }
-    if number == 3 {
-        return line.text(b" bad register");
-    }
-    if number == 4 {
-        return line.text(b" bad place");
-    }
-    late_word(line, number)
-}
-
-fn late_word(line: Line, number: u64) -> Line
-    ensures { λ r. ⌜ Adds line (lateWord number) r ⌝ }
-{
-    if number == 5 {
-        return line.text(b" missing constant");
-    }
-    if number == 6 {
-        return line.text(b" barred operand");
-    }
-    if number == 7 {
-        return line.text(b" listing full");
-    }
-    if number == 8 {
-        return line.text(b" wrong setup");
-    }
-    jump_word(line, number)
-}
-
-fn jump_word(line: Line, number: u64) -> Line
-    ensures { λ r. ⌜ Adds line (jumpWord number) r ⌝ }
-{
-    if number == 9 {
-        return line.text(b" stray jump");
-    }
-    if number == 10 {
-        return line.text(b" misplaced label");
-    }
-    line.text(b" unequal records")
-}
 
 pub fn refusal_line(number: u64, index: u64) -> Line
     ensures { λ r. ⌜ Prints (refusalLine number index) r ⌝ }
 {
-    refusal_word(
-        empty_line().text(b"refused").number(number).number(index),
-        number,
-    ).byte(b'\n')
+    empty_line()
+        .text(b"refused")
+        .number(number)
+        .number(index)
+        .byte(b' ')
+        .word_in(
+            b"/torn record/unknown work/bad register/bad place/missing constant/barred operand/listing full/wrong setup/stray jump/\
+            misplaced label/unequal records/",
+            number,
+        )
+        .byte(b'\n')
 }
 
 // What lowering came to: its number and index, the bytes and constants of its listing.
@@ -91,29 +49,6 @@ pub fn played_line(number: u64, index: u64, played: u64) -> Line
         .byte(b'\n')
 }
 
-// A place's class, by its number.
-fn class_name(line: Line, class: u64) -> Line
-    ensures { λ r. ⌜ Adds line (className class) r ⌝ }
-{
-    if class == 0 {
-        return line.text(b"Stack");
-    }
-    if class == 1 {
-        return line.text(b"Mem");
-    }
-    line.text(b"Param")
-}
-
-// The half of a place: its real word stands first.
-fn half_name(line: Line, half: u64) -> Line
-    ensures { λ r. ⌜ Adds line (halfName half) r ⌝ }
-{
-    if half == 0 {
-        return line.text(b" re");
-    }
-    line.text(b" im")
-}
-
 // The name of a word of the store, by its index.
 fn word_name(line: Line, index: u64) -> Line
     ensures { λ r. ⌜ Adds line (wordName index) r ⌝ }
@@ -122,7 +57,10 @@ fn word_name(line: Line, index: u64) -> Line
         return line.register(index as u8);
     }
     let k = index - 66;
-    half_name(class_name(line, k / 512).number(k % 512 / 2), k % 2)
+    line.word_in(b"Stack/Mem/Param/", k / 512)
+        .number(k % 512 / 2)
+        .byte(b' ')
+        .word_in(b"re/im/", k % 2)
 }
 
 // A word that differs: its name, then the word of either store.

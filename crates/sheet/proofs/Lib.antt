@@ -1,5 +1,5 @@
 pub mod Counting
 pub mod Heading
-pub mod Refusals
+pub mod Ranges
 pub mod Reading
 pub mod Setting

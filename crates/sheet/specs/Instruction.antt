@@ -1,62 +1,19 @@
 -- A sheet's instruction, from the bytes that begin with it (document 01, Sheet, and the numbers 1 to 5 of its table; document 02, d).
--- `count` is the count of the sheet's own constants. Registers are tested before the place, and the place before the constant.
+-- `count` is the count of the sheet's own constants. The kinds 1 to 8 are those of mir/specs/Kinds; in the others too, registers are tested
+-- before the place or the constant.
 use Prim.Native.Nat.{ℕ}
 use mathlib.Core.Bool.{cond, false}
 use mathlib.Core.List.{List}
 use lib.Dec.{ltb, eqb}
 use Rattle.mir.specs.declared.records.Instruction.{Instruction}
-use Rattle.mir.specs.Operation.{uniOps, binOps, arithOps, fusedOps, taken}
-use Rattle.mir.specs.Takes.{takesUni, takesBin, takesArith, takesFused}
+use Rattle.mir.specs.Operation.{arithOps, taken}
+use Rattle.mir.specs.Takes.{takesArith}
 use Rattle.mir.specs.Read.{Read, got, refused, refuse, andThen, registers, constant}
-use Rattle.mir.specs.Field.{byteAt, bytesAt, u16At, takesKind, headFrom, placeAt, savePlace, condPlace}
+use Rattle.mir.specs.Field.{byteAt, bytesAt, u16At, takesKind, headFrom, placeAt}
+use Rattle.mir.specs.Kinds.{uniFrom, biFrom, movFrom, loadFrom, saveFrom, loadConstFrom, fusedFrom, ifElseFrom}
 use Rattle.mir.specs.Decode.{Item, readAt, Decoded, decoded}
 use Rattle.sheet.specs.declared.reader.ReadInstruction.{ReadInstruction}
 use Rattle.sheet.specs.declared.reader.NextInstruction.{NextInstruction}
-
--- 1 Uni: op, dst, s1
-unfoldable pub uniFrom : List ℕ → Read Instruction
-uniFrom s =
-    andThen (taken (takesUni false) uniOps (byteAt s 4))
-    (λ op. registers 31 (bytesAt s 5 2) (got (Instruction.Uni op (byteAt s 5) (byteAt s 6))))
-
--- 2 Bi: op, dst, s1, s2
-unfoldable pub biFrom : List ℕ → Read Instruction
-biFrom s =
-    andThen (taken (takesBin false) binOps (byteAt s 4))
-    (λ op.
-    registers 31 (bytesAt s 5 3)
-    (got (Instruction.Bi op (byteAt s 5) (byteAt s 6) (byteAt s 7))))
-
--- 3 Mov: dst, s1
-unfoldable pub movFrom : List ℕ → Read Instruction
-movFrom s = registers 31 (bytesAt s 4 2) (got (Instruction.Mov (byteAt s 4) (byteAt s 5)))
-
--- 4 Load: register, place
-unfoldable pub loadFrom : List ℕ → Read Instruction
-loadFrom s = registers 31 (bytesAt s 4 1) (andThen (placeAt s 5) (λ loc. got (Instruction.Load (byteAt s 4) loc)))
-
--- 5 Save: register, place
-unfoldable pub saveFrom : List ℕ → Read Instruction
-saveFrom s = registers 31 (bytesAt s 4 1) (andThen (savePlace s 5) (λ loc. got (Instruction.Save (byteAt s 4) loc)))
-
--- 6 LoadConst: dst, constant
-unfoldable pub loadConstFrom : ℕ → List ℕ → Read Instruction
-loadConstFrom count s =
-    registers 31 (bytesAt s 4 1) (constant count (u16At s 5) (got (Instruction.LoadConst (byteAt s 4) (u16At s 5))))
-
--- 7 Fused: op, dst, a, b, c
-unfoldable pub fusedFrom : List ℕ → Read Instruction
-fusedFrom s =
-    andThen (taken (takesFused false) fusedOps (byteAt s 4))
-    (λ op.
-    registers 31 (bytesAt s 5 4)
-    (got (Instruction.Fused op (byteAt s 5) (byteAt s 6) (byteAt s 7) (byteAt s 8))))
-
--- 8 IfElse: dst, true, false, place
-unfoldable pub ifElseFrom : List ℕ → Read Instruction
-ifElseFrom s =
-    registers 31 (bytesAt s 4 3)
-    (andThen (condPlace s 7) (λ loc. got (Instruction.IfElse (byteAt s 4) (byteAt s 5) (byteAt s 6) loc)))
 
 -- 9 LoadMath: op, dst, s1, place
 unfoldable pub loadMathFrom : List ℕ → Read Instruction
@@ -97,14 +54,14 @@ unfoldable pub fieldsFrom : ℕ → ℕ → List ℕ → Read Instruction
 unfolding uniFrom biFrom movFrom loadFrom saveFrom loadConstFrom fusedFrom ifElseFrom loadMathFrom loadConstMathFrom labelFrom branchFrom branchIfFrom
 fieldsFrom count kind s =
     cond (eqb kind 0) (got Instruction.Nop)
-    (cond (eqb kind 1) (uniFrom s)
-    (cond (eqb kind 2) (biFrom s)
-    (cond (eqb kind 3) (movFrom s)
-    (cond (eqb kind 4) (loadFrom s)
-    (cond (eqb kind 5) (saveFrom s)
-    (cond (eqb kind 6) (loadConstFrom count s)
-    (cond (eqb kind 7) (fusedFrom s)
-    (cond (eqb kind 8) (ifElseFrom s)
+    (cond (eqb kind 1) (uniFrom false Instruction.Uni s)
+    (cond (eqb kind 2) (biFrom false Instruction.Bi s)
+    (cond (eqb kind 3) (movFrom false Instruction.Mov s)
+    (cond (eqb kind 4) (loadFrom false Instruction.Load s)
+    (cond (eqb kind 5) (saveFrom false Instruction.Save s)
+    (cond (eqb kind 6) (loadConstFrom false Instruction.LoadConst count s)
+    (cond (eqb kind 7) (fusedFrom false Instruction.Fused s)
+    (cond (eqb kind 8) (ifElseFrom false Instruction.IfElse s)
     (cond (eqb kind 9) (loadMathFrom s)
     (cond (eqb kind 10) (loadConstMathFrom count s)
     (cond (eqb kind 14) (labelFrom s)

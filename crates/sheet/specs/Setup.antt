@@ -10,7 +10,7 @@ use Rattle.mir.specs.Field.{byteAt, u16At}
 use Rattle.sheet.specs.declared.setup.Mode.{Mode}
 use Rattle.sheet.specs.declared.setup.Setup.{Setup}
 use Rattle.sheet.specs.declared.setup.Header.{Header}
-use Rattle.sheet.specs.declared.setup.Counted.{Counted}
+use Rattle.sheet.specs.declared.setup.ConstantCount.{ConstantCount}
 
 -- "mode byte (0 plain, 1 stable)"
 abbrev pub modeFrom : ℕ → Read Mode
@@ -85,6 +85,6 @@ abbrev pub asHeader : Header → Read Mode
 asHeader (Header.Mode mode) = got mode
 asHeader Header.Wrong = refused 8
 
-abbrev pub asCounted : Counted → Read ℕ
-asCounted (Counted.Constants n) = got n
-asCounted Counted.Wrong = refused 8
+abbrev pub asConstantCount : ConstantCount → Read ℕ
+asConstantCount (ConstantCount.Constants n) = got n
+asConstantCount ConstantCount.Wrong = refused 8

@@ -1,6 +1,9 @@
 // A sheet's instruction, read at a position.
 ghost use mathlib.Core.Path.{_≡_};
-ghost use Rattle.sheet.specs.Instruction.{uniFrom, biFrom, movFrom, loadFrom, saveFrom, loadConstFrom, fusedFrom, ifElseFrom, loadMathFrom, loadConstMathFrom, labelFrom, branchFrom, branchIfFrom, fieldsFrom, instructionFrom, instructionAt, asRead, asNext};
+ghost use mathlib.Core.Bool.{false};
+ghost use Rattle.mir.specs.Kinds.{uniFrom, biFrom, movFrom, loadFrom, saveFrom, loadConstFrom, fusedFrom, ifElseFrom};
+ghost use Rattle.mir.specs.declared.records.Instruction.{Instruction};
+ghost use Rattle.sheet.specs.Instruction.{loadMathFrom, loadConstMathFrom, labelFrom, branchFrom, branchIfFrom, fieldsFrom, instructionFrom, instructionAt, asRead, asNext};
 use mir::fields::Head;
 use mir::fields::Place;
 use mir::fields::above;
@@ -39,7 +42,7 @@ pub enum NextInstruction {
 }
 
 fn read_uni(s: &[u8]) -> ReadInstruction
-    ensures { λ r. ⌜ asRead r ≡ uniFrom (now (s .entry)) ⌝ }
+    ensures { λ r. ⌜ asRead r ≡ uniFrom false Instruction.Uni (now (s .entry)) ⌝ }
 {
     match uni_op(byte(s, 4), false) {
         FoundUni::Op(op) => {
@@ -57,7 +60,7 @@ fn read_uni(s: &[u8]) -> ReadInstruction
 }
 
 fn read_bi(s: &[u8]) -> ReadInstruction
-    ensures { λ r. ⌜ asRead r ≡ biFrom (now (s .entry)) ⌝ }
+    ensures { λ r. ⌜ asRead r ≡ biFrom false Instruction.Bi (now (s .entry)) ⌝ }
 {
     match bin_op(byte(s, 4), false) {
         FoundBin::Op(op) => {
@@ -76,7 +79,7 @@ fn read_bi(s: &[u8]) -> ReadInstruction
 }
 
 fn read_mov(s: &[u8]) -> ReadInstruction
-    ensures { λ r. ⌜ asRead r ≡ movFrom (now (s .entry)) ⌝ }
+    ensures { λ r. ⌜ asRead r ≡ movFrom false Instruction.Mov (now (s .entry)) ⌝ }
 {
     if above(s, 4, 2, LAST) {
         return ReadInstruction::Refused(3);
@@ -88,7 +91,7 @@ fn read_mov(s: &[u8]) -> ReadInstruction
 }
 
 fn read_load(s: &[u8]) -> ReadInstruction
-    ensures { λ r. ⌜ asRead r ≡ loadFrom (now (s .entry)) ⌝ }
+    ensures { λ r. ⌜ asRead r ≡ loadFrom false Instruction.Load (now (s .entry)) ⌝ }
 {
     if above(s, 4, 1, LAST) {
         return ReadInstruction::Refused(3);
@@ -103,7 +106,7 @@ fn read_load(s: &[u8]) -> ReadInstruction
 }
 
 fn read_save(s: &[u8]) -> ReadInstruction
-    ensures { λ r. ⌜ asRead r ≡ saveFrom (now (s .entry)) ⌝ }
+    ensures { λ r. ⌜ asRead r ≡ saveFrom false Instruction.Save (now (s .entry)) ⌝ }
 {
     if above(s, 4, 1, LAST) {
         return ReadInstruction::Refused(3);
@@ -118,7 +121,7 @@ fn read_save(s: &[u8]) -> ReadInstruction
 }
 
 fn read_load_const(s: &[u8], count: usize) -> ReadInstruction
-    ensures { λ r. ⌜ asRead r ≡ loadConstFrom count (now (s .entry)) ⌝ }
+    ensures { λ r. ⌜ asRead r ≡ loadConstFrom false Instruction.LoadConst count (now (s .entry)) ⌝ }
 {
     if above(s, 4, 1, LAST) {
         return ReadInstruction::Refused(3);
@@ -134,7 +137,7 @@ fn read_load_const(s: &[u8], count: usize) -> ReadInstruction
 }
 
 fn read_fused(s: &[u8]) -> ReadInstruction
-    ensures { λ r. ⌜ asRead r ≡ fusedFrom (now (s .entry)) ⌝ }
+    ensures { λ r. ⌜ asRead r ≡ fusedFrom false Instruction.Fused (now (s .entry)) ⌝ }
 {
     match fused_op(byte(s, 4), false) {
         FoundFused::Op(op) => {
@@ -154,7 +157,7 @@ fn read_fused(s: &[u8]) -> ReadInstruction
 }
 
 fn read_if_else(s: &[u8]) -> ReadInstruction
-    ensures { λ r. ⌜ asRead r ≡ ifElseFrom (now (s .entry)) ⌝ }
+    ensures { λ r. ⌜ asRead r ≡ ifElseFrom false Instruction.IfElse (now (s .entry)) ⌝ }
 {
     if above(s, 4, 3, LAST) {
         return ReadInstruction::Refused(3);

@@ -2,7 +2,7 @@
 ghost use mathlib.Core.Path.{_≡_};
 ghost use Prim.Native.Nat.{_≤_};
 ghost use lib.ListN.{length, take, drop};
-ghost use Rattle.sheet.specs.Setup.{modeFrom, isStable, headerFrom, isConstant, isBroken, constantsFrom, wrong, setup, constantAt, asHeader, asCounted};
+ghost use Rattle.sheet.specs.Setup.{modeFrom, isStable, headerFrom, isConstant, isBroken, constantsFrom, wrong, setup, constantAt, asHeader, asConstantCount};
 use mir::fields::byte;
 use mir::fields::u16_at;
 use words::put_bytes;
@@ -30,7 +30,7 @@ pub enum Header {
 }
 
 // How many constants stand first.
-pub enum Counted {
+pub enum ConstantCount {
     Constants(usize),
     Wrong,
 }
@@ -99,8 +99,8 @@ fn is_broken(s: &[u8]) -> bool
 }
 
 // The count of the constants that stand first, at most 251.
-fn count_constants(s: &[u8]) -> Counted
-    ensures { λ r. ⌜ asCounted r ≡ constantsFrom 251 (now (s .entry)) ⌝ }
+fn count_constants(s: &[u8]) -> ConstantCount
+    ensures { λ r. ⌜ asConstantCount r ≡ constantsFrom 251 (now (s .entry)) ⌝ }
 {
     let mut n: usize = 0;
     let mut at: usize = 0;
@@ -108,18 +108,18 @@ fn count_constants(s: &[u8]) -> Counted
         let part = &s[at..];
         if is_constant(part) {
             if is_broken(part) {
-                return Counted::Wrong;
+                return ConstantCount::Wrong;
             }
         } else {
-            return Counted::Constants(n);
+            return ConstantCount::Constants(n);
         }
         n += 1;
         at += 12;
     }
     if is_constant(&s[at..]) {
-        return Counted::Wrong;
+        return ConstantCount::Wrong;
     }
-    Counted::Constants(n)
+    ConstantCount::Constants(n)
 }
 
 // The header's bytes of realness.
@@ -151,7 +151,7 @@ pub fn read_setup(sheet: &[u8]) -> Setup
 {
     match read_header(sheet) {
         Header::Mode(mode) => match count_constants(&sheet[69..]) {
-            Counted::Constants(n) => {
+            ConstantCount::Constants(n) => {
                 let places = places_of(sheet);
                 Setup {
                     number: 0,
@@ -161,7 +161,7 @@ pub fn read_setup(sheet: &[u8]) -> Setup
                     start: 69 + 12 * n,
                 }
             }
-            Counted::Wrong => wrong_setup(),
+            ConstantCount::Wrong => wrong_setup(),
         },
         Header::Wrong => wrong_setup(),
     }

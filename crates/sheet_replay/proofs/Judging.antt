@@ -1,19 +1,18 @@
 -- The parts of a case, from what the functions that make them give. Assumes nothing.
 use Prim.Native.Nat.{ℕ, _+_, _*_, _-_, _≤_}
-use mathlib.Core.Bool.{Bool, false, not}
+use mathlib.Core.Bool.{Bool, not}
 use mathlib.Core.List.{List}
 use mathlib.Core.Path.{_≡_, ap, _∙_}
 use native.Mathlib.Omega.{arith}
-use borrow.Author.Tests.{ltb-false, eq-eqb}
-use lib.ListN.{length, take, drop, replicate}
-use lib.Dec.{ltb, eqb}
+use borrow.Author.Tests.{eq-eqb}
+use lib.ListN.{take, drop, replicate}
+use lib.Dec.{eqb}
 use Rattle.complexify.specs.declared.entry.LowerAnswer.{LowerAnswer}
 use Rattle.complexify.specs.Entry as Entry
 use Rattle.words.specs.Bytes.{wordsOf, stored}
 use Rattle.replay.specs.Numbers.{u32At}
 use Rattle.replay.proofs.Parts.{take-replicate}
-use Rattle.replay.proofs.Replaying.{or-first, or-rest}
-use Rattle.sheet_replay.specs.Case.{Whole, Lent, cut, lentBytes, lentWords, room, tableLength, written, count, listingAt, constantsAt, end, sheet, answered, listingAfter, constantsAfter, numbersAgree, listingExpected, constantsExpected, expected, differs}
+use Rattle.sheet_replay.specs.Case.{Lent, lentBytes, lentWords, room, tableLength, written, count, listingAt, constantsAt, end, sheet, answered, listingAfter, constantsAfter, numbersAgree, listingExpected, constantsExpected, expected, differs}
 
 module _ (s : List ℕ) {n m : ℕ} {l c : List ℕ} (hn : n ≡ room s) (hm : m ≡ tableLength s) (bn : n ≤ 65537) (bm : m ≤ 257) where
   pub lent : l ≡ lentBytes 65537 → c ≡ lentWords 257 → Lent s (take n l) (take m c)
@@ -23,19 +22,6 @@ module _ (s : List ℕ) {n m : ℕ} {l c : List ℕ} (hn : n ≡ room s) (hm : m
         bytes = ap (take n) el ∙ (take-replicate n 65537 _ bn ∙ ap (λ (j : ℕ). replicate j 165) hn);
         words = ap (take m) ec ∙ (take-replicate m 257 _ bm ∙ ap (λ (j : ℕ). replicate j 11936128518282651045) hm);
       }
-
--- a case that is not cut is whole
-pub is-whole : (s : List ℕ) → cut s ≡ false → Whole s
-unfolding cut
-is-whole s e =
-    let one = or-rest (ltb (length s) 124) _ e in
-    let two = or-rest (ltb 65537 (room s)) _ one in
-    record {
-      head = ltb-false _ _ (or-first (ltb (length s) 124) _ e);
-      listing = ltb-false _ _ (or-first (ltb 65537 (room s)) _ one);
-      constants = ltb-false _ _ (or-first (ltb 257 (tableLength s)) _ two);
-      rest = ltb-false _ _ (or-rest (ltb 257 (tableLength s)) _ two);
-    }
 
 -- a part of the case by where it begins and how long it is
 part-of : (s : List ℕ) {at stop k : ℕ} (n : ℕ) → at ≡ k → stop ≡ k + n → take (stop - at) (drop at s) ≡ take n (drop k s)

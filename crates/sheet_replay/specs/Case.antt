@@ -1,17 +1,19 @@
 -- A case of the list (oracle/src/lists.rs): a sheet, the lengths of the slices lent, and the answer and both slices that are expected; numbers
 -- little-endian. Assumes nothing.
-use Prim.Native.Nat.{ℕ, _+_, _*_, _≤_}
-use mathlib.Core.Bool.{Bool, not, cond, _&&_, _||_}
-use mathlib.Core.List.{List, map}
+use Prim.Native.Nat.{ℕ, _+_, _*_}
+use mathlib.Core.Bool.{Bool, not, _&&_}
+use mathlib.Core.List.{List}
 use mathlib.Core.Path.{_≡_}
-use lib.ListN.{length, take, drop, replicate}
-use lib.Dec.{eqb, ltb}
+use lib.ListN.{take, drop, replicate}
+use lib.Dec.{eqb}
 use Rattle.lowering.specs.declared.realness.Realness.{Realness}
+use Rattle.lowering.specs.RecordBytes.{recordBytes}
 use Rattle.complexify.specs.declared.entry.LowerAnswer.{LowerAnswer}
 use Rattle.complexify.specs.Entry as Entry
 use Rattle.words.specs.Bytes.{wordsOf, stored}
 use Rattle.replay.specs.Numbers.{u32At}
 use Rattle.replay.specs.Same.{same}
+use Rattle.replay.specs.Whole.{cutAt, WholeAt}
 use Rattle.replay.specs.Tally.{Cases}
 
 -- the lengths of the sheet and of the two slices lent
@@ -41,16 +43,12 @@ constantsAt s = listingAt s + written s
 abbrev pub end : List ℕ → ℕ
 end s = constantsAt s + 8 * count s
 
--- the bytes begin with no whole case; a case lends at most 65,537 bytes and 257 words
-unfoldable pub cut : List ℕ → Bool
-cut s = ltb (length s) 124 || (ltb 65537 (room s) || (ltb 257 (tableLength s) || ltb (length s) (end s)))
+-- the bytes begin with no whole case that ends at a position; a case lends at most 65,537 bytes and 257 words
+abbrev pub cut : ℕ → List ℕ → Bool
+cut = cutAt 124 65537 257
 
--- what a whole case has
-pub record Whole (s : List ℕ) : Type 0 where
-  pub head : 124 ≤ length s
-  pub listing : room s ≤ 65537
-  pub constants : tableLength s ≤ 257
-  pub rest : end s ≤ length s
+abbrev pub WholeSheet : List ℕ → Type 0
+WholeSheet s = WholeAt 124 65537 257 (end s) s
 
 -- every byte of a slice that is lent to be written, and every word: n of them
 unfoldable pub lentBytes : ℕ → List ℕ
@@ -82,13 +80,9 @@ unfoldable pub numbersAgree : List ℕ → LowerAnswer → Bool
 numbersAgree s a =
     eqb (a .number) (u32At s 12) && (eqb (a .index) (u32At s 16) && (eqb (a .written) (written s) && eqb (a .count) (count s)))
 
--- 1: recorded as real
-abbrev pub flag : Bool → ℕ
-flag real = cond real 1 0
-
--- whether the 32 flags of registers and the 64 bytes of places are
+-- whether the record of realness is, 32 flags of registers and 64 bytes of places
 unfoldable pub realAgrees : List ℕ → Realness → Bool
-realAgrees s ρ = same (map flag (ρ .regs)) (take 32 (drop 28 s)) && same (ρ .places) (take 64 (drop 60 s))
+realAgrees s ρ = same (recordBytes ρ) (take 96 (drop 28 s))
 
 -- the slices that are expected: what was to be written, and past it what was lent
 unfoldable pub listingExpected : List ℕ → List ℕ
@@ -105,4 +99,4 @@ unfoldable pub differs : List ℕ → Bool
 differs s = not (expected s (answered s) (listingAfter s) (constantsAfter s))
 
 abbrev pub cases : Cases
-cases = record { cut = cut; end = end; number = λ s. answered s .number; differs = differs }
+cases = record { end = end; cut = cut; number = λ s. answered s .number; differs = differs }

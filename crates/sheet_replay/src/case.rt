@@ -1,12 +1,12 @@
-// One case: whether it is whole, and how lowering answers it.
+// One case: where it ends, and how lowering answers it.
 ghost use Prim.Native.Nat.{_^_, _<_, _≤_};
 ghost use mathlib.Core.Path.{_≡_};
 ghost use lib.ListN.{length};
 ghost use Rattle.sheet_replay.specs.Case as Case;
-ghost use Rattle.sheet_replay.specs.Case.{Whole, Lent, cut, lentBytes, lentWords, answered, differs, expected, numbersAgree, realAgrees, listingExpected, constantsExpected};
-use crate::compare::flags_agree;
+ghost use Rattle.sheet_replay.specs.Case.{WholeSheet, Lent, lentBytes, lentWords, answered, differs, expected, numbersAgree, realAgrees, listingExpected, constantsExpected};
 use complexify::entry::LowerAnswer;
 use complexify::entry::lower;
+use lowering::bytes::record_bytes;
 use lowering::realness::Realness;
 use replay::numbers::count_at;
 use replay::same::same_bytes;
@@ -35,22 +35,6 @@ pub fn end(s: &[u8]) -> usize
     constants_at(s) + 8 * count_at(s, 24)
 }
 
-// Whether the bytes begin with no whole case.
-pub fn is_cut(s: &[u8]) -> bool
-    ensures { λ r. ⌜ r ≡ cut (now (s .entry)) ⌝ }
-{
-    if s.len() < 124 {
-        return true;
-    }
-    if 65537 < count_at(s, 4) {
-        return true;
-    }
-    if 257 < count_at(s, 8) {
-        return true;
-    }
-    s.len() < end(s)
-}
-
 // Whether number, index, bytes written and count of constants are the expected ones.
 fn numbers_agree(s: &[u8], a: LowerAnswer) -> bool
     ensures { λ r. ⌜ r ≡ numbersAgree (now (s .entry)) a ⌝ }
@@ -72,12 +56,8 @@ fn real_agrees(s: &[u8], real: Realness) -> bool
     requires { ⌜ 124 ≤ length (now s) ⌝ }
     ensures { λ r. ⌜ r ≡ realAgrees (now (s .entry)) «real» ⌝ }
 {
-    let regs = real.regs;
-    if !flags_agree(regs, &s[28..60]) {
-        return false;
-    }
-    let places = real.places;
-    same_bytes(&places, &s[60..124])
+    let record = record_bytes(real);
+    same_bytes(&record, &s[28..124])
 }
 
 // Whether an answer and both slices are the expected ones.
@@ -105,7 +85,7 @@ fn agrees(
 }
 
 // What lowering gave.
-pub struct Outcome {
+pub struct SheetOutcome {
     pub number: u8,
     pub differs: bool,
 }
@@ -117,8 +97,8 @@ fn judge(
     constants: &mut [u64],
     bytes: &mut [u8],
     words: &mut [u64],
-) -> Outcome
-    requires { ⌜ Whole (now s) × (Lent (now s) (now listing) (now constants) × Lent (now s) (now bytes) (now words)) ⌝ }
+) -> SheetOutcome
+    requires { ⌜ WholeSheet (now s) × (Lent (now s) (now listing) (now constants) × Lent (now s) (now bytes) (now words)) ⌝ }
     ensures { λ r. ⌜ (r .number ≡ answered (now (s .entry)) .number) × (r .differs ≡ differs (now (s .entry))) ⌝ }
 {
     let at = listing_at(s);
@@ -128,7 +108,7 @@ fn judge(
     load(words, &s[row..stop]);
     let a = lower(&s[124..at], listing, constants);
     let agreed = agrees(s, a, listing, constants, bytes, words);
-    Outcome {
+    SheetOutcome {
         number: a.number,
         differs: !agreed,
     }
@@ -148,8 +128,8 @@ fn all_words() -> [u64; 257]
 }
 
 // Replays the case at the start of s.
-pub(crate) fn replay_case(s: &[u8]) -> Outcome
-    requires { ⌜ Whole (now s) ⌝ }
+pub(crate) fn replay_case(s: &[u8]) -> SheetOutcome
+    requires { ⌜ WholeSheet (now s) ⌝ }
     ensures { λ r. ⌜ (r .number ≡ answered (now (s .entry)) .number) × (r .differs ≡ differs (now (s .entry))) ⌝ }
 {
     let mut listing = all_bytes();

@@ -2,7 +2,6 @@
 // cases the list holds, and how many of them differ from the answer, the listing or the constants that the list expects.
 // The list in `stdin` is `sheets` as oracle's `make-lists FOLDER 280 3` writes it (oracle/src/lists.rs has its form).
 mod case;
-mod compare;
 mod tally;
 
 use libc::STDIN_FILENO;

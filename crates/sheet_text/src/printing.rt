@@ -5,7 +5,7 @@ ghost use mathlib.Core.List.{[]};
 ghost use mathlib.Core.Bool.{cond};
 ghost use lib.ListN.{length, drop};
 ghost use Rattle.text.specs.Line.{Prints};
-ghost use Rattle.sheet.specs.Setup.{setup, constantsOf};
+ghost use Rattle.sheet.specs.Setup.{constantsOf};
 ghost use Rattle.sheet.specs.Instruction.{instructions};
 ghost use Rattle.pages.specs.Puts.{Puts};
 ghost use Rattle.assembly.specs.Lines.{realLine};

@@ -1,8 +1,5 @@
 -- The sheet of document 01 ("One sheet on paper"): 41 bytes, 1 constant, and its 5 records are all run.
-use Prim.Native.Nat.{ℕ}
 use mathlib.Core.Path.{_≡_, refl}
-use mathlib.Core.List.{List, [], _∷_, _++_}
-use lib.ListN.{replicate}
 use Rattle.mir.specs.Register.{re, im}
 use Rattle.mir.specs.Encode.{recordOf}
 use Rattle.mir.specs.Operation.{binOps}
@@ -13,20 +10,10 @@ use Rattle.sheet.specs.Instruction.{instructionFrom}
 use Rattle.lowering.specs.Lines as lines
 use Rattle.lowering.specs.Complexifier as c
 use Rattle.lowering.specs.Rerun.{rerun, rerunBin}
+use Rattle.lowering.specs.Paper.{sheet}
 use Rattle.text.specs.Text.{ascii}
 use Rattle.figures.specs.Shelf.{shelf}
 use Rattle.shelf.specs.Printed.{printed}
-
--- "Plain mode, no real places, constant 4000000000000000; LoadConst general 0, constant 0; Load general 1, Mem 3; Times 0, 0, 1; Save 0,
--- Mem 4."
-abbrev pub sheet : List ℕ
-sheet =
-    (69 ∷ 0 ∷ 32 ∷ 0 ∷ 0 ∷ replicate 64 0)
-    ++ (12 ∷ 0 ∷ 33 ∷ 0 ∷ 0 ∷ 0 ∷ 0 ∷ 0 ∷ 0 ∷ 0 ∷ 0 ∷ 64 ∷ [])
-    ++ (7 ∷ 0 ∷ 6 ∷ 0 ∷ 0 ∷ 0 ∷ 0 ∷ [])
-    ++ (8 ∷ 0 ∷ 4 ∷ 0 ∷ 1 ∷ 1 ∷ 3 ∷ 0 ∷ [])
-    ++ (8 ∷ 0 ∷ 2 ∷ 0 ∷ 2 ∷ 0 ∷ 0 ∷ 1 ∷ [])
-    ++ (8 ∷ 0 ∷ 5 ∷ 0 ∷ 0 ∷ 1 ∷ 4 ∷ 0 ∷ [])
 
 pub paper : printed sheet ≡ ascii "bytes 41\nconstants 1\nrecords 5\n"
 unfolding printed shelf setup constantAt decoded instructionFrom rerun rerunBin c.then c.emit c.byTwo c.loadConst c.loadFrom c.saveTo c.times lines.loadLines lines.saveLines lines.timesLines re im recordOf binOps takesKind placeAt savePlace ascii

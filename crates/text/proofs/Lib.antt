@@ -2,3 +2,4 @@ mod Adding
 mod Digits
 pub mod Whole
 pub mod Short
+pub mod Words

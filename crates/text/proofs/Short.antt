@@ -2,13 +2,13 @@
 -- fields fit their widths.
 use Prim.Native.Nat.{ℕ, zero, suc, _+_, _*_, _/_, _≤_, _<_}
 use mathlib.Core.Path.{_≡_, refl}
-use Prim.Native.String.{String, [] as ε}
+use Prim.Native.String.{String}
 use mathlib.Core.Bool.{Bool, true, false, cond, _&&_}
 use mathlib.Core.List.{List, [], _∷_}
 use native.Mathlib.Omega.{arith}
 use borrow.Author.Tests.{lt-ltb}
 use lib.Dec.{T, ltb, leb, eqb, leb→le, lit≤}
-use lib.ListN.{length, getD, length-append}
+use lib.ListN.{length, length-append}
 use Rattle.mir.specs.declared.ops.UniOp.{UniOp}
 use Rattle.mir.specs.declared.ops.BinOp.{BinOp}
 use Rattle.mir.specs.declared.ops.ArithOp.{ArithOp}
@@ -19,8 +19,8 @@ use Rattle.mir.specs.declared.records.Record.{Record}
 use Rattle.mir.specs.Operation.{uniNumber, binNumber, arithNumber, fusedNumber}
 use Rattle.mir.specs.Encode.{flagByte, recordOf, encodeWork, encode}
 use Rattle.mir.proofs.Tables.{and-left, and-right}
-use Rattle.text.specs.Sized.{SizedPlace, SizedWork, Sized}
-use Rattle.text.specs.Text.{ascii, decimalIn, decimal, hexIn, register, place, uniNames, uniName, binNames, binName, fusedNames, fusedName, complexNames, complexName, workText, recordText, recordLine, constantsHeading, constantLine, listingHeading, refusedLine}
+use Rattle.text.specs.Sized.{SizedPlace, SizedWork, SizedRecord}
+use Rattle.text.specs.Text.{ascii, decimalIn, decimal, hexIn, register, place, nameOf, uniNames, uniName, binNames, binName, fusedNames, fusedName, complexNames, complexName, workText, recordText, recordLine, constantsHeading, constantLine, listingHeading, refusedLine}
 
 either : (b : Bool) (x y : List ℕ) (m : ℕ) → length x ≤ m → length y ≤ m → length (cond b x y) ≤ m
 either true x y m p q = p
@@ -73,32 +73,32 @@ place-short (Loc.Stack i) h = let d = index-short i h in omega arith
 place-short (Loc.Mem i) h = let d = index-short i h in omega arith
 place-short (Loc.Param i) h = let d = index-short i h in omega arith
 
--- a table's names have at most 16 bytes: one test of the table
-abbrev all-short : List String → Bool
-all-short [] = true
-all-short (name ∷ names) = leb (length (ascii name)) 16 && all-short names
+-- a table's names have at most m bytes: one test of the table
+abbrev pub all-short : ℕ → List String → Bool
+all-short m [] = true
+all-short m (name ∷ names) = leb (length (ascii name)) m && all-short m names
 
-name-short : (names : List String) → T (all-short names) → (n : ℕ) → length (ascii (getD names n ε)) ≤ 16
+pub name-short : (m : ℕ) (names : List String) → T (all-short m names) → (n : ℕ) → length (nameOf names n) ≤ m
 unfolding ascii
-name-short [] t n = lit≤ tt
-name-short (name ∷ names) t zero = leb→le (length (ascii name)) 16 (and-left (leb (length (ascii name)) 16) (all-short names) t)
-name-short (name ∷ names) t (suc n) = name-short names (and-right (leb (length (ascii name)) 16) (all-short names) t) n
+name-short m [] t n = omega arith
+name-short m (name ∷ names) t zero = leb→le (length (ascii name)) m (and-left (leb (length (ascii name)) m) (all-short m names) t)
+name-short m (name ∷ names) t (suc n) = name-short m names (and-right (leb (length (ascii name)) m) (all-short m names) t) n
 
 uni-short : (op : UniOp) → length (uniName op) ≤ 16
 unfolding ascii uniName
-uni-short op = name-short uniNames tt (uniNumber op)
+uni-short op = name-short 16 uniNames tt (uniNumber op)
 
 bin-short : (op : BinOp) → length (binName op) ≤ 16
 unfolding ascii binName
-bin-short op = name-short binNames tt (binNumber op)
+bin-short op = name-short 16 binNames tt (binNumber op)
 
 fused-short : (op : FusedOp) → length (fusedName op) ≤ 16
 unfolding ascii fusedName
-fused-short op = name-short fusedNames tt (fusedNumber op)
+fused-short op = name-short 16 fusedNames tt (fusedNumber op)
 
 complex-short : (op : ArithOp) → length (complexName op) ≤ 16
 unfolding ascii complexName
-complex-short op = name-short complexNames tt (arithNumber op)
+complex-short op = name-short 16 complexNames tt (arithNumber op)
 
 work-short : (w : Work) → SizedWork w → length (workText w) + 1 ≤ 5 * length (encodeWork w)
 unfolding ascii workText recordOf
@@ -166,7 +166,7 @@ flag-small : (e : Bool) → flagByte e < 256
 flag-small true = lit≤ tt
 flag-small false = lit≤ tt
 
-text-short : (r : Record) → Sized r → length (recordText r) + 1 ≤ 5 * length (encode r)
+text-short : (r : Record) → SizedRecord r → length (recordText r) + 1 ≤ 5 * length (encode r)
 unfolding ascii recordText recordOf
 text-short (Record.Work w) h = work-short w h
 text-short (Record.Label l) h = let d = byte-short l h in omega arith
@@ -178,7 +178,7 @@ text-short (Record.BranchIf c l e) h =
     let f = byte-short (flagByte e) (flag-small e) in
     simp length-append (omega arith)
 
-pub record-line-short : (r : Record) → Sized r → length (recordLine r) ≤ 5 * length (encode r)
+pub record-line-short : (r : Record) → SizedRecord r → length (recordLine r) ≤ 5 * length (encode r)
 unfolding recordLine
 record-line-short r h = let i = text-short r h in simp length-append (omega arith)
 
@@ -204,7 +204,7 @@ record-length (Record.Branch l) = lit≤ tt
 record-length (Record.Call l) = lit≤ tt
 record-length (Record.BranchIf c l e) = lit≤ tt
 
-pub record-short : (r : Record) → Sized r → length (recordLine r) ≤ 80
+pub record-short : (r : Record) → SizedRecord r → length (recordLine r) ≤ 80
 record-short r h = let i = record-line-short r h in let k = record-length r in omega (arith, i, k)
 
 pub constants-heading-short : (n : ℕ) → length (constantsHeading n) ≤ 80

@@ -1,4 +1,5 @@
 pub mod Text
 pub mod Paper
 pub mod Line
+pub mod Words
 pub mod Sized

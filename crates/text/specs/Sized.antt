@@ -21,9 +21,9 @@ SizedWork (Work.LoadComplex xd yd loc) = (xd < 256) × (yd < 256) × SizedPlace 
 SizedWork (Work.SaveComplex xs ys loc) = (xs < 256) × (ys < 256) × SizedPlace loc
 SizedWork (Work.ComplexBi op xd yd x1 y1 x2 y2) = (xd < 256) × (yd < 256) × (x1 < 256) × (y1 < 256) × (x2 < 256) × (y2 < 256)
 
-abbrev pub Sized : Record → Type 0
-Sized (Record.Work w) = SizedWork w
-Sized (Record.Label l) = l < 256
-Sized (Record.Branch l) = l < 256
-Sized (Record.Call l) = l < 256
-Sized (Record.BranchIf c l e) = (c < 256) × (l < 256)
+abbrev pub SizedRecord : Record → Type 0
+SizedRecord (Record.Work w) = SizedWork w
+SizedRecord (Record.Label l) = l < 256
+SizedRecord (Record.Branch l) = l < 256
+SizedRecord (Record.Call l) = l < 256
+SizedRecord (Record.BranchIf c l e) = (c < 256) × (l < 256)

@@ -55,6 +55,10 @@ place (Loc.Stack i) = ascii "Stack" ++ space (decimal i)
 place (Loc.Mem i) = ascii "Mem" ++ space (decimal i)
 place (Loc.Param i) = ascii "Param" ++ space (decimal i)
 
+-- the name of a number in a table, from 0; past the last, none
+abbrev pub nameOf : List String → ℕ → List ℕ
+nameOf names n = ascii (getD names n ε)
+
 -- "a kind with operations prints the operation alone": the names in mir.rs, by number
 abbrev pub uniNames : List String
 uniNames =
@@ -63,7 +67,7 @@ uniNames =
 
 unfoldable pub uniName : UniOp → List ℕ
 unfolding ascii
-uniName op = ascii (getD uniNames (uniNumber op) ε)
+uniName op = nameOf uniNames (uniNumber op)
 
 abbrev pub binNames : List String
 binNames =
@@ -72,14 +76,14 @@ binNames =
 
 unfoldable pub binName : BinOp → List ℕ
 unfolding ascii
-binName op = ascii (getD binNames (binNumber op) ε)
+binName op = nameOf binNames (binNumber op)
 
 abbrev pub fusedNames : List String
 fusedNames = "MulAdd" ∷ "MulSub" ∷ "NegMulAdd" ∷ "NegMulSub" ∷ []
 
 unfoldable pub fusedName : FusedOp → List ℕ
 unfolding ascii
-fusedName op = ascii (getD fusedNames (fusedNumber op) ε)
+fusedName op = nameOf fusedNames (fusedNumber op)
 
 -- "a ComplexBi with Complex added"
 abbrev pub complexNames : List String
@@ -87,7 +91,7 @@ complexNames = "PlusComplex" ∷ "MinusComplex" ∷ "TimesComplex" ∷ "DivideCo
 
 unfoldable pub complexName : ArithOp → List ℕ
 unfolding ascii
-complexName op = ascii (getD complexNames (arithNumber op) ε)
+complexName op = nameOf complexNames (arithNumber op)
 
 abbrev pub registers : List ℕ → List ℕ
 registers [] = []

@@ -3,6 +3,7 @@ ghost use mathlib.Core.Path.{_≡_};
 ghost use mathlib.Core.List.{[], _∷_};
 ghost use Rattle.text.specs.Line.{emptyLine, Adds};
 ghost use Rattle.text.specs.Text.{decimal, hexIn, hex};
+ghost use Rattle.text.specs.Words.{wordIn};
 
 pub struct Line {
     pub bytes: [u8; 80],
@@ -46,6 +47,30 @@ impl Line {
             let b = s[i];
             line = line.byte(b);
             i += 1;
+        }
+        line
+    }
+
+    // The word of a number, from 0, among words that a slash ends each; past the last of them, none.
+    pub fn word_in(self, words: &[u8], n: u64) -> Line
+        ensures { λ r. ⌜ Adds self (wordIn (now (words .entry)) n) r ⌝ }
+    {
+        let mut line = self;
+        let mut left = n;
+        let mut i: usize = 0;
+        while i < words.len() {
+            let b = words[i];
+            i += 1;
+            if 0 < left {
+                if b == b'/' {
+                    left -= 1;
+                }
+            } else {
+                if b == b'/' {
+                    return line;
+                }
+                line = line.byte(b);
+            }
         }
         line
     }

@@ -3,7 +3,7 @@ ghost use Prim.Native.Nat.{_*_, _≤_};
 ghost use lib.ListN.{length};
 ghost use Rattle.mir.specs.Encode.{encode};
 ghost use Rattle.text.specs.Line.{Adds, Prints};
-ghost use Rattle.text.specs.Sized.{SizedWork, Sized};
+ghost use Rattle.text.specs.Sized.{SizedWork, SizedRecord};
 ghost use Rattle.text.specs.Text.{workText, recordText, constantsHeading, constantLine, listingHeading, recordLine, refusedLine};
 use super::line::Line;
 use super::line::empty_line;
@@ -52,7 +52,7 @@ impl Line {
     }
 
     fn record(self, record: Record) -> Line
-        ensures { λ r. ⌜ (Adds self (recordText «record») r) × Sized «record» ⌝ }
+        ensures { λ r. ⌜ (Adds self (recordText «record») r) × SizedRecord «record» ⌝ }
     {
         match record {
             Record::Work(work) => self.work(work),

@@ -15,9 +15,5 @@ replay-all-spec =
     (tie.spec
     Inv-loop
     μ-loop
-    (λ c. tt)
-    (λ c κs. tt)
-    (λ c. omega arith) (λ c. omega arith)
-    (λ c. tt)
-    (λ c. tt)
+    (λ c. tt) (λ c κs. tt) (λ c. omega arith) (λ c. omega arith) (λ c. tt) (λ c. tt)
     (λ c. tt))

@@ -9,37 +9,24 @@ use Rattle.interface.proofs.Lowering.{same-answer, same-listing, over}
 use Rattle.interface.proofs.lower_words.Statement.{statement}
 use Rattle.interface.proofs.lower_words.Tie as tie
 
-slice-aggregate-lower : tie.Need-slice-aggregate-lower
-slice-aggregate-lower c = search needs
-
-lower-requires : tie.Need-lower-requires
-lower-requires c κs = search needs
-
-array-share-prefix-words : tie.Need-array-share-prefix-words
-array-share-prefix-words c =
+pub lower-words-spec : {M : Type 1} → statement M
+lower-words-spec =
+    tie.close
+    (tie.spec
+    (λ c. search needs) (λ c κs. search needs)
+    (λ c.
     let k = within (c .before .before .before .before .before .before .before .before .before .before .args .sheet .now) (c .before .before .before .before .before .before .before .before .before .before .args .listing .now) (replicate 256 0) (c .before .before .before .before .lower .ensures .0) .count in
-    search needs
-
-slice-aggregate-save : tie.Need-slice-aggregate-save
-slice-aggregate-save c =
+    search needs)
+    (λ c.
     let k = within (c .before .before .before .before .before .before .before .before .before .before .before .args .sheet .now) (c .before .before .before .before .before .before .before .before .before .before .before .args .listing .now) (replicate 256 0) (c .before .before .before .before .before .lower .ensures .0) .count in
-    sym (length-take-le _ _ (search needs))
-
-save-requires : tie.Need-save-requires
-save-requires c κs =
+    sym (length-take-le _ _ (search needs)))
+    (λ c κs.
     let k = within (c .before .before .before .before .before .before .before .before .before .before .before .args .sheet .now) (c .before .before .before .before .before .before .before .before .before .before .before .args .listing .now) (replicate 256 0) (c .before .before .before .before .before .lower .ensures .0) .count in
     let p = c .before .before .before .before .before .lower in
     let m = length-take-le (p .result .count) (p .last .1 .1 .0) (search needs) in
-    search needs
-
-same-length : tie.Need-same-length
-same-length c = search needs
-
-same-length-2 : tie.Need-same-length-2
-same-length-2 c = search needs
-
-returns : tie.Need-returns
-returns c =
+    search needs)
+    (λ c. search needs) (λ c. search needs)
+    (λ c.
     let a = c .before .before .before .before .before .before .before .before .before .before .before .before .before .before .args in
     let p = c .before .before .before .before .before .before .before .before .lower .ensures in
     let e = c .before .before .before .before .before .before .before .before .before .before .before .before .before .before .pre in
@@ -47,17 +34,4 @@ returns c =
       p .0 ∙ same-answer (a .sheet .now) (a .listing .now) (a .constants .now) (replicate 256 0) e refl below,
       p .1 ∙ same-listing (a .sheet .now) (a .listing .now) (a .constants .now) (replicate 256 0) e refl below,
       over (a .sheet .now) (a .listing .now) (a .constants .now) (replicate 256 0) e refl below (p .0) (p .2) (c .before .before .save .ensures),
-    )
-
-pub lower-words-spec : {M : Type 1} → statement M
-lower-words-spec =
-    tie.close
-    (tie.spec
-    slice-aggregate-lower
-    lower-requires
-    array-share-prefix-words
-    slice-aggregate-save
-    save-requires
-    same-length
-    same-length-2
-    returns)
+    )))

@@ -4,11 +4,9 @@ use mathlib.Core.Path.{ap}
 use Rattle.interface.proofs.wrong_constants.Statement.{statement}
 use Rattle.interface.proofs.wrong_constants.Tie as tie
 
-fresh-requires : tie.Need-fresh-requires
-fresh-requires c κs = search needs
-
-returns : tie.Need-returns
-returns c = ap (λ x. record { number = 8; index = 0; written = 0; count = 0; real = x }) (c .fresh .ensures)
-
 pub wrong-constants-spec : {M : Type 1} → statement M
-wrong-constants-spec = tie.close (tie.spec fresh-requires returns)
+wrong-constants-spec =
+    tie.close
+    (tie.spec
+    (λ c κs. search needs)
+    (λ c. ap (λ x. record { number = 8; index = 0; written = 0; count = 0; real = x }) (c .fresh .ensures)))

@@ -1,6 +1,6 @@
 -- `refusal` meets its contract. Assumes nothing.
 use borrow.Author.Needs.{needs}
-use mathlib.Core.Path.{_≡_, sym, ap, subst}
+use mathlib.Core.Path.{sym, ap, subst}
 use mathlib.Core.Bool.{Bool}
 use Rattle.text.specs.Line.{Prints}
 use Rattle.listing.specs.Printed.{refusalOf}

@@ -5,7 +5,7 @@ use mathlib.Core.Bool.{cond}
 use mathlib.Core.Option.{none, some}
 use mathlib.Core.Logic.{inl, inr, ⊎-elim}
 use native.Mathlib.Omega.{arith}
-use lib.ListN.{length, getD, drop}
+use lib.ListN.{getD, drop}
 use lib.Dec.{T}
 use lib.Ieee.{Float, binary64, fits, ofBits, toBits, div, isNan}
 use lib.Ieee.Fits.{add-fits}
@@ -25,49 +25,18 @@ Inv-loop re im points x y count index₀ least₀ i₀ index least i =
 abbrev μ-loop : tie.MeasureT-loop
 μ-loop re im points x y count index₀ least₀ i₀ index least i = count - i
 
-read-requires : tie.Need-read-requires Inv-loop μ-loop
-read-requires c κs = search needs
-
-read-requires-2 : tie.Need-read-requires-2 Inv-loop μ-loop
-read-requires-2 c κs = search needs
-
-loop-holds : tie.Need-loop-holds Inv-loop μ-loop
-unfolding bestOf fits ofBits div isNan
-loop-holds c = (search needs, tt, refl)
-
-mul-at : tie.Need-mul-at Inv-loop μ-loop
-mul-at c = search needs
-
-mul-distance : tie.Need-mul-distance Inv-loop μ-loop
-mul-distance c = search needs
-
-shared-slice-read-distance : tie.Need-shared-slice-read-distance Inv-loop μ-loop
-shared-slice-read-distance c = search needs
-
-add-distance : tie.Need-add-distance Inv-loop μ-loop
-add-distance c = search needs
-
-mul-distance-2 : tie.Need-mul-distance-2 Inv-loop μ-loop
-mul-distance-2 c = search needs
-
-shared-slice-read-distance-2 : tie.Need-shared-slice-read-distance-2 Inv-loop μ-loop
-shared-slice-read-distance-2 c = search needs
-
-distance-requires : tie.Need-distance-requires Inv-loop μ-loop
-distance-requires c κs = search needs
-
-wins-requires : tie.Need-wins-requires Inv-loop μ-loop
-wins-requires c κs = search needs
-
-add-i : tie.Need-add-i Inv-loop μ-loop
-add-i c = search needs
-
-loop-less : tie.Need-loop-less Inv-loop μ-loop
-loop-less c = search needs
-
-loop-again : tie.Need-loop-again Inv-loop μ-loop
-unfolding fold
-loop-again c =
+pub search-spec : {M : Type 1} → statement M
+unfolding bestOf fits ofBits div isNan fold
+search-spec =
+    tie.close
+    (tie.spec
+    Inv-loop
+    μ-loop
+    (λ c κs. search needs) (λ c κs. search needs)
+    (λ c. (search needs, tt, refl))
+    (λ c. search needs) (λ c. search needs) (λ c. search needs) (λ c. search needs) (λ c. search needs) (λ c. search needs)
+    (λ c κs. search needs) (λ c κs. search needs) (λ c. search needs) (λ c. search needs)
+    (λ c.
     let a = c .before .before .before .before .before .before .before .before .before .before .args in
     let l = c .before .before .before .before .before .before .loop in
     let far = c .before .before .distance .result in
@@ -86,45 +55,16 @@ loop-again c =
           ∙ looked-at (a .re) (a .im) (getD (a .points .now) (2 * l .i) 0) (getD (a .points .now) (2 * l .i + 1) 0) (held (l .index) (l .least)) (l .i))
           ∙ sym (ap (fold closer (held (l .index) (l .least))) (next (a .re) (a .im) (l .i) (a .points .now) (omega arith)))
           ∙ l .inv .2,
-    )
-
-returns : tie.Need-returns Inv-loop μ-loop
-unfolding fold
-returns c =
+    ))
+    (λ c.
     let a = c .before .before .before .before .before .before .args in
     let l = c .before .before .loop in
     ap (λ n. told (cond n none (some (record { index = l .index; far = toBits binary64 (l .least) })))) (sym (nan-differs (l .least) (c .if2 .taken)))
     ∙ ap told
-    (sym (ap (fold closer (held (l .index) (l .least))) (ended (a .re) (a .im) (l .i) (a .points .now) (omega arith))) ∙ l .inv .2)
-
-returns-2 : tie.Need-returns-2 Inv-loop μ-loop
-unfolding fold
-returns-2 c =
+    (sym (ap (fold closer (held (l .index) (l .least))) (ended (a .re) (a .im) (l .i) (a .points .now) (omega arith))) ∙ l .inv .2))
+    (λ c.
     let a = c .before .before .before .before .before .before .args in
     let l = c .before .before .loop in
     ap (λ n. told (cond n none (some (record { index = l .index; far = toBits binary64 (l .least) })))) (sym (number-same (l .least) (c .if2 .left)))
     ∙ ap told
-    (sym (ap (fold closer (held (l .index) (l .least))) (ended (a .re) (a .im) (l .i) (a .points .now) (omega arith))) ∙ l .inv .2)
-
-pub search-spec : {M : Type 1} → statement M
-search-spec =
-    tie.close
-    (tie.spec
-    Inv-loop
-    μ-loop
-    read-requires
-    read-requires-2
-    loop-holds
-    mul-at
-    mul-distance
-    shared-slice-read-distance
-    add-distance
-    mul-distance-2
-    shared-slice-read-distance-2
-    distance-requires
-    wins-requires
-    add-i
-    loop-less
-    loop-again
-    returns
-    returns-2)
+    (sym (ap (fold closer (held (l .index) (l .least))) (ended (a .re) (a .im) (l .i) (a .points .now) (omega arith))) ∙ l .inv .2)))

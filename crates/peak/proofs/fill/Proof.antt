@@ -25,56 +25,20 @@ Inv-loop run w out₀ tail₀ here₀ j₀ i₀ out tail here j i =
 abbrev μ-loop : tie.MeasureT-loop
 μ-loop run w out₀ tail₀ here₀ j₀ i₀ out tail here j i = length run - i
 
-loop-holds : tie.Need-loop-holds Inv-loop μ-loop
+pub fill-spec : {M : Type 1} → statement M
 unfolding filled
-loop-holds c =
+fill-spec =
+    tie.close
+    (tie.spec
+    Inv-loop
+    μ-loop
+    (λ c.
     let a = c .before .before .args in
-    (search needs, search needs, search needs, search needs, search needs, largest-none 0 (a .run .now), tails-none (a .run .now) (a .w) (omega arith), refl)
-
-mul-larger : tie.Need-mul-larger Inv-loop μ-loop
-mul-larger c = search needs
-
-shared-slice-read-larger : tie.Need-shared-slice-read-larger Inv-loop μ-loop
-shared-slice-read-larger c = search needs
-
-larger-requires : tie.Need-larger-requires Inv-loop μ-loop
-larger-requires c κs = search needs
-
-larger-requires-2 : tie.Need-larger-requires-2 Inv-loop μ-loop
-larger-requires-2 c κs = search needs
-
-mul-larger-2 : tie.Need-mul-larger-2 Inv-loop μ-loop
-mul-larger-2 c = search needs
-
-array-read-larger : tie.Need-array-read-larger Inv-loop μ-loop
-array-read-larger c = search needs
-
-larger-requires-3 : tie.Need-larger-requires-3 Inv-loop μ-loop
-larger-requires-3 c κs = search needs
-
-mul-out : tie.Need-mul-out Inv-loop μ-loop
-mul-out c = search needs
-
-slice-write-out : tie.Need-slice-write-out Inv-loop μ-loop
-slice-write-out c = search needs
-
-add-i : tie.Need-add-i Inv-loop μ-loop
-add-i c = search needs
-
-add-j : tie.Need-add-j Inv-loop μ-loop
-add-j c = search needs
-
-slice-aggregate-tails : tie.Need-slice-aggregate-tails Inv-loop μ-loop
-slice-aggregate-tails c = search needs
-
-tails-requires : tie.Need-tails-requires Inv-loop μ-loop
-tails-requires c κs = search needs
-
-loop-less : tie.Need-loop-less Inv-loop μ-loop
-loop-less c = search needs
-
-loop-again : tie.Need-loop-again Inv-loop μ-loop
-loop-again c =
+    (search needs, search needs, search needs, search needs, search needs, largest-none 0 (a .run .now), tails-none (a .run .now) (a .w) (omega arith), refl))
+    (λ c. search needs) (λ c. search needs) (λ c κs. search needs) (λ c κs. search needs) (λ c. search needs) (λ c. search needs)
+    (λ c κs. search needs) (λ c. search needs) (λ c. search needs) (λ c. search needs) (λ c. search needs) (λ c. search needs)
+    (λ c κs. search needs) (λ c. search needs)
+    (λ c.
     let a = c .before .before .before .before .before .before .before .before .before .before .before .before .args in
     let l = c .before .before .before .before .before .before .before .before .before .loop in
     let run = a .run .now in
@@ -91,13 +55,9 @@ loop-again c =
       largest-none (l .i + 1) run ∙ ap (λ x. largest (slice x (l .i + 1) run)) e,
       subst (λ x. Tails run (a .w) x (c .before .tails .last .1 .1 .1 .0)) e (c .before .tails .ensures),
       out,
-    )
-
-loop-less-2 : tie.Need-loop-less-2 Inv-loop μ-loop
-loop-less-2 c = search needs
-
-loop-again-2 : tie.Need-loop-again-2 Inv-loop μ-loop
-loop-again-2 c =
+    ))
+    (λ c. search needs)
+    (λ c.
     let a = c .before .before .before .before .before .before .before .before .before .args in
     let l = c .before .before .before .before .before .before .loop in
     let run = a .run .now in
@@ -114,41 +74,10 @@ loop-again-2 c =
       here ∙ ap (λ x. largest (slice x (l .i + 1) run)) e,
       subst (λ x. Tails run (a .w) x (l .tail)) e (l .inv .6),
       out,
-    )
-
-same-length : tie.Need-same-length Inv-loop μ-loop
-same-length c = search needs
-
-returns : tie.Need-returns Inv-loop μ-loop
-returns c =
+    ))
+    (λ c. search needs)
+    (λ c.
     let a = c .before .before .before .before .args in
     let l = c .before .loop in
     let e : l .i ≡ length (a .run .now) = omega arith in
-    l .inv .7 ∙ ap (λ n. filled (a .run .now) (a .w) n (a .out .now)) e
-
-pub fill-spec : {M : Type 1} → statement M
-fill-spec =
-    tie.close
-    (tie.spec
-    Inv-loop
-    μ-loop
-    loop-holds
-    mul-larger
-    shared-slice-read-larger
-    larger-requires
-    larger-requires-2
-    mul-larger-2
-    array-read-larger
-    larger-requires-3
-    mul-out
-    slice-write-out
-    add-i
-    add-j
-    slice-aggregate-tails
-    tails-requires
-    loop-less
-    loop-again
-    loop-less-2
-    loop-again-2
-    same-length
-    returns)
+    l .inv .7 ∙ ap (λ n. filled (a .run .now) (a .w) n (a .out .now)) e))

@@ -9,34 +9,24 @@ use Rattle.peak.proofs.Flags.{holds, fails, differs}
 use Rattle.peak.proofs.larger.Statement.{statement}
 use Rattle.peak.proofs.larger.Tie as tie
 
-not-equal-requires : tie.Need-not-equal-requires
-not-equal-requires c κs = search needs
-
-returns : tie.Need-returns
+pub larger-spec : {M : Type 1} → statement M
 unfolding larger
-returns c =
+larger-spec =
+    tie.close
+    (tie.spec
+    (λ c κs. search needs)
+    (λ c.
     let a = c .before .before .args in
     let n = sym (differs (value (a .a))) ∙ holds (ne (value (a .a)) (value (a .a))) (c .before .not-equal .ensures) (c .if1 .taken) in
-    sym (ap (λ t. cond (t || lt (value (a .a)) (value (a .b))) (a .b) (a .a)) n)
-
-little-than-requires : tie.Need-little-than-requires
-little-than-requires c κs = search needs
-
-returns-2 : tie.Need-returns-2
-unfolding larger
-returns-2 c =
+    sym (ap (λ t. cond (t || lt (value (a .a)) (value (a .b))) (a .b) (a .a)) n))
+    (λ c κs. search needs)
+    (λ c.
     let a = c .before .before .before .before .args in
     let n = sym (differs (value (a .a))) ∙ fails (ne (value (a .a)) (value (a .a))) (c .before .before .before .not-equal .ensures) (c .before .before .if1 .left) in
     let l = holds (lt (value (a .a)) (value (a .b))) (c .before .little-than .ensures) (c .if2 .taken) in
-    sym (ap₂ (λ t u. cond (t || u) (a .b) (a .a)) n l)
-
-returns-3 : tie.Need-returns-3
-unfolding larger
-returns-3 c =
+    sym (ap₂ (λ t u. cond (t || u) (a .b) (a .a)) n l))
+    (λ c.
     let a = c .before .before .before .before .args in
     let n = sym (differs (value (a .a))) ∙ fails (ne (value (a .a)) (value (a .a))) (c .before .before .before .not-equal .ensures) (c .before .before .if1 .left) in
     let l = fails (lt (value (a .a)) (value (a .b))) (c .before .little-than .ensures) (c .if2 .left) in
-    sym (ap₂ (λ t u. cond (t || u) (a .b) (a .a)) n l)
-
-pub larger-spec : {M : Type 1} → statement M
-larger-spec = tie.close (tie.spec not-equal-requires returns little-than-requires returns-2 returns-3)
+    sym (ap₂ (λ t u. cond (t || u) (a .b) (a .a)) n l)))

@@ -21,45 +21,24 @@ Inv-loop run w s tail₀ best₀ j₀ tail best j =
 abbrev μ-loop : tie.MeasureT-loop
 μ-loop run w s tail₀ best₀ j₀ tail best j = j
 
-loop-holds : tie.Need-loop-holds Inv-loop μ-loop
-loop-holds c =
+pub tails-spec : {M : Type 1} → statement M
+unfolding Tails
+tails-spec =
+    tie.close
+    (tie.spec
+    Inv-loop
+    μ-loop
+    (λ c.
     let a = c .before .before .args in
     let e : a .s ≡ a .s + a .w - a .w = omega arith in (
       search needs,
       search needs,
       largest-none (a .s) (a .run .now) ∙ ap (λ f. largest (slice f (a .s) (a .run .now))) e,
       λ k p q. absurd (omega arith),
-    )
-
-sub-j : tie.Need-sub-j Inv-loop μ-loop
-sub-j c = search needs
-
-mul-tail : tie.Need-mul-tail Inv-loop μ-loop
-mul-tail c = search needs
-
-slice-write-tail : tie.Need-slice-write-tail Inv-loop μ-loop
-slice-write-tail c = search needs
-
-sub-larger : tie.Need-sub-larger Inv-loop μ-loop
-sub-larger c = search needs
-
-add-larger : tie.Need-add-larger Inv-loop μ-loop
-add-larger c = search needs
-
-mul-larger : tie.Need-mul-larger Inv-loop μ-loop
-mul-larger c = search needs
-
-shared-slice-read-larger : tie.Need-shared-slice-read-larger Inv-loop μ-loop
-shared-slice-read-larger c = search needs
-
-larger-requires : tie.Need-larger-requires Inv-loop μ-loop
-larger-requires c κs = search needs
-
-loop-less : tie.Need-loop-less Inv-loop μ-loop
-loop-less c = search needs
-
-loop-again : tie.Need-loop-again Inv-loop μ-loop
-loop-again c =
+    ))
+    (λ c. search needs) (λ c. search needs) (λ c. search needs) (λ c. search needs) (λ c. search needs) (λ c. search needs)
+    (λ c. search needs) (λ c κs. search needs) (λ c. search needs)
+    (λ c.
     let a = c .before .before .before .before .before .before .args in
     let l = c .before .before .before .loop in
     let f : a .s + (l .j - 1) - a .w + 1 ≡ a .s + l .j - a .w = omega arith in
@@ -72,31 +51,6 @@ loop-again c =
           ∙ largest-cons (a .s + (l .j - 1) - a .w) (a .s) (a .run .now) (omega arith) (omega arith),
       stored (l .tail) (l .j - 1) (l .best) (a .w) (λ k. largest (slice (a .s + k + 1 - a .w) (a .s) (a .run .now))) (omega arith)
           (l .inv .2 ∙ ap (λ x. largest (slice x (a .s) (a .run .now))) (sym h)) (λ k p q. l .inv .3 k (omega arith) q),
-    )
-
-same-length : tie.Need-same-length Inv-loop μ-loop
-same-length c = search needs
-
-returns : tie.Need-returns Inv-loop μ-loop
-unfolding Tails
-returns c = λ j h. c .before .loop .inv .3 j (omega arith) h
-
-pub tails-spec : {M : Type 1} → statement M
-tails-spec =
-    tie.close
-    (tie.spec
-    Inv-loop
-    μ-loop
-    loop-holds
-    sub-j
-    mul-tail
-    slice-write-tail
-    sub-larger
-    add-larger
-    mul-larger
-    shared-slice-read-larger
-    larger-requires
-    loop-less
-    loop-again
-    same-length
-    returns)
+    ))
+    (λ c. search needs)
+    (λ c. λ j h. c .before .loop .inv .3 j (omega arith) h))

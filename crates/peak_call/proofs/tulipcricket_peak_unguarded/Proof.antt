@@ -12,53 +12,24 @@ use borrow.Author.Needs.{needs}
 use Rattle.peak_call.proofs.tulipcricket_peak_unguarded.Statement.{statement}
 use Rattle.peak_call.proofs.tulipcricket_peak_unguarded.Tie as tie
 
-returns : tie.Need-returns
+pub tulipcricket-peak-unguarded-spec : {M : Type 1} → statement M
 unfolding peakCall
-returns c = simp (ne-eqb _ _ (c .if1 .taken))
-
-returns-2 : tie.Need-returns-2
-unfolding peakCall
-returns-2 c = simp (eq-eqb _ _ (c .before .if1 .left), ne-eqb _ _ (c .if2 .taken))
-
-returns-3 : tie.Need-returns-3
-returns-3 c =
+tulipcricket-peak-unguarded-spec =
+    tie.close
+    (tie.spec
+    (λ c. simp (ne-eqb _ _ (c .if1 .taken)))
+    (λ c. simp (eq-eqb _ _ (c .before .if1 .left), ne-eqb _ _ (c .if2 .taken)))
+    (λ c.
     let a = c .before .before .before .before .before .args in
     wrong-length (a .run .now) (a .window) (a .out .now) (c .before .before .if1 .left) (c .before .if2 .left)
     (λ i _. c .before .before .before .slice-known .given i .fits)
-    (⊎-elim (λ x. inl (x .taken)) (λ x. inr (ltb-true _ _ (x .1 .taken))) (c .if3 .came))
-
-slice-aggregate-load : tie.Need-slice-aggregate-load
-slice-aggregate-load c = search needs
-
-load-requires : tie.Need-load-requires
-load-requires c κs = search needs
-
-array-share-prefix-words : tie.Need-array-share-prefix-words
-array-share-prefix-words c = search needs
-
-slice-aggregate-peak : tie.Need-slice-aggregate-peak
-slice-aggregate-peak c = sym (length-take-le _ _ (search needs))
-
-slice-aggregate-peak-2 : tie.Need-slice-aggregate-peak-2
-slice-aggregate-peak-2 c = search needs
-
-peak-requires : tie.Need-peak-requires
-peak-requires c κs = search needs
-
-array-share-prefix-peaks : tie.Need-array-share-prefix-peaks
-array-share-prefix-peaks c = search needs
-
-slice-aggregate-save : tie.Need-slice-aggregate-save
-slice-aggregate-save c = sym (length-take-le _ _ (search needs))
-
-save-requires : tie.Need-save-requires
-save-requires c κs = search needs
-
-same-length : tie.Need-same-length
-same-length c = search needs
-
-returns-4 : tie.Need-returns-4
-returns-4 c =
+    (⊎-elim (λ x. inl (x .taken)) (λ x. inr (ltb-true _ _ (x .1 .taken))) (c .if3 .came)))
+    (λ c. search needs) (λ c κs. search needs) (λ c. search needs)
+    (λ c. sym (length-take-le _ _ (search needs)))
+    (λ c. search needs) (λ c κs. search needs) (λ c. search needs)
+    (λ c. sym (length-take-le _ _ (search needs)))
+    (λ c κs. search needs) (λ c. search needs)
+    (λ c.
     let t = c .before .before .before .before .before .before .before .before .before .before .before .before .before in
     let a = t .before .before .before .before .before .before .args in
     let p = c .before .before .before .before .before .before .before .peak in
@@ -66,34 +37,12 @@ returns-4 c =
     given-words (a .run .now) (a .window) (a .out .now) (t .before .before .before .if1 .left) (t .before .before .if2 .left)
     (λ i _. t .before .before .before .before .slice-known .given i .fits) (t .before .if3 .left) (ltb-false _ _ (t .if4 .left)) (replicate 4096 0) refl
     (p .ensures .0 ∙ ap (λ x. number x (a .window) (replicate 4096 0)) w) (c .before .before .before .before .before .if5 .taken)
-    (p .ensures .1 ∙ ap (λ x. after x (a .window) (replicate 4096 0)) w) (c .before .before .save .ensures)
-
-returns-5 : tie.Need-returns-5
-returns-5 c =
+    (p .ensures .1 ∙ ap (λ x. after x (a .window) (replicate 4096 0)) w) (c .before .before .save .ensures))
+    (λ c.
     let t = c .before .before .before .before .before .before .before .before in
     let a = t .before .before .before .before .before .before .args in
     let p = c .before .before .peak in
     let w = loaded (a .run .now) (replicate 4096 0) (c .before .before .before .before .before .before .load .ensures) (omega arith) in
     refused-words (a .run .now) (a .window) (a .out .now) (t .before .before .before .if1 .left) (t .before .before .if2 .left)
     (λ i _. t .before .before .before .before .slice-known .given i .fits) (t .before .if3 .left) (ltb-false _ _ (t .if4 .left)) (replicate 4096 0) refl
-    (p .ensures .0 ∙ ap (λ x. number x (a .window) (replicate 4096 0)) w) (c .if5 .left)
-
-pub tulipcricket-peak-unguarded-spec : {M : Type 1} → statement M
-tulipcricket-peak-unguarded-spec =
-    tie.close
-    (tie.spec
-    returns
-    returns-2
-    returns-3
-    slice-aggregate-load
-    load-requires
-    array-share-prefix-words
-    slice-aggregate-peak
-    slice-aggregate-peak-2
-    peak-requires
-    array-share-prefix-peaks
-    slice-aggregate-save
-    save-requires
-    same-length
-    returns-4
-    returns-5)
+    (p .ensures .0 ∙ ap (λ x. number x (a .window) (replicate 4096 0)) w) (c .if5 .left)))

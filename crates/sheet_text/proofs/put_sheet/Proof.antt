@@ -1,8 +1,8 @@
 -- `put_sheet` meets its contract.
 use borrow.Author.Needs.{needs}
 use native.Mathlib.Omega.{arith}
-use mathlib.Core.Path.{_≡_, refl, sym, ap, _∙_}
-use Rattle.pages.proofs.Putting.{long, line-put, renamed, _▹_}
+use mathlib.Core.Path.{ap}
+use Rattle.pages.proofs.Putting.{line-put, renamed}
 use Rattle.sheet_text.proofs.Turns.{unset, refused, printed, limits}
 use Rattle.sheet_text.proofs.put_sheet.Statement.{statement}
 use Rattle.sheet_text.proofs.put_sheet.Tie as tie

@@ -7,13 +7,13 @@ use lib.ListN.{length}
 use Rattle.mir.proofs.Decoding.{ended}
 use Rattle.lowering.specs.Labels.{noneStanding}
 use Rattle.sheet.specs.Instruction.{instructionFrom}
-use Rattle.figures.proofs.Taking.{turn-halted, turn-taken, Underway, underway-next, halted, stopped}
+use Rattle.figures.proofs.Taking.{turn-halted, turn-taken, CountUnderway, underway-next, halted, stopped}
 use Rattle.figures.proofs.entry.run.Statement.{statement}
 use Rattle.figures.proofs.entry.run.Tie as tie
 
 abbrev Inv-loop : tie.InvT-loop
 Inv-loop sheet own mode marks₀ rows₀ constants₀ stage₀ start marks rows constants stage p =
-    Underway mode own sheet constants₀ start stage constants marks rows p
+    CountUnderway mode own sheet constants₀ start stage constants marks rows p
     × (length marks ≡ length marks₀)
     × (length rows ≡ length rows₀)
     × (length constants ≡ length constants₀)

@@ -23,9 +23,9 @@ differs-spec =
     simp (
       lt-ltb _ 35 (at-word .before .if1 .left),
       c .before .result .ensures,
-      at-word .word .ensures,
-      at-word2 .word2 .ensures,
-      at-word3 .word3 .ensures,
-      at-word4 .word4 .ensures,
-      c .word5 .ensures,
+      at-word .word-at .ensures,
+      at-word2 .word-at2 .ensures,
+      at-word3 .word-at3 .ensures,
+      at-word4 .word-at4 .ensures,
+      c .word-at5 .ensures,
     )))

@@ -10,6 +10,11 @@ use Rattle.float_replay.specs.Tally.{counted, replayed}
 use Rattle.float_replay.proofs.tally.replay.Statement.{statement}
 use Rattle.float_replay.proofs.tally.replay.Tie as tie
 
+-- before the first case
+none : (t list : List ℕ) → t ≡ replayed t list 0
+unfolding replayed
+none t list = refl
+
 -- one case more
 next : (t₀ list : List ℕ) (i : ℕ) {t last : List ℕ}
     → t ≡ replayed t₀ list i
@@ -26,56 +31,17 @@ Inv-loop list t₀ cases i₀ t i = (i ≤ cases) × (t ≡ replayed t₀ list i
 abbrev μ-loop : tie.MeasureT-loop
 μ-loop list t₀ cases i₀ t i = cases - i
 
-loop-holds : tie.Need-loop-holds Inv-loop μ-loop
-unfolding replayed
-loop-holds c = (omega arith, refl)
-
-mul-at : tie.Need-mul-at Inv-loop μ-loop
-mul-at c = omega arith
-
-add-end : tie.Need-add-end Inv-loop μ-loop
-add-end c = omega arith
-
-sub-count : tie.Need-sub-count Inv-loop μ-loop
-sub-count c = omega arith
-
-part-count-start : tie.Need-part-count-start Inv-loop μ-loop
-part-count-start c = omega arith
-
-part-count-end : tie.Need-part-count-end Inv-loop μ-loop
-part-count-end c = omega arith
-
-count-requires : tie.Need-count-requires Inv-loop μ-loop
-count-requires c κs = simp (length-take, length-drop) (omega arith)
-
-add-i : tie.Need-add-i Inv-loop μ-loop
-add-i c = omega arith
-
-loop-less : tie.Need-loop-less Inv-loop μ-loop
-loop-less c = omega arith
-
-loop-again : tie.Need-loop-again Inv-loop μ-loop
-loop-again c =
-    let at-loop = c .before .before .before .before in
-    (omega arith, next _ _ (at-loop .loop .i) (at-loop .loop .inv .1) (c .count .ensures))
-
-returns : tie.Need-returns Inv-loop μ-loop
-returns c = c .before .loop .inv .1 ∙ ap (replayed _ _) (omega arith)
-
 pub replay-spec : {M : Type 1} → statement M
 replay-spec =
     tie.close
     (tie.spec
     Inv-loop
     μ-loop
-    loop-holds
-    mul-at
-    add-end
-    sub-count
-    part-count-start
-    part-count-end
-    count-requires
-    add-i
-    loop-less
-    loop-again
-    returns)
+    (λ c. (omega arith, none _ _))
+    (λ c. omega arith) (λ c. omega arith) (λ c. omega arith) (λ c. omega arith) (λ c. omega arith)
+    (λ c κs. simp (length-take, length-drop) (omega arith))
+    (λ c. omega arith) (λ c. omega arith)
+    (λ c.
+    let at-loop = c .before .before .before .before in
+    (omega arith, next _ _ (at-loop .loop .i) (at-loop .loop .inv .1) (c .count .ensures)))
+    (λ c. c .before .loop .inv .1 ∙ ap (replayed _ _) (omega arith)))

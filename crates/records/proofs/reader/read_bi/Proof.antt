@@ -1,6 +1,6 @@
 -- `records::reader::read_bi` meets its contract.
 use borrow.Author.Needs.{needs}
-use Rattle.records.specs.Record.{biFrom}
+use Rattle.mir.specs.Kinds.{biFrom}
 use Rattle.records.proofs.reader.read_bi.Statement.{statement}
 use Rattle.records.proofs.reader.read_bi.Tie as tie
 

@@ -1,6 +1,6 @@
 -- `records::reader::read_fused` meets its contract.
 use borrow.Author.Needs.{needs}
-use Rattle.records.specs.Record.{fusedFrom}
+use Rattle.mir.specs.Kinds.{fusedFrom}
 use Rattle.records.proofs.reader.read_fused.Statement.{statement}
 use Rattle.records.proofs.reader.read_fused.Tie as tie
 

@@ -1,6 +1,6 @@
 -- `records::reader::read_if_else` meets its contract.
 use borrow.Author.Needs.{needs}
-use Rattle.records.specs.Record.{ifElseFrom}
+use Rattle.mir.specs.Kinds.{ifElseFrom}
 use Rattle.records.proofs.reader.read_if_else.Statement.{statement}
 use Rattle.records.proofs.reader.read_if_else.Tie as tie
 

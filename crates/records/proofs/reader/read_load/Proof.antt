@@ -1,6 +1,6 @@
 -- `records::reader::read_load` meets its contract.
 use borrow.Author.Needs.{needs}
-use Rattle.records.specs.Record.{loadFrom}
+use Rattle.mir.specs.Kinds.{loadFrom}
 use Rattle.records.proofs.reader.read_load.Statement.{statement}
 use Rattle.records.proofs.reader.read_load.Tie as tie
 

@@ -1,7 +1,7 @@
 -- `records::reader::read_load_const` meets its contract.
 use borrow.Author.Needs.{needs}
 use borrow.Author.Tests.{le-leb, lt-leb}
-use Rattle.records.specs.Record.{loadConstFrom}
+use Rattle.mir.specs.Kinds.{loadConstFrom}
 use Rattle.records.proofs.reader.read_load_const.Statement.{statement}
 use Rattle.records.proofs.reader.read_load_const.Tie as tie
 

@@ -1,6 +1,6 @@
 -- `records::reader::read_mov` meets its contract.
 use borrow.Author.Needs.{needs}
-use Rattle.records.specs.Record.{movFrom}
+use Rattle.mir.specs.Kinds.{movFrom}
 use Rattle.records.proofs.reader.read_mov.Statement.{statement}
 use Rattle.records.proofs.reader.read_mov.Tie as tie
 

@@ -1,6 +1,6 @@
 -- `records::reader::read_save` meets its contract.
 use borrow.Author.Needs.{needs}
-use Rattle.records.specs.Record.{saveFrom}
+use Rattle.mir.specs.Kinds.{saveFrom}
 use Rattle.records.proofs.reader.read_save.Statement.{statement}
 use Rattle.records.proofs.reader.read_save.Tie as tie
 

@@ -1,6 +1,6 @@
 -- `records::reader::read_uni` meets its contract.
 use borrow.Author.Needs.{needs}
-use Rattle.records.specs.Record.{uniFrom}
+use Rattle.mir.specs.Kinds.{uniFrom}
 use Rattle.records.proofs.reader.read_uni.Statement.{statement}
 use Rattle.records.proofs.reader.read_uni.Tie as tie
 

@@ -1,6 +1,5 @@
 -- `barred_load` meets its contract.
 use borrow.Author.Needs.{needs}
-use mathlib.Core.Path.{_∙_}
 use Rattle.refusals.proofs.barred.barred_load.Statement.{statement}
 use Rattle.refusals.proofs.barred.barred_load.Tie as tie
 

@@ -1,6 +1,5 @@
 -- `barred_uni` meets its contract.
 use borrow.Author.Needs.{needs}
-use mathlib.Core.Path.{_∙_}
 use Rattle.refusals.proofs.barred.barred_uni.Statement.{statement}
 use Rattle.refusals.proofs.barred.barred_uni.Tie as tie
 

@@ -1,7 +1,7 @@
 -- `find_labels` meets its contract. The invariant: the labels before the position are marked, and those behind it are the others.
 use borrow.Author.Needs.{needs}
 use native.Mathlib.Omega.{arith}
-use Prim.Native.Nat.{_+_, _-_}
+use Prim.Native.Nat.{_-_}
 use mathlib.Core.Path.{_≡_, refl, ap, _∙_}
 use lib.ListN.{length, drop}
 use Rattle.refusals.specs.Noted.{labelHere, seenIn}

@@ -16,7 +16,5 @@ print-lines-spec =
     (tie.spec
     Inv-loop
     μ-loop
-    (λ c. tt)
-    (λ c κs. omega arith) (λ c. omega arith) (λ c. omega arith)
-    (λ c. tt)
+    (λ c. tt) (λ c κs. omega arith) (λ c. omega arith) (λ c. omega arith) (λ c. tt)
     (λ c. tt))

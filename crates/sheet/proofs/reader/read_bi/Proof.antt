@@ -1,6 +1,6 @@
 -- `sheet::reader::read_bi` meets its contract.
 use borrow.Author.Needs.{needs}
-use Rattle.sheet.specs.Instruction.{biFrom}
+use Rattle.mir.specs.Kinds.{biFrom}
 use Rattle.sheet.proofs.reader.read_bi.Statement.{statement}
 use Rattle.sheet.proofs.reader.read_bi.Tie as tie
 

@@ -1,6 +1,6 @@
 -- `sheet::reader::read_fused` meets its contract.
 use borrow.Author.Needs.{needs}
-use Rattle.sheet.specs.Instruction.{fusedFrom}
+use Rattle.mir.specs.Kinds.{fusedFrom}
 use Rattle.sheet.proofs.reader.read_fused.Statement.{statement}
 use Rattle.sheet.proofs.reader.read_fused.Tie as tie
 

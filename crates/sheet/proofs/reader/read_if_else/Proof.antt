@@ -1,6 +1,6 @@
 -- `sheet::reader::read_if_else` meets its contract.
 use borrow.Author.Needs.{needs}
-use Rattle.sheet.specs.Instruction.{ifElseFrom}
+use Rattle.mir.specs.Kinds.{ifElseFrom}
 use Rattle.sheet.proofs.reader.read_if_else.Statement.{statement}
 use Rattle.sheet.proofs.reader.read_if_else.Tie as tie
 

@@ -1,6 +1,6 @@
 -- `sheet::reader::read_load` meets its contract.
 use borrow.Author.Needs.{needs}
-use Rattle.sheet.specs.Instruction.{loadFrom}
+use Rattle.mir.specs.Kinds.{loadFrom}
 use Rattle.sheet.proofs.reader.read_load.Statement.{statement}
 use Rattle.sheet.proofs.reader.read_load.Tie as tie
 

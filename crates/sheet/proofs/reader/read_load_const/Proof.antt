@@ -1,7 +1,7 @@
 -- `sheet::reader::read_load_const` meets its contract.
 use borrow.Author.Needs.{needs}
 use borrow.Author.Tests.{le-leb, lt-leb}
-use Rattle.sheet.specs.Instruction.{loadConstFrom}
+use Rattle.mir.specs.Kinds.{loadConstFrom}
 use Rattle.sheet.proofs.reader.read_load_const.Statement.{statement}
 use Rattle.sheet.proofs.reader.read_load_const.Tie as tie
 

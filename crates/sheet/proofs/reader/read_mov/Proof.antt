@@ -1,6 +1,6 @@
 -- `sheet::reader::read_mov` meets its contract.
 use borrow.Author.Needs.{needs}
-use Rattle.sheet.specs.Instruction.{movFrom}
+use Rattle.mir.specs.Kinds.{movFrom}
 use Rattle.sheet.proofs.reader.read_mov.Statement.{statement}
 use Rattle.sheet.proofs.reader.read_mov.Tie as tie
 

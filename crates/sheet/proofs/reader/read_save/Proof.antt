@@ -1,6 +1,6 @@
 -- `sheet::reader::read_save` meets its contract.
 use borrow.Author.Needs.{needs}
-use Rattle.sheet.specs.Instruction.{saveFrom}
+use Rattle.mir.specs.Kinds.{saveFrom}
 use Rattle.sheet.proofs.reader.read_save.Statement.{statement}
 use Rattle.sheet.proofs.reader.read_save.Tie as tie
 

@@ -1,6 +1,6 @@
 -- `sheet::reader::read_uni` meets its contract.
 use borrow.Author.Needs.{needs}
-use Rattle.sheet.specs.Instruction.{uniFrom}
+use Rattle.mir.specs.Kinds.{uniFrom}
 use Rattle.sheet.proofs.reader.read_uni.Statement.{statement}
 use Rattle.sheet.proofs.reader.read_uni.Tie as tie
 

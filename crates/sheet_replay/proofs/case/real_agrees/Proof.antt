@@ -1,6 +1,7 @@
--- `case::real_agrees` meets its contract: the flags of registers, then the places. Assumes nothing.
+-- `case::real_agrees` meets its contract. Assumes nothing.
 use borrow.Author.Needs.{needs}
-use borrow.Author.Tests.{not-true, not-false}
+use mathlib.Core.Path.{ap, _∙_}
+use Rattle.replay.specs.Same.{same}
 use Rattle.sheet_replay.specs.Case.{realAgrees}
 use Rattle.sheet_replay.proofs.case.real_agrees.Statement.{statement}
 use Rattle.sheet_replay.proofs.case.real_agrees.Tie as tie
@@ -10,7 +11,5 @@ unfolding realAgrees
 real-agrees-spec =
     tie.close
     (tie.spec
-    (λ c. search needs) (λ c. search needs) (λ c. search needs) (λ c κs. search needs)
-    (λ c. simp (← c .before .flags-agree .ensures, not-true (c .before .flags-agree .result) (c .if1 .taken)))
-    (λ c. search needs) (λ c. search needs) (λ c. search needs) (λ c. search needs) (λ c κs. search needs)
-    (λ c. simp (← c .before .before .before .before .before .flags-agree .ensures, not-false (c .before .before .before .before .before .flags-agree .result) (c .before .before .before .before .if1 .left), ← c .same-bytes .ensures)))
+    (λ c κs. search needs) (λ c. search needs) (λ c. search needs) (λ c. search needs) (λ c. search needs) (λ c κs. search needs)
+    (λ c. simp (c .same-bytes .ensures, c .before .before .before .record-bytes .ensures)))

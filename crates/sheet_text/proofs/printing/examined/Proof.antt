@@ -1,7 +1,7 @@
 -- `examined` meets its contract. The invariant: what was counted, and what stands behind the position, are the whole.
 use borrow.Author.Needs.{needs}
 use native.Mathlib.Omega.{arith}
-use Prim.Native.Nat.{suc, _+_, _-_, _*_, _≤_}
+use Prim.Native.Nat.{_+_, _-_, _≤_}
 use mathlib.Core.Path.{_≡_, refl, sym, ap, _∙_}
 use lib.ListN.{length, drop}
 use Rattle.mir.proofs.Decoding.{items, fault, ended}

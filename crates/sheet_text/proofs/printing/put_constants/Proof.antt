@@ -1,9 +1,9 @@
 -- `put_constants` meets its contract. The invariant: with the lines that are left the whole text stands, and there is room for them.
 use borrow.Author.Needs.{needs}
 use native.Mathlib.Omega.{arith}
-use Prim.Native.Nat.{suc, _+_, _-_, _*_, _≤_}
-use mathlib.Core.Path.{_≡_, refl, sym, ap, _∙_, subst}
-use lib.ListN.{length, drop}
+use Prim.Native.Nat.{_+_, _-_, _*_, _≤_}
+use mathlib.Core.Path.{_≡_, ap, subst}
+use lib.ListN.{length}
 use Rattle.sheet.specs.Setup.{constantsOf, constantsFromOn}
 use Rattle.assembly.specs.SheetText.{constantLines}
 use Rattle.assembly.specs.Lines.{constantLine}
@@ -33,8 +33,7 @@ put-constants-spec =
       omega arith,
       subst (λ n. Owes (a .out .now) (a .start) (constantLines (constantsOf (a .sheet .now) (a .count))) (a .out .now) (a .start) (constantLines (constantsFromOn (a .sheet .now) n 0))) e (all (omega arith)),
     ))
-    (λ c κs. search needs) (λ c κs. search needs) (λ c κs. search needs)
-    (λ c. search needs) (λ c. search needs)
+    (λ c κs. search needs) (λ c κs. search needs) (λ c κs. search needs) (λ c. search needs) (λ c. search needs)
     (λ c.
     let a = c .before .before .before .before .before .before .before .before .before .before .args in
     let l = c .before .before .before .before .before .before .before .loop in

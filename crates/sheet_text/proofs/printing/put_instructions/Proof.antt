@@ -1,8 +1,8 @@
 -- `put_instructions` meets its contract. The invariant: with the lines that are left the whole text stands, and there is room for them.
 use borrow.Author.Needs.{needs}
 use native.Mathlib.Omega.{arith}
-use Prim.Native.Nat.{suc, _+_, _-_, _*_, _≤_}
-use mathlib.Core.Path.{_≡_, refl, sym, ap, _∙_}
+use Prim.Native.Nat.{_+_, _-_, _*_, _≤_}
+use mathlib.Core.Path.{sym, ap, _∙_}
 use lib.ListN.{length, drop}
 use Rattle.mir.proofs.Decoding.{items, ended}
 use Rattle.sheet.specs.Instruction.{instructionFrom, asNext}

@@ -1,7 +1,7 @@
 -- `put_lines` meets its contract.
 use borrow.Author.Needs.{needs}
 use native.Mathlib.Omega.{arith}
-use mathlib.Core.Path.{_≡_, refl, sym, ap, _∙_}
+use mathlib.Core.Path.{ap}
 use Rattle.pages.proofs.Putting.{long, line-put, renamed, _▹_}
 use Rattle.assembly.specs.Lines.{modeLine}
 use Rattle.sheet_text.proofs.printing.put_lines.Statement.{statement}

@@ -1,9 +1,9 @@
 -- `put_reals` meets its contract. The invariant: with the lines that are left the whole text stands, and there is room for them.
 use borrow.Author.Needs.{needs}
 use native.Mathlib.Omega.{arith}
-use Prim.Native.Nat.{suc, _+_, _-_, _*_, _≤_}
-use mathlib.Core.Path.{_≡_, refl, sym, ap, _∙_}
-use lib.ListN.{length, drop}
+use Prim.Native.Nat.{_+_, _-_, _*_, _≤_}
+use mathlib.Core.Path.{ap}
+use lib.ListN.{length}
 use Rattle.assembly.specs.SheetText.{realLines}
 use Rattle.pages.proofs.Putting.{long, line-put, renamed, Owes, all, less, none}
 use Rattle.sheet_text.proofs.Turns.{reals-on, reals-end}
@@ -26,8 +26,7 @@ put-reals-spec =
     (tie.spec
     Inv-loop μ-loop
     (λ c. (omega arith, omega arith, omega arith, all (omega arith)))
-    (λ c. search needs) (λ c κs. search needs) (λ c κs. search needs) (λ c κs. search needs)
-    (λ c. search needs) (λ c. search needs)
+    (λ c. search needs) (λ c κs. search needs) (λ c κs. search needs) (λ c κs. search needs) (λ c. search needs) (λ c. search needs)
     (λ c.
     let a = c .before .before .before .before .before .before .before .before .before .args in
     let l = c .before .before .before .before .before .before .before .loop in

@@ -1,9 +1,7 @@
 -- `real_or_none` meets its contract.
 use borrow.Author.Needs.{needs}
 use native.Mathlib.Omega.{arith}
-use Prim.Native.Nat.{suc, _+_, _-_, _*_, _≤_}
-use mathlib.Core.Path.{_≡_, refl, sym, ap, _∙_}
-use lib.ListN.{length, drop}
+use mathlib.Core.Path.{refl, sym}
 use mathlib.Core.Path.{subst}
 use mathlib.Core.Bool.{cond}
 use mathlib.Core.List.{[]}

@@ -1,6 +1,7 @@
 -- `text::names::Line::complex_name` meets its contract.
 use borrow.Author.Needs.{needs}
-use Rattle.text.specs.Text.{ascii, complexName}
+use Rattle.text.specs.Text.{ascii, complexNames, complexName}
+use Rattle.text.proofs.Words.{by-name}
 use Rattle.text.proofs.line.Line.complex_name.Statement.{statement}
 use Rattle.text.proofs.line.Line.complex_name.Tie as tie
 
@@ -9,9 +10,5 @@ unfolding ascii complexName
 complex-name-spec =
     tie.close
     (tie.spec
-    (λ c. search needs) (λ c. search needs) (λ c κs. search needs) (λ c. search needs) (λ c. search needs) (λ c κs. search needs)
-    (λ c. search needs) (λ c. search needs) (λ c κs. search needs) (λ c. search needs) (λ c. search needs) (λ c κs. search needs)
-    (λ c. simp (c .before .before .enum-told .given .1) (c .text .ensures))
-    (λ c. simp (c .before .before .enum-told2 .given .1) (c .text2 .ensures))
-    (λ c. simp (c .before .before .enum-told3 .given .1) (c .text3 .ensures))
-    (λ c. simp (c .before .before .enum-told4 .given .1) (c .text4 .ensures)))
+    (λ c. search needs) (λ c κs. search needs) (λ c. search needs) (λ c κs. search needs)
+    (λ c. by-name complexNames tt (c .before .arith-number .ensures) (c .word-in .ensures)))
