@@ -8,6 +8,8 @@ use lowering::realness::Realness;
 use mir::ops::ArithOp;
 use mir::ops::BinOp;
 use mir::ops::UniOp;
+use mir::ops::bin_number;
+use mir::ops::uni_number;
 use mir::records::Instruction;
 use mir::registers::RET;
 use mir::registers::TEMP;
@@ -45,53 +47,20 @@ fn barred_abs(stable: bool, a: u8, real: Realness) -> bool
 fn barred_uni(stable: bool, op: UniOp, a: u8, real: Realness) -> bool
     ensures { λ r. ⌜ r ≡ Spec.barredUni stable op a real ⌝ }
 {
-    match op {
-        UniOp::Neg => false,
-        UniOp::Not => false,
-        UniOp::Abs => barred_abs(stable, a, real),
-        UniOp::Root => false,
-        UniOp::RealRoot => false,
-        UniOp::Recip => false,
-        UniOp::Round => false,
-        UniOp::Floor => false,
-        UniOp::Ceiling => false,
-        UniOp::Trunc => false,
-        UniOp::Real => false,
-        UniOp::Imaginary => false,
-        UniOp::Conjugate => false,
-        UniOp::Half => false,
-        UniOp::IsZero => false,
-        UniOp::IsNotZero => false,
-        UniOp::Sign => false,
-        UniOp::Abs2 => false,
-        UniOp::TimesI => false,
-        UniOp::TimesNegI => false,
+    if uni_number(op) == uni_number(UniOp::Abs) {
+        return barred_abs(stable, a, real);
     }
+    false
 }
 
 fn barred_bin(stable: bool, op: BinOp, a: u8, b: u8, real: Realness) -> bool
     ensures { λ r. ⌜ r ≡ Spec.barredBin stable op a b real ⌝ }
 {
-    match op {
-        BinOp::Plus => false,
-        BinOp::Minus => false,
-        BinOp::Times => false,
-        BinOp::Divide => {
-            let x = real.is_real_reg(b);
-            barred_divide(stable, a, b, x)
-        }
-        BinOp::GreaterThan => false,
-        BinOp::GreaterThanEqual => false,
-        BinOp::LittleThan => false,
-        BinOp::LittleThanEqual => false,
-        BinOp::Equal => false,
-        BinOp::NotEqual => false,
-        BinOp::And => false,
-        BinOp::AndNot => false,
-        BinOp::Or => false,
-        BinOp::Xor => false,
-        BinOp::Complex => false,
+    if bin_number(op) == bin_number(BinOp::Divide) {
+        let x = real.is_real_reg(b);
+        return barred_divide(stable, a, b, x);
     }
+    false
 }
 
 fn barred_load(stable: bool, op: ArithOp, a: u8, real: bool) -> bool

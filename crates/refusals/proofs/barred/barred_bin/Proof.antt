@@ -1,6 +1,7 @@
 -- `barred_bin` meets its contract.
-use borrow.Author.Needs.{needs}
 use mathlib.Core.Path.{_∙_}
+use borrow.Author.Needs.{needs}
+use borrow.Author.Tests.{eq-eqb, ne-eqb}
 use Rattle.refusals.proofs.barred.barred_bin.Statement.{statement}
 use Rattle.refusals.proofs.barred.barred_bin.Tie as tie
 
@@ -8,21 +9,6 @@ pub barred-bin-spec : {M : Type 1} → statement M
 barred-bin-spec =
     tie.close
     (tie.spec
-    (λ c. search needs) (λ c. search needs) (λ c. search needs) (λ c. search needs) (λ c κs. search needs) (λ c κs. search needs)
-    (λ c. search needs) (λ c. search needs) (λ c. search needs) (λ c. search needs) (λ c. search needs) (λ c. search needs)
-    (λ c. search needs) (λ c. search needs) (λ c. search needs) (λ c. search needs) (λ c. search needs)
-    (λ c. simp (c .enum-told .given .1))
-    (λ c. simp (c .enum-told2 .given .1))
-    (λ c. simp (c .enum-told3 .given .1))
-    (λ c. simp (c .before .before .enum-told4 .given .1) (c .barred-divide .ensures ∙ simp (c .before .is-real-reg .ensures)))
-    (λ c. simp (c .enum-told5 .given .1))
-    (λ c. simp (c .enum-told6 .given .1))
-    (λ c. simp (c .enum-told7 .given .1))
-    (λ c. simp (c .enum-told8 .given .1))
-    (λ c. simp (c .enum-told9 .given .1))
-    (λ c. simp (c .enum-told10 .given .1))
-    (λ c. simp (c .enum-told11 .given .1))
-    (λ c. simp (c .enum-told12 .given .1))
-    (λ c. simp (c .enum-told13 .given .1))
-    (λ c. simp (c .enum-told14 .given .1))
-    (λ c. simp (c .enum-told15 .given .1)))
+    (λ c κs. search needs) (λ c κs. search needs) (λ c κs. search needs) (λ c κs. search needs)
+    (λ c. simp (← c .before .before .before .before .bin-number .ensures, ← c .before .before .before .bin-number2 .ensures, eq-eqb _ _ (c .before .before .if1 .taken)) (c .barred-divide .ensures ∙ simp (c .before .is-real-reg .ensures)))
+    (λ c. simp (← c .before .before .bin-number .ensures, ← c .before .bin-number2 .ensures, ne-eqb _ _ (c .if1 .left))))

@@ -1,5 +1,6 @@
 -- `barred_uni` meets its contract.
 use borrow.Author.Needs.{needs}
+use borrow.Author.Tests.{eq-eqb, ne-eqb}
 use Rattle.refusals.proofs.barred.barred_uni.Statement.{statement}
 use Rattle.refusals.proofs.barred.barred_uni.Tie as tie
 
@@ -7,27 +8,6 @@ pub barred-uni-spec : {M : Type 1} → statement M
 barred-uni-spec =
     tie.close
     (tie.spec
-    (λ c. search needs) (λ c. search needs) (λ c. search needs) (λ c κs. search needs) (λ c. search needs) (λ c. search needs)
-    (λ c. search needs) (λ c. search needs) (λ c. search needs) (λ c. search needs) (λ c. search needs) (λ c. search needs)
-    (λ c. search needs) (λ c. search needs) (λ c. search needs) (λ c. search needs) (λ c. search needs) (λ c. search needs)
-    (λ c. search needs) (λ c. search needs) (λ c. search needs)
-    (λ c. simp (c .enum-told .given .1))
-    (λ c. simp (c .enum-told2 .given .1))
-    (λ c. simp (c .before .enum-told3 .given .1) (c .barred-abs .ensures))
-    (λ c. simp (c .enum-told4 .given .1))
-    (λ c. simp (c .enum-told5 .given .1))
-    (λ c. simp (c .enum-told6 .given .1))
-    (λ c. simp (c .enum-told7 .given .1))
-    (λ c. simp (c .enum-told8 .given .1))
-    (λ c. simp (c .enum-told9 .given .1))
-    (λ c. simp (c .enum-told10 .given .1))
-    (λ c. simp (c .enum-told11 .given .1))
-    (λ c. simp (c .enum-told12 .given .1))
-    (λ c. simp (c .enum-told13 .given .1))
-    (λ c. simp (c .enum-told14 .given .1))
-    (λ c. simp (c .enum-told15 .given .1))
-    (λ c. simp (c .enum-told16 .given .1))
-    (λ c. simp (c .enum-told17 .given .1))
-    (λ c. simp (c .enum-told18 .given .1))
-    (λ c. simp (c .enum-told19 .given .1))
-    (λ c. simp (c .enum-told20 .given .1)))
+    (λ c κs. search needs) (λ c κs. search needs) (λ c κs. search needs)
+    (λ c. simp (← c .before .before .before .uni-number .ensures, ← c .before .before .uni-number2 .ensures, eq-eqb _ _ (c .before .if1 .taken)) (c .barred-abs .ensures))
+    (λ c. simp (← c .before .before .uni-number .ensures, ← c .before .uni-number2 .ensures, ne-eqb _ _ (c .if1 .left))))
