@@ -1,3 +1,4 @@
+mod Shared
 pub mod Reading
 pub mod Holding
 pub mod Round

@@ -1,28 +1,32 @@
 // A listing's record, read at a position.
 ghost use mathlib.Core.Path.{_≡_};
-ghost use mathlib.Core.Bool.{true};
-ghost use Rattle.mir.specs.Kinds.{uniFrom, biFrom, movFrom, loadFrom, saveFrom, loadConstFrom, fusedFrom, ifElseFrom};
-ghost use Rattle.mir.specs.declared.records.Record.{Record};
-ghost use Rattle.mir.specs.declared.records.Work.{Work};
+ghost use Rattle.kinds.specs.Answer as Answer;
 ghost use Rattle.records.specs.Record.{loadComplexFrom, saveComplexFrom, complexBiFrom, labelFrom, branchFrom, callFrom, branchIfFrom, fieldsFrom, recordFrom, recordAt, asRead, asNext};
+ghost use Rattle.records.specs.Shared.{workOf, asRecord};
 ghost use Rattle.records.specs.Summary.{summaryOf};
+use kinds::ReadInstruction;
+use kinds::read_bi;
+use kinds::read_fused;
+use kinds::read_if_else;
+use kinds::read_load;
+use kinds::read_load_const;
+use kinds::read_mov;
+use kinds::read_save;
+use kinds::read_uni;
 use mir::fields::Head;
 use mir::fields::Place;
 use mir::fields::above;
 use mir::fields::byte;
-use mir::fields::read_cond_place;
 use mir::fields::read_head;
 use mir::fields::read_place;
 use mir::fields::read_save_place;
 use mir::fields::u16_at;
 use mir::ops::FoundArith;
-use mir::ops::FoundBin;
-use mir::ops::FoundFused;
-use mir::ops::FoundUni;
 use mir::ops::arith_op;
 use mir::ops::bin_op;
 use mir::ops::fused_op;
 use mir::ops::uni_op;
+use mir::records::Instruction;
 use mir::records::Record;
 use mir::records::Work;
 
@@ -49,135 +53,60 @@ pub struct Summary {
     pub label: u8,
 }
 
-fn read_uni(s: &[u8]) -> ReadRecord
-    ensures { λ r. ⌜ asRead r ≡ uniFrom true (λ op dst s1. Record.Work (Work.Uni op dst s1)) (now (s .entry)) ⌝ }
+// The record of a kind that sheets share; of a sheet's own kinds, which a listing has not, any.
+fn work_of(i: Instruction) -> Work
+    ensures { λ r. ⌜ r ≡ workOf i ⌝ }
 {
-    match uni_op(byte(s, 4), true) {
-        FoundUni::Op(op) => {
-            if above(s, 5, 2, LAST) {
-                return ReadRecord::Refused(3);
-            }
-            ReadRecord::Got(Record::Work(Work::Uni {
-                op: op,
-                dst: byte(s, 5),
-                s1: byte(s, 6),
-            }))
-        }
-        FoundUni::Nothing => ReadRecord::Refused(2),
+    match i {
+        Instruction::Uni { op, dst, s1 } => Work::Uni {
+            op: op,
+            dst: dst,
+            s1: s1,
+        },
+        Instruction::Bi { op, dst, s1, s2 } => Work::Bi {
+            op: op,
+            dst: dst,
+            s1: s1,
+            s2: s2,
+        },
+        Instruction::Mov { dst, s1 } => Work::Mov { dst: dst, s1: s1 },
+        Instruction::Load { dst, loc } => Work::Load { dst: dst, loc: loc },
+        Instruction::Save { src, loc } => Work::Save { src: src, loc: loc },
+        Instruction::LoadConst { dst, idx } => Work::LoadConst { dst: dst, idx: idx },
+        Instruction::Fused { op, dst, a, b, c } => Work::Fused {
+            op: op,
+            dst: dst,
+            a: a,
+            b: b,
+            c: c,
+        },
+        Instruction::IfElse {
+            dst,
+            true_val,
+            false_val,
+            cond,
+        } => Work::IfElse {
+            dst: dst,
+            true_val: true_val,
+            false_val: false_val,
+            cond: cond,
+        },
+        Instruction::Nop => Work::Mov { dst: 0, s1: 0 },
+        Instruction::LoadMath { .. } => Work::Mov { dst: 0, s1: 0 },
+        Instruction::LoadConstMath { .. } => Work::Mov { dst: 0, s1: 0 },
+        Instruction::Label(_) => Work::Mov { dst: 0, s1: 0 },
+        Instruction::Branch(_) => Work::Mov { dst: 0, s1: 0 },
+        Instruction::BranchIf { .. } => Work::Mov { dst: 0, s1: 0 },
     }
 }
 
-fn read_bi(s: &[u8]) -> ReadRecord
-    ensures { λ r. ⌜ asRead r ≡ biFrom true (λ op dst s1 s2. Record.Work (Work.Bi op dst s1 s2)) (now (s .entry)) ⌝ }
+// What was read of a kind that sheets share, as a record.
+fn record_of(q: ReadInstruction) -> ReadRecord
+    ensures { λ r. ⌜ asRead r ≡ asRecord (Answer.asRead q) ⌝ }
 {
-    match bin_op(byte(s, 4), true) {
-        FoundBin::Op(op) => {
-            if above(s, 5, 3, LAST) {
-                return ReadRecord::Refused(3);
-            }
-            ReadRecord::Got(Record::Work(Work::Bi {
-                op: op,
-                dst: byte(s, 5),
-                s1: byte(s, 6),
-                s2: byte(s, 7),
-            }))
-        }
-        FoundBin::Nothing => ReadRecord::Refused(2),
-    }
-}
-
-fn read_mov(s: &[u8]) -> ReadRecord
-    ensures { λ r. ⌜ asRead r ≡ movFrom true (λ dst s1. Record.Work (Work.Mov dst s1)) (now (s .entry)) ⌝ }
-{
-    if above(s, 4, 2, LAST) {
-        return ReadRecord::Refused(3);
-    }
-    ReadRecord::Got(Record::Work(Work::Mov {
-        dst: byte(s, 4),
-        s1: byte(s, 5),
-    }))
-}
-
-fn read_load(s: &[u8]) -> ReadRecord
-    ensures { λ r. ⌜ asRead r ≡ loadFrom true (λ dst loc. Record.Work (Work.Load dst loc)) (now (s .entry)) ⌝ }
-{
-    if above(s, 4, 1, LAST) {
-        return ReadRecord::Refused(3);
-    }
-    match read_place(s, 5) {
-        Place::At(loc) => ReadRecord::Got(Record::Work(Work::Load {
-            dst: byte(s, 4),
-            loc: loc,
-        })),
-        Place::Bad => ReadRecord::Refused(4),
-    }
-}
-
-fn read_save(s: &[u8]) -> ReadRecord
-    ensures { λ r. ⌜ asRead r ≡ saveFrom true (λ src loc. Record.Work (Work.Save src loc)) (now (s .entry)) ⌝ }
-{
-    if above(s, 4, 1, LAST) {
-        return ReadRecord::Refused(3);
-    }
-    match read_save_place(s, 5) {
-        Place::At(loc) => ReadRecord::Got(Record::Work(Work::Save {
-            src: byte(s, 4),
-            loc: loc,
-        })),
-        Place::Bad => ReadRecord::Refused(4),
-    }
-}
-
-fn read_load_const(s: &[u8], count: usize) -> ReadRecord
-    ensures { λ r. ⌜ asRead r ≡ loadConstFrom true (λ dst idx. Record.Work (Work.LoadConst dst idx)) count (now (s .entry)) ⌝ }
-{
-    if above(s, 4, 1, LAST) {
-        return ReadRecord::Refused(3);
-    }
-    let idx = u16_at(s, 5);
-    if count <= idx as usize {
-        return ReadRecord::Refused(5);
-    }
-    ReadRecord::Got(Record::Work(Work::LoadConst {
-        dst: byte(s, 4),
-        idx: idx,
-    }))
-}
-
-fn read_fused(s: &[u8]) -> ReadRecord
-    ensures { λ r. ⌜ asRead r ≡ fusedFrom true (λ op dst a b c. Record.Work (Work.Fused op dst a b c)) (now (s .entry)) ⌝ }
-{
-    match fused_op(byte(s, 4), true) {
-        FoundFused::Op(op) => {
-            if above(s, 5, 4, LAST) {
-                return ReadRecord::Refused(3);
-            }
-            ReadRecord::Got(Record::Work(Work::Fused {
-                op: op,
-                dst: byte(s, 5),
-                a: byte(s, 6),
-                b: byte(s, 7),
-                c: byte(s, 8),
-            }))
-        }
-        FoundFused::Nothing => ReadRecord::Refused(2),
-    }
-}
-
-fn read_if_else(s: &[u8]) -> ReadRecord
-    ensures { λ r. ⌜ asRead r ≡ ifElseFrom true (λ dst t f loc. Record.Work (Work.IfElse dst t f loc)) (now (s .entry)) ⌝ }
-{
-    if above(s, 4, 3, LAST) {
-        return ReadRecord::Refused(3);
-    }
-    match read_cond_place(s, 7) {
-        Place::At(loc) => ReadRecord::Got(Record::Work(Work::IfElse {
-            dst: byte(s, 4),
-            true_val: byte(s, 5),
-            false_val: byte(s, 6),
-            cond: loc,
-        })),
-        Place::Bad => ReadRecord::Refused(4),
+    match q {
+        ReadInstruction::Got(i) => ReadRecord::Got(Record::Work(work_of(i))),
+        ReadInstruction::Refused(n) => ReadRecord::Refused(n),
     }
 }
 
@@ -275,14 +204,14 @@ fn read_fields(s: &[u8], kind: u16, count: usize) -> ReadRecord
     ensures { λ r. ⌜ asRead r ≡ fieldsFrom count kind (now (s .entry)) ⌝ }
 {
     match kind {
-        1 => read_uni(s),
-        2 => read_bi(s),
-        3 => read_mov(s),
-        4 => read_load(s),
-        5 => read_save(s),
-        6 => read_load_const(s, count),
-        7 => read_fused(s),
-        8 => read_if_else(s),
+        1 => record_of(read_uni(s, uni_op(byte(s, 4), true), true)),
+        2 => record_of(read_bi(s, bin_op(byte(s, 4), true), true)),
+        3 => record_of(read_mov(s, true)),
+        4 => record_of(read_load(s, true)),
+        5 => record_of(read_save(s, true)),
+        6 => record_of(read_load_const(s, count, true)),
+        7 => record_of(read_fused(s, fused_op(byte(s, 4), true), true)),
+        8 => record_of(read_if_else(s, true)),
         11 => read_load_complex(s),
         12 => read_save_complex(s),
         13 => read_complex_bi(s),
@@ -352,19 +281,29 @@ fn look_at(q: ReadRecord) -> Summary
     }
 }
 
+// What a pass needs of a kind that sheets share.
+fn look_work(q: ReadInstruction) -> Summary
+    ensures { λ r. ⌜ r ≡ summaryOf (asRecord (Answer.asRead q)) ⌝ }
+{
+    match q {
+        ReadInstruction::Got(_) => summarized(0, 0, 0),
+        ReadInstruction::Refused(n) => summarized(n, 0, 0),
+    }
+}
+
 // The fields of a kind, looked at.
 fn look_fields(s: &[u8], kind: u16, count: usize) -> Summary
     ensures { λ r. ⌜ r ≡ summaryOf (fieldsFrom count kind (now (s .entry))) ⌝ }
 {
     match kind {
-        1 => look_at(read_uni(s)),
-        2 => look_at(read_bi(s)),
-        3 => look_at(read_mov(s)),
-        4 => look_at(read_load(s)),
-        5 => look_at(read_save(s)),
-        6 => look_at(read_load_const(s, count)),
-        7 => look_at(read_fused(s)),
-        8 => look_at(read_if_else(s)),
+        1 => look_work(read_uni(s, uni_op(byte(s, 4), true), true)),
+        2 => look_work(read_bi(s, bin_op(byte(s, 4), true), true)),
+        3 => look_work(read_mov(s, true)),
+        4 => look_work(read_load(s, true)),
+        5 => look_work(read_save(s, true)),
+        6 => look_work(read_load_const(s, count, true)),
+        7 => look_work(read_fused(s, fused_op(byte(s, 4), true), true)),
+        8 => look_work(read_if_else(s, true)),
         11 => look_at(read_load_complex(s)),
         12 => look_at(read_save_complex(s)),
         13 => look_at(read_complex_bi(s)),

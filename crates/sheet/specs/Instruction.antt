@@ -12,7 +12,6 @@ use Rattle.mir.specs.Read.{Read, got, refused, refuse, andThen, registers, cons
 use Rattle.mir.specs.Field.{byteAt, bytesAt, u16At, takesKind, headFrom, placeAt}
 use Rattle.mir.specs.Kinds.{uniFrom, biFrom, movFrom, loadFrom, saveFrom, loadConstFrom, fusedFrom, ifElseFrom}
 use Rattle.mir.specs.Decode.{Item, readAt, Decoded, decoded}
-use Rattle.sheet.specs.declared.reader.ReadInstruction.{ReadInstruction}
 use Rattle.sheet.specs.declared.reader.NextInstruction.{NextInstruction}
 
 -- 9 LoadMath: op, dst, s1, place
@@ -83,11 +82,7 @@ instructionAt count s at = readAt (instructionFrom count) s at
 abbrev pub instructions : ℕ → List ℕ → Decoded Instruction
 instructions count s = decoded (instructionFrom count) s
 
--- the answers of the code
-abbrev pub asRead : ReadInstruction → Read Instruction
-asRead (ReadInstruction.Got i) = got i
-asRead (ReadInstruction.Refused n) = refused n
-
+-- the answer of the code
 abbrev pub asNext : NextInstruction → Read (Item Instruction)
 asNext (NextInstruction.Got i next) = got (record { item = i; next = next })
 asNext (NextInstruction.Refused n) = refused n

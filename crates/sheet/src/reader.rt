@@ -1,22 +1,24 @@
 // A sheet's instruction, read at a position.
 ghost use mathlib.Core.Path.{_≡_};
-ghost use mathlib.Core.Bool.{false};
-ghost use Rattle.mir.specs.Kinds.{uniFrom, biFrom, movFrom, loadFrom, saveFrom, loadConstFrom, fusedFrom, ifElseFrom};
-ghost use Rattle.mir.specs.declared.records.Instruction.{Instruction};
-ghost use Rattle.sheet.specs.Instruction.{loadMathFrom, loadConstMathFrom, labelFrom, branchFrom, branchIfFrom, fieldsFrom, instructionFrom, instructionAt, asRead, asNext};
+ghost use Rattle.kinds.specs.Answer.{asRead};
+ghost use Rattle.sheet.specs.Instruction.{loadMathFrom, loadConstMathFrom, labelFrom, branchFrom, branchIfFrom, fieldsFrom, instructionFrom, instructionAt, asNext};
+use kinds::ReadInstruction;
+use kinds::read_bi;
+use kinds::read_fused;
+use kinds::read_if_else;
+use kinds::read_load;
+use kinds::read_load_const;
+use kinds::read_mov;
+use kinds::read_save;
+use kinds::read_uni;
 use mir::fields::Head;
 use mir::fields::Place;
 use mir::fields::above;
 use mir::fields::byte;
-use mir::fields::read_cond_place;
 use mir::fields::read_head;
 use mir::fields::read_place;
-use mir::fields::read_save_place;
 use mir::fields::u16_at;
 use mir::ops::FoundArith;
-use mir::ops::FoundBin;
-use mir::ops::FoundFused;
-use mir::ops::FoundUni;
 use mir::ops::arith_op;
 use mir::ops::bin_op;
 use mir::ops::fused_op;
@@ -29,148 +31,10 @@ const LAST: u8 = 31;
 // The first label of a sheet's own.
 const FIRST_LABEL: u8 = 3;
 
-// An instruction, or the number that refuses it.
-pub enum ReadInstruction {
-    Got(Instruction),
-    Refused(u8),
-}
-
 // An instruction and the position after it, or the number that refuses it.
 pub enum NextInstruction {
     Got(Instruction, usize),
     Refused(u8),
-}
-
-fn read_uni(s: &[u8]) -> ReadInstruction
-    ensures { λ r. ⌜ asRead r ≡ uniFrom false Instruction.Uni (now (s .entry)) ⌝ }
-{
-    match uni_op(byte(s, 4), false) {
-        FoundUni::Op(op) => {
-            if above(s, 5, 2, LAST) {
-                return ReadInstruction::Refused(3);
-            }
-            ReadInstruction::Got(Instruction::Uni {
-                op: op,
-                dst: byte(s, 5),
-                s1: byte(s, 6),
-            })
-        }
-        FoundUni::Nothing => ReadInstruction::Refused(2),
-    }
-}
-
-fn read_bi(s: &[u8]) -> ReadInstruction
-    ensures { λ r. ⌜ asRead r ≡ biFrom false Instruction.Bi (now (s .entry)) ⌝ }
-{
-    match bin_op(byte(s, 4), false) {
-        FoundBin::Op(op) => {
-            if above(s, 5, 3, LAST) {
-                return ReadInstruction::Refused(3);
-            }
-            ReadInstruction::Got(Instruction::Bi {
-                op: op,
-                dst: byte(s, 5),
-                s1: byte(s, 6),
-                s2: byte(s, 7),
-            })
-        }
-        FoundBin::Nothing => ReadInstruction::Refused(2),
-    }
-}
-
-fn read_mov(s: &[u8]) -> ReadInstruction
-    ensures { λ r. ⌜ asRead r ≡ movFrom false Instruction.Mov (now (s .entry)) ⌝ }
-{
-    if above(s, 4, 2, LAST) {
-        return ReadInstruction::Refused(3);
-    }
-    ReadInstruction::Got(Instruction::Mov {
-        dst: byte(s, 4),
-        s1: byte(s, 5),
-    })
-}
-
-fn read_load(s: &[u8]) -> ReadInstruction
-    ensures { λ r. ⌜ asRead r ≡ loadFrom false Instruction.Load (now (s .entry)) ⌝ }
-{
-    if above(s, 4, 1, LAST) {
-        return ReadInstruction::Refused(3);
-    }
-    match read_place(s, 5) {
-        Place::At(loc) => ReadInstruction::Got(Instruction::Load {
-            dst: byte(s, 4),
-            loc: loc,
-        }),
-        Place::Bad => ReadInstruction::Refused(4),
-    }
-}
-
-fn read_save(s: &[u8]) -> ReadInstruction
-    ensures { λ r. ⌜ asRead r ≡ saveFrom false Instruction.Save (now (s .entry)) ⌝ }
-{
-    if above(s, 4, 1, LAST) {
-        return ReadInstruction::Refused(3);
-    }
-    match read_save_place(s, 5) {
-        Place::At(loc) => ReadInstruction::Got(Instruction::Save {
-            src: byte(s, 4),
-            loc: loc,
-        }),
-        Place::Bad => ReadInstruction::Refused(4),
-    }
-}
-
-fn read_load_const(s: &[u8], count: usize) -> ReadInstruction
-    ensures { λ r. ⌜ asRead r ≡ loadConstFrom false Instruction.LoadConst count (now (s .entry)) ⌝ }
-{
-    if above(s, 4, 1, LAST) {
-        return ReadInstruction::Refused(3);
-    }
-    let idx = u16_at(s, 5);
-    if count <= idx as usize {
-        return ReadInstruction::Refused(5);
-    }
-    ReadInstruction::Got(Instruction::LoadConst {
-        dst: byte(s, 4),
-        idx: idx,
-    })
-}
-
-fn read_fused(s: &[u8]) -> ReadInstruction
-    ensures { λ r. ⌜ asRead r ≡ fusedFrom false Instruction.Fused (now (s .entry)) ⌝ }
-{
-    match fused_op(byte(s, 4), false) {
-        FoundFused::Op(op) => {
-            if above(s, 5, 4, LAST) {
-                return ReadInstruction::Refused(3);
-            }
-            ReadInstruction::Got(Instruction::Fused {
-                op: op,
-                dst: byte(s, 5),
-                a: byte(s, 6),
-                b: byte(s, 7),
-                c: byte(s, 8),
-            })
-        }
-        FoundFused::Nothing => ReadInstruction::Refused(2),
-    }
-}
-
-fn read_if_else(s: &[u8]) -> ReadInstruction
-    ensures { λ r. ⌜ asRead r ≡ ifElseFrom false Instruction.IfElse (now (s .entry)) ⌝ }
-{
-    if above(s, 4, 3, LAST) {
-        return ReadInstruction::Refused(3);
-    }
-    match read_cond_place(s, 7) {
-        Place::At(loc) => ReadInstruction::Got(Instruction::IfElse {
-            dst: byte(s, 4),
-            true_val: byte(s, 5),
-            false_val: byte(s, 6),
-            cond: loc,
-        }),
-        Place::Bad => ReadInstruction::Refused(4),
-    }
 }
 
 fn read_load_math(s: &[u8]) -> ReadInstruction
@@ -265,14 +129,14 @@ fn read_fields(s: &[u8], kind: u16, count: usize) -> ReadInstruction
 {
     match kind {
         0 => ReadInstruction::Got(Instruction::Nop),
-        1 => read_uni(s),
-        2 => read_bi(s),
-        3 => read_mov(s),
-        4 => read_load(s),
-        5 => read_save(s),
-        6 => read_load_const(s, count),
-        7 => read_fused(s),
-        8 => read_if_else(s),
+        1 => read_uni(s, uni_op(byte(s, 4), false), false),
+        2 => read_bi(s, bin_op(byte(s, 4), false), false),
+        3 => read_mov(s, false),
+        4 => read_load(s, false),
+        5 => read_save(s, false),
+        6 => read_load_const(s, count, false),
+        7 => read_fused(s, fused_op(byte(s, 4), false), false),
+        8 => read_if_else(s, false),
         9 => read_load_math(s),
         10 => read_load_const_math(s, count),
         14 => read_label(s),

@@ -4,7 +4,8 @@ use native.Mathlib.Omega.{arith}
 use mathlib.Core.Path.{refl, sym, ap, _∙_}
 use Rattle.mir.specs.Field.{headFrom}
 use Rattle.mir.proofs.Decoding.{next-got, next-refused, next-past}
-use Rattle.sheet.specs.Instruction.{instructionFrom, asRead}
+use Rattle.kinds.specs.Answer.{asRead}
+use Rattle.sheet.specs.Instruction.{instructionFrom}
 use Rattle.sheet.proofs.reader.read_instruction.Statement.{statement}
 use Rattle.sheet.proofs.reader.read_instruction.Tie as tie
 
