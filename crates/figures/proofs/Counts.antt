@@ -23,6 +23,7 @@ use Rattle.leftovers.proofs.Branches.{AllTame, works-tame, View, working-one, l
 use Rattle.figures.specs.Shelf.{blockIn, branchOf}
 use Rattle.figures.specs.Told.{branchesIn}
 use Rattle.sheet.specs.declared.setup.Mode.{Mode}
+use Rattle.sheet.specs.Setup.{isStable}
 
 -- no branch of the sheet's own
 abbrev Free : Record → Type 0
@@ -211,7 +212,7 @@ module _ (mode : Mode) (count : ℕ) (is : List Instruction) (s : State) (v : Al
       → let rs = complexify mode is s .records in play k (block rs) going rs σ .played ≡ runs rs
   lowered-runs n k σ = go (shape mode count is s v e) (free-listed mode is s n)
     where
-      go : Shape (complexify mode is s) → AllFree (complexify mode is s .records)
+      go : Shape (isStable mode) (complexify mode is s) → AllFree (complexify mode is s .records)
           → let rs = complexify mode is s .records in play k (block rs) going rs σ .played ≡ runs rs
       go (unrooted r q) f = uncalled-runs k (complexify mode is s .records) q f σ
       go (rooted r first p t b last q g) f =
@@ -223,6 +224,6 @@ module _ (mode : Mode) (count : ℕ) (is : List Instruction) (s : State) (v : Al
   pub lowered-most : let rs = complexify mode is s .records in length rs + tally isCall rs * blockIn rs ≡ most rs
   lowered-most = go (shape mode count is s v e)
     where
-      go : Shape (complexify mode is s) → let rs = complexify mode is s .records in length rs + tally isCall rs * blockIn rs ≡ most rs
+      go : Shape (isStable mode) (complexify mode is s) → let rs = complexify mode is s .records in length rs + tally isCall rs * blockIn rs ≡ most rs
       go (unrooted r q) = rw (uncalled (complexify mode is s .records) q) (omega arith)
       go (rooted r first p t b last q g) = rw (g, around-block first last t p, block-of first last t p) refl

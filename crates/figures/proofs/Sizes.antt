@@ -26,6 +26,7 @@ use Rattle.figures.specs.Taken.{OwnLabel}
 use Rattle.figures.proofs.Counts.{plain-block, around-block}
 use Rattle.figures.proofs.Walks.{Encoded, encoded}
 use Rattle.sheet.specs.declared.setup.Mode.{Mode}
+use Rattle.sheet.specs.Setup.{isStable}
 
 records-few : (rs : List Record) → length rs ≤ length (encodeAll rs)
 records-few [] = omega arith
@@ -48,7 +49,7 @@ calls-within (r ∷ rs) = let i = calls-within rs in let b = one (isCall r) in o
 block-within : (m : Mode) (i : Instruction) (s : State) → OwnLabel (role i) → blockIn (rerun m i s .records) ≤ length (rerun m i s .records)
 block-within m i s own = by (view i) own
   where
-    said : (i : Instruction) → Works i → Said (Works i) (InSome i) s (rerun m i s) → blockIn (rerun m i s .records) ≤ length (rerun m i s .records)
+    said : (i : Instruction) → Works i → Said (isStable m) (Works i) (InSome i) s (rerun m i s) → blockIn (rerun m i s .records) ≤ length (rerun m i s .records)
     said i z (quiet q) = let b = plain-block (rerun m i s .records) (quiet-plain q) in omega (arith, b)
     said i z (directs n a r q g) = absurd (n z)
     said i z (calls h r q g) = let b = plain-block (rerun m i s .records) (plain false true (rerun m i s .records) q) in omega (arith, b)

@@ -19,6 +19,7 @@ use Rattle.figures.specs.Shelf.{counted, blockIn}
 use Rattle.figures.specs.Told.{branchesIn}
 use Rattle.figures.proofs.Counts.{tally-append, plain-block, plain-before, around-block}
 use Rattle.sheet.specs.declared.setup.Mode.{Mode}
+use Rattle.sheet.specs.Setup.{isStable}
 
 -- all instructions counted, from a count on
 abbrev pub total : Mode → List Instruction → Count → State → Count
@@ -59,7 +60,7 @@ rooted-block m count (i ∷ is) c s v e = go (rerun-said m i s) (rooted-block m 
     o : Out
     o = rerun m i s
 
-    go : Said (Works i) (InSome i) s o → (o .after .rootDefined ≡ true → total m is (counted c (role i) (o .records)) (o .after) .block ≡ c .block + blockIn (o .records))
+    go : Said (isStable m) (Works i) (InSome i) s o → (o .after .rootDefined ≡ true → total m is (counted c (role i) (o .records)) (o .after) .block ≡ c .block + blockIn (o .records))
         → total m is (counted c (role i) (o .records)) (o .after) .block ≡ c .block
     go (quiet q) ih = ih (q .rooted ∙ e) ∙ rw (plain-block (o .records) (quiet-plain q)) (omega arith)
     go (directs z a r q g) ih =
@@ -86,7 +87,7 @@ total-block m count (i ∷ is) c s v e =
     t' : Count
     t' = total m is (counted c (role i) (o .records)) (o .after)
 
-    go : Said (Works i) (InSome i) s o → (o .after .rootDefined ≡ false → t' .block ≡ c .block + blockIn (o .records) + blockIn (p .records))
+    go : Said (isStable m) (Works i) (InSome i) s o → (o .after .rootDefined ≡ false → t' .block ≡ c .block + blockIn (o .records) + blockIn (p .records))
         → (o .after .rootDefined ≡ true → t' .block ≡ c .block + blockIn (o .records))
         → t' .block ≡ c .block + blockIn (o .records ++ p .records)
     go (quiet q) ih st =

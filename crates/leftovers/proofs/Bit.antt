@@ -7,9 +7,10 @@ use Prim.Native.Nat.{ℕ, zero, suc, _-_, _*_, _/_, _%_, _^_, _≤_, _<_}
 use native.Mathlib.Nat.{div-div-eq-div-mul, pow-suc, mul-comm}
 use native.Mathlib.Omega.{arith}
 use native.Mathlib.Decide.{ℕ-discrete, decLt}
-use lib.ListN.{length, getD, set}
+use lib.ListN.{length, getD, set, List·getD-eq-default}
 use lib.Seq.{getD-set-same, getD-set-other, set-out}
 use lib.Dec.{eqb, eqb→eq}
+use borrow.Author.Tests.{eqb-true, ne-eqb}
 use Rattle.lowering.specs.Realness.{bitAt, clearAt}
 
 -- one bit of a byte, and the byte without it
@@ -81,6 +82,38 @@ bit-other zero (suc j) b n = bit-half (without b 0) j ∙ ap (λ (x : ℕ). bit 
 bit-other (suc k) zero b n = bit-lowest (without b (suc k)) b (without-low b k)
 bit-other (suc k) (suc j) b n =
     bit-half (without b (suc k)) j ∙ ap (λ (x : ℕ). bit x j) (without-half b k) ∙ bit-other k j (b / 2) (λ e. n (ap suc e)) ∙ sym (bit-half b j)
+
+-- the bit itself
+lowest : (b : ℕ) → bit (without b 0) 0 ≡ false
+unfolding bit without
+lowest b = go (eqb (b / 2 ^ 0 % 2) 1) refl
+  where
+    go : (q : Bool) → eqb (b / 2 ^ 0 % 2) 1 ≡ q → eqb (cond q (b - 2 ^ 0) b / 2 ^ 0 % 2) 1 ≡ false
+    go true e =
+        let h = eqb-true (b / 2 ^ 0 % 2) 1 e in
+        ne-eqb ((b - 2 ^ 0) / 2 ^ 0 % 2) 1 (omega arith)
+    go false e = e
+
+without-clear : (k b : ℕ) → bit (without b k) k ≡ false
+without-clear zero b = lowest b
+without-clear (suc k) b = bit-half (without b (suc k)) k ∙ ap (λ (x : ℕ). bit x k) (without-half b k) ∙ without-clear k (b / 2)
+
+zero-clear : (k : ℕ) → bit 0 k ≡ false
+unfolding bit
+zero-clear zero = refl
+zero-clear (suc k) = bit-half 0 k ∙ zero-clear k
+
+pub clear-here : (places : List ℕ) (i : ℕ) → bitAt (clearAt places i) i ≡ false
+unfolding bit without
+clear-here places i = go (decLt (i / 8) (length places))
+  where
+    b : ℕ
+    b = getD places (i / 8) 0
+
+    go : Dec (i / 8 < length places) → bit (getD (set places (i / 8) (without b (i % 8))) (i / 8) 0) (i % 8) ≡ false
+    go (yes l) = rw (getD-set-same places (i / 8) (without b (i % 8)) 0 l) (without-clear (i % 8) b)
+    go (no l) =
+        rw (set-out places (i / 8) (without b (i % 8)) (omega arith), List·getD-eq-default places 0 {n = i / 8} (omega arith)) (zero-clear (i % 8))
 
 pub clear-other : (places : List ℕ) (i j : ℕ) → j ≢ i → bitAt (clearAt places i) j ≡ bitAt places j
 unfolding bit without

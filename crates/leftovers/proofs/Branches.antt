@@ -16,6 +16,7 @@ use Rattle.mir.specs.declared.records.Instruction.{Instruction}
 use Rattle.mir.specs.Register.{re}
 use Rattle.player_machine.specs.Machine.{Store, at, isLabel, branches, End, ticks, Way, going, seeking, play, reach}
 use Rattle.sheet.specs.declared.setup.Mode.{Mode}
+use Rattle.sheet.specs.Setup.{isStable}
 use Rattle.lowering.specs.declared.realness.Realness.{Realness}
 use Rattle.lowering.specs.Complexifier as c
 use Rattle.lowering.specs.Complexifier.{State, Out, then, unlisted, aroundBlock}
@@ -66,7 +67,7 @@ tame-straight (Record.BranchIf c m e ∷ rs) p = absurd (p .0)
 pub works-tame : (m : Mode) (i : Instruction) (s : State) → Works i → AllTame (rerun m i s .records)
 works-tame m i s z = go (rerun-said m i s)
   where
-    go : Said (Works i) (InSome i) s (rerun m i s) → AllTame (rerun m i s .records)
+    go : Said (isStable m) (Works i) (InSome i) s (rerun m i s) → AllTame (rerun m i s .records)
     go (quiet q) = rw (q .listed) (tame-works (q .lines))
     go (directs n a r q g) = absurd (n z)
     go (calls e r q g) = tame-straight (rerun m i s .records) q

@@ -14,6 +14,7 @@ use Rattle.mir.specs.declared.records.Instruction.{Instruction}
 use Rattle.player_machine.specs.Machine.{isLabel}
 use Rattle.player_machine.specs.Jumps.{isReturn, tally, has, inBlock, breachFrom, breach}
 use Rattle.sheet.specs.declared.setup.Mode.{Mode}
+use Rattle.sheet.specs.Setup.{isStable}
 use Rattle.lowering.specs.Complexifier.{State}
 use Rattle.lowering.specs.Rerun.{complexify}
 use Rattle.leftovers.proofs.Listing.{AllOutside, Plain, plain-works, Shape, unrooted, rooted, shape}
@@ -182,7 +183,7 @@ pub no-breach : (m : Mode) (count : ℕ) (l : List Instruction) (s : State) → 
     → Fair [] (complexify m l s .records) → breach (complexify m l s .records) ≡ length (complexify m l s .records)
 no-breach m count l s v e f = go (shape m count l s v e)
   where
-    go : Shape (complexify m l s) → breach (complexify m l s .records) ≡ length (complexify m l s .records)
+    go : Shape (isStable m) (complexify m l s) → breach (complexify m l s .records) ≡ length (complexify m l s .records)
     go (unrooted r p) = alone (complexify m l s .records) p f
     go (rooted r first p t b last q g) =
         let g' = g ∙ ap (λ (rs : List Record). first ++ (Record.Branch 2 ∷ Record.Label 1 ∷ rs)) (append-assoc (map Record.Work t) (Record.Branch 0 ∷ Record.Label 2 ∷ []) last) in

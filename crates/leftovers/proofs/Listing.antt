@@ -1,5 +1,5 @@
 -- Which block a Call of a listing finds: the one that the first Root listed.
-use mathlib.Core.Path.{_≡_, refl, sym, ap, _∙_}
+use mathlib.Core.Path.{_≡_, refl, sym, ap, _∙_, subst}
 use mathlib.Core.Bool.{Bool, true, false, cond, true≢false}
 use mathlib.Core.List.{List, [], _∷_, _++_, map, append-assoc, map-append}
 use Prim.Native.Nat.{ℕ, _<_}
@@ -227,14 +227,23 @@ quiet-fused FusedOp.NegMulSub d a b e s =
     (quiet-then s _ (c.plus d 30 e) (quiet-by₂ timesLines promoted 30 a b s) (quiet-by₂ plusLines promoted d 30 e _))
     (quiet-by₁ (eachLines UniOp.Neg) copied d d _)
 
+-- lines t are the root block by mode, and the table k has the constants that it names
+pub record BlockIn (m : Bool) (t : List Work) (k : List ℕ) : Type 0 where
+  pub consts : List ℕ
+  pub is : c.blockOf m consts ≡ t
+  pub grown : Grown (c.blockConsts m consts) k
+
+block-in-more : {m : Bool} {t : List Work} {k k' : List ℕ} → BlockIn m t k → Grown k k' → BlockIn m t k'
+block-in-more b g = record { consts = b .consts; is = b .is; grown = grown-then (b .grown) g }
+
 -- what an instruction lists: working records; a label or a branch (not under N), of the sheet's own under R; a Call of the block that
 -- stands already; or a Call and then the block
-pub data Said (N R : Type 0) (s : State) (o : Out) : Type 0 where
-  quiet : Quiet s o → Said N R s o
-  directs : (N → ⊥) → o .after ≡ s → (r : Record) → (R → Outside true false r) → o .records ≡ r ∷ [] → Said N R s o
-  calls : s .rootDefined ≡ true → o .after .rootDefined ≡ true → AllOutside false true (o .records) → Grown (s .consts) (o .after .consts) → Said N R s o
+pub data Said (m : Bool) (N R : Type 0) (s : State) (o : Out) : Type 0 where
+  quiet : Quiet s o → Said m N R s o
+  directs : (N → ⊥) → o .after ≡ s → (r : Record) → (R → Outside true false r) → o .records ≡ r ∷ [] → Said m N R s o
+  calls : s .rootDefined ≡ true → o .after .rootDefined ≡ true → AllOutside false true (o .records) → Grown (s .consts) (o .after .consts) → Said m N R s o
   opens : s .rootDefined ≡ false → o .after .rootDefined ≡ true → (first : List Record) → AllOutside false true first
-      → (t : List Work) → ((k : List ℕ) → Block k t) → o .records ≡ first ++ aroundBlock t → Grown (s .consts) (o .after .consts) → Said N R s o
+      → (t : List Work) → BlockIn m t (o .after .consts) → o .records ≡ first ++ aroundBlock t → Grown (s .consts) (o .after .consts) → Said m N R s o
 
 block-grown : (m : Bool) (k : List ℕ) → Grown k (c.blockConsts m k)
 unfolding c.blockConsts
@@ -242,14 +251,14 @@ block-grown true k = grown-three floor mask infinity
 block-grown false k = same
 
 define-said : (N R : Type 0) (m : Bool) (s : State) (o : Out) → o .after .rootDefined ≡ s .rootDefined → AllOutside false true (o .records)
-    → Grown (s .consts) (o .after .consts) → (x : Bool) → o .after .rootDefined ≡ x → Said N R s (then o (c.defineRoot x m))
+    → Grown (s .consts) (o .after .consts) → (x : Bool) → o .after .rootDefined ≡ x → Said m N R s (then o (c.defineRoot x m))
 unfolding then c.defineRoot unlisted
 define-said N R m s o e p g true h = calls (sym e ∙ h) h (outside-append false true (o .records) [] p tt) g
 define-said N R m s o e p g false h =
-    opens (sym e ∙ h) refl (o .records) p (c.blockOf m (o .after .consts)) (λ k. root-block-fine k m (o .after .consts)) refl
+    opens (sym e ∙ h) refl (o .records) p (c.blockOf m (o .after .consts)) (record { consts = o .after .consts; is = refl; grown = same }) refl
     (grown-then g (block-grown m (o .after .consts)))
 
-root-said : (N R : Type 0) (m : Bool) (d a : ℕ) (s : State) → Said N R s (c.root m d a s)
+root-said : (N R : Type 0) (m : Bool) (d a : ℕ) (s : State) → Said m N R s (c.root m d a s)
 unfolding c.root
 root-said N R m d a s = unfold then in define-said N R m s o3 equal before more-consts (o3 .after .rootDefined) refl
   where
@@ -279,12 +288,12 @@ root-said N R m d a s = unfold then in define-said N R m s o3 equal before more-
         outside-append false true (o1 .records ++ Record.Call 1 ∷ []) (c.fmov d 30 (o2 .after) .records)
         (outside-append false true (o1 .records) (Record.Call 1 ∷ []) (quiet-outside false true q1) (refl, tt)) (quiet-outside false true q3)
 
-real-root-said : (N R : Type 0) (m x : Bool) (d a : ℕ) (s : State) → Said N R s (c.realRootBy m x d a s)
+real-root-said : (N R : Type 0) (m x : Bool) (d a : ℕ) (s : State) → Said m N R s (c.realRootBy m x d a s)
 unfolding c.realRootBy
 real-root-said N R m true d a s = quiet (record { rooted = refl; lines = realRootLines d a; listed = refl; grown = same })
 real-root-said N R m false d a s = root-said N R m d a s
 
-uni-said : (N R : Type 0) (m : Mode) (op : UniOp) (d a : ℕ) (s : State) → Said N R s (rerunUni m op d a s)
+uni-said : (N R : Type 0) (m : Mode) (op : UniOp) (d a : ℕ) (s : State) → Said (isStable m) N R s (rerunUni m op d a s)
 unfolding rerunUni c.half c.abs c.realRoot c.recip
 uni-said N R m UniOp.Neg d a s = quiet (quiet-by₁ (eachLines UniOp.Neg) copied d a s)
 uni-said N R m UniOp.Not d a s = quiet (quiet-by₁ notLines asReal d a s)
@@ -311,7 +320,7 @@ uni-said N R m UniOp.TimesNegI d a s = quiet (quiet-by₁ timesNegILines asCompl
 abbrev pub InSome : Instruction → Type 0
 InSome i = (count : ℕ) × InRange count i
 
-pub rerun-said : (m : Mode) (i : Instruction) (s : State) → Said (Works i) (InSome i) s (rerun m i s)
+pub rerun-said : (m : Mode) (i : Instruction) (s : State) → Said (isStable m) (Works i) (InSome i) s (rerun m i s)
 unfolding rerun c.directed
 rerun-said m Instruction.Nop s = quiet (quiet-none s)
 rerun-said m (Instruction.Uni op d a) s = uni-said (Unit {0}) (InSome (Instruction.Uni op d a)) m op d a s
@@ -334,16 +343,16 @@ rerun-said m (Instruction.BranchIf c l e) s = directs (λ n. n) refl (Record.Bra
 -- ---- what a whole sheet lists
 
 -- a listing without Root and without a Call, or the plain records up to the first Root's moves, the block, and plain records
-pub data Shape (o : Out) : Type 0 where
-  unrooted : o .after .rootDefined ≡ false → AllOutside true false (o .records) → Shape o
-  rooted : o .after .rootDefined ≡ true → (first : List Record) → Plain first → (t : List Work) → ((k : List ℕ) → Block k t)
-      → (last : List Record) → Plain last → o .records ≡ first ++ (aroundBlock t ++ last) → Shape o
+pub data Shape (m : Bool) (o : Out) : Type 0 where
+  unrooted : o .after .rootDefined ≡ false → AllOutside true false (o .records) → Shape m o
+  rooted : o .after .rootDefined ≡ true → (first : List Record) → Plain first → (t : List Work) → BlockIn m t (o .after .consts)
+      → (last : List Record) → Plain last → o .records ≡ first ++ (aroundBlock t ++ last) → Shape m o
 
 -- the table only grows
 pub rerun-grows : (m : Mode) (i : Instruction) (s : State) → Grown (s .consts) (rerun m i s .after .consts)
 rerun-grows m i s = go (rerun-said m i s)
   where
-    go : Said (Works i) (InSome i) s (rerun m i s) → Grown (s .consts) (rerun m i s .after .consts)
+    go : Said (isStable m) (Works i) (InSome i) s (rerun m i s) → Grown (s .consts) (rerun m i s .after .consts)
     go (quiet q) = q .grown
     go (directs z e r p l) = rw e same
     go (calls e r q g) = g
@@ -367,7 +376,7 @@ stays m count (i ∷ l) s v e = go (rerun-said m i s) (stays m count l (rerun m 
     p : Out
     p = complexify m l (o .after)
 
-    go : Said (Works i) (InSome i) s o → (o .after .rootDefined ≡ true → (p .after .rootDefined ≡ true) × Plain (p .records))
+    go : Said (isStable m) (Works i) (InSome i) s o → (o .after .rootDefined ≡ true → (p .after .rootDefined ≡ true) × Plain (p .records))
         → (p .after .rootDefined ≡ true) × Plain (o .records ++ p .records)
     go (quiet q) ih = let h = ih (q .rooted ∙ e) in (h .0, plain-append (o .records) (p .records) (quiet-plain q) (h .1))
     go (directs z a r q g) ih =
@@ -376,7 +385,7 @@ stays m count (i ∷ l) s v e = go (rerun-said m i s) (stays m count l (rerun m 
     go (calls e r q g) ih = let h = ih r in (h .0, plain-append (o .records) (p .records) (plain false true (o .records) q) (h .1))
     go (opens n r first q t b g h) ih = absurd (true≢false (sym e ∙ n))
 
-pub shape : (m : Mode) (count : ℕ) (l : List Instruction) (s : State) → AllIn count l → s .rootDefined ≡ false → Shape (complexify m l s)
+pub shape : (m : Mode) (count : ℕ) (l : List Instruction) (s : State) → AllIn count l → s .rootDefined ≡ false → Shape (isStable m) (complexify m l s)
 unfolding complexify then unlisted
 shape m count [] s v e = unrooted e tt
 shape m count (i ∷ l) s v e =
@@ -389,20 +398,20 @@ shape m count (i ∷ l) s v e =
     p = complexify m l (o .after)
 
     -- records without a Call before what is listed behind
-    onto : AllOutside true false (o .records) → Shape p → Shape (then o (complexify m l))
+    onto : AllOutside true false (o .records) → Shape (isStable m) p → Shape (isStable m) (then o (complexify m l))
     onto q (unrooted r g) = unfold then in unrooted r (outside-append true false (o .records) (p .records) q g)
     onto q (rooted r first pl t b last pl' g) =
         unfold then in
         rooted r (o .records ++ first) (plain-append (o .records) first (plain true false (o .records) q) pl) t b last pl'
         (rw g (sym (append-assoc (o .records) first (aroundBlock t ++ last))))
 
-    go : Said (Works i) (InSome i) s o → (o .after .rootDefined ≡ false → Shape p)
+    go : Said (isStable m) (Works i) (InSome i) s o → (o .after .rootDefined ≡ false → Shape (isStable m) p)
         → (o .after .rootDefined ≡ true → (p .after .rootDefined ≡ true) × Plain (p .records))
-        → Shape (then o (complexify m l))
+        → Shape (isStable m) (then o (complexify m l))
     go (calls h r q g) ih st = absurd (true≢false (sym h ∙ e))
     go (opens n r first q t b g g') ih st =
         let h = st r in
-        unfold then in rooted (h .0) first (plain false true first q) t b (p .records) (h .1) (rw g (append-assoc first (aroundBlock t) (p .records)))
+        unfold then in rooted (h .0) first (plain false true first q) t (block-in-more b (grows m l (o .after))) (p .records) (h .1) (rw g (append-assoc first (aroundBlock t) (p .records)))
     go (quiet q) ih st = onto (quiet-outside true false q) (ih (q .rooted ∙ e))
     go (directs z a r q g) ih st = onto (rw g (q (count, v .0), tt)) (ih (ap (λ (s : State). s .rootDefined) a ∙ e))
 
@@ -432,6 +441,6 @@ pub finds-block : (k : List ℕ) (m : Mode) (count : ℕ) (l : List Instruction)
     → complexify m l s .after .rootDefined ≡ true → Block k (block (complexify m l s .records))
 finds-block k m count l s v e h = go (shape m count l s v e)
   where
-    go : Shape (complexify m l s) → Block k (block (complexify m l s .records))
+    go : Shape (isStable m) (complexify m l s) → Block k (block (complexify m l s .records))
     go (unrooted r g) = absurd (true≢false (sym h ∙ r))
-    go (rooted r first p t b last p' g) = rw (g, block-of first last t p) (b k)
+    go (rooted r first p t b last p' g) = rw (g, block-of first last t p) (subst (Block k) (b .is) (root-block-fine k (isStable m) (b .consts)))

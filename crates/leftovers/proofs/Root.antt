@@ -109,11 +109,8 @@ seek-reach k b l (a ∷ t) j rest σ = rw suc-add (seek-reach k b l t j rest σ)
 -- ---- the block, passed over where it stands
 
 module _ (k : List ℕ) (B : List Work) (t : List Work) where
-  stretch : List Record
-  stretch = Record.Branch 2 ∷ Record.Label 1 ∷ (map Record.Work t ++ Record.Branch 0 ∷ Record.Label 2 ∷ [])
-
-  over-play : (rest : List Record) (σ : Store) → play k B going (stretch ++ rest) σ ≡ ticks 2 (play k B going rest σ)
-  unfolding stretch play
+  over-play : (rest : List Record) (σ : Store) → play k B going (aroundBlock t ++ rest) σ ≡ ticks 2 (play k B going rest σ)
+  unfolding play
   over-play rest σ =
       rw (
         append-assoc (map Record.Work t) (Record.Branch 0 ∷ Record.Label 2 ∷ []) rest,
@@ -121,9 +118,9 @@ module _ (k : List ℕ) (B : List Work) (t : List Work) where
       )
       (ticks-ticks 1 1 (play k B going rest σ))
 
-  over-reach : (j : ℕ) (rest : List Record) (σ : Store)
-      → reach k B going (length stretch + j) (stretch ++ rest) σ ≡ reach k B going j rest σ
-  unfolding stretch reach
+  pub over-reach : (j : ℕ) (rest : List Record) (σ : Store)
+      → reach k B going (length (aroundBlock t) + j) (aroundBlock t ++ rest) σ ≡ reach k B going j rest σ
+  unfolding reach
   over-reach j rest σ =
       rw (
         suc-add (suc (length (map Record.Work t ++ Record.Branch 0 ∷ Record.Label 2 ∷ []))) j,
@@ -142,8 +139,8 @@ around-keeps : (k : List ℕ) (B : List Work) (X Z : ℕ → Type 0) (H : Type 0
 around-keeps k B X Z H t ρ hd = record {
   F = λ σ. σ;
   n = 2;
-  plays = unfold stretch in over-play k B t;
-  stands = unfold stretch in over-reach k B t;
+  plays = over-play k B t;
+  stands = over-reach k B t;
   agree = λ _ g. g;
   frame = λ σ r h n. (refl, inl refl);
   held = λ few. and tt (and tt (held-append (hd few) (and tt (and tt none))));

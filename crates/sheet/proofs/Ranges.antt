@@ -1,7 +1,7 @@
 -- The instructions that are read name registers, places, constants and labels within a sheet's limits, and none is refused by 0.
 use Prim.Native.Nat.{ℕ, suc, _≤_, _<_}
 use mathlib.Core.Path.{_≡_}
-use mathlib.Core.Bool.{false}
+use mathlib.Core.Bool.{true, false}
 use mathlib.Core.List.{List}
 use native.Mathlib.Omega.{arith}
 use lib.Dec.{ltb, eqb}
@@ -10,7 +10,7 @@ use Rattle.mir.specs.declared.records.Loc.{Loc}
 use Rattle.mir.specs.declared.records.Instruction.{Instruction}
 use Rattle.mir.specs.Place.{index}
 use Rattle.mir.specs.Operation.{arithOps}
-use Rattle.mir.specs.Takes.{takesArith}
+use Rattle.mir.specs.Takes.{takesArith, takesBin}
 use Rattle.mir.specs.Read.{refused}
 use Rattle.mir.specs.Field.{byteAt, bytesAt, u16At, takesKind}
 use Rattle.mir.proofs.IfRead.{IfRead, read, told, not-zero, tested, parted, chosen, limited, counted, operation, place, head, Saved, Stacked}
@@ -21,7 +21,7 @@ use Rattle.sheet.specs.Instruction.{fieldsFrom, instructionFrom}
 abbrev pub InRange : ℕ → Instruction → Type 0
 InRange count Instruction.Nop = Unit {0}
 InRange count (Instruction.Uni op d a) = (d < 32) × (a < 32)
-InRange count (Instruction.Bi op d a b) = (d < 32) × (a < 32) × (b < 32)
+InRange count (Instruction.Bi op d a b) = (d < 32) × (a < 32) × (b < 32) × (takesBin false op ≡ true)
 InRange count (Instruction.Mov d a) = (d < 32) × (a < 32)
 InRange count (Instruction.Load d p) = (d < 32) × (index p < 256)
 InRange count (Instruction.Save a p) = (a < 32) × (index p < 256) × Saved p
@@ -55,7 +55,7 @@ in-range count kind s =
     let b = byteAt s in
     chosen kind 0 (λ k. read tt)
     (chosen kind 1 (λ k. uni false s Instruction.Uni (λ op d a t x y. (below x, below y)))
-    (chosen kind 2 (λ k. bi false s Instruction.Bi (λ op d a b t x y z. (below x, below y, below z)))
+    (chosen kind 2 (λ k. bi false s Instruction.Bi (λ op d a b t x y z. (below x, below y, below z, t)))
     (chosen kind 3 (λ k. mov false s Instruction.Mov (λ d a x y. (below x, below y)))
     (chosen kind 4 (λ k. load false s Instruction.Load (λ d p x q. (below x, below q)))
     (chosen kind 5 (λ k. saving false s Instruction.Save (λ a p x q. (below x, saved-in p q, q)))
