@@ -19,4 +19,3 @@ pub mod Theorem
 pub mod Tidying
 pub mod Tidied
 pub mod Settling
-pub mod Example
