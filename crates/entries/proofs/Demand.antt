@@ -9,7 +9,7 @@ use Rattle.leftovers.proofs.Theorem.{demand-3}
 use Rattle.entries.specs.Entries.{left, EntriesDemand3}
 use Rattle.entries.proofs.Entered.{Left, entered}
 
-same : (sheet listing constants : List ℕ) → Left sheet listing constants → lowered sheet (length listing) ≡ left sheet listing constants
+pub same : (sheet listing constants : List ℕ) → Left sheet listing constants → lowered sheet (length listing) ≡ left sheet listing constants
 same sheet listing constants f =
     λ j. record { sheet = sheetOf sheet; listing = sym (f .bytes) j; constants = sym (f .words) j; last = sym (f .last) j }
 

@@ -1,5 +1,5 @@
 -- What the entry `lower` leaves is what `Leftovers` calls lowered.
-use Prim.Native.Nat.{ℕ}
+use Prim.Native.Nat.{ℕ, _≤_}
 use mathlib.Core.Path.{_≡_, refl, ap, _∙_}
 use mathlib.Core.Bool.{Bool, true, false, true≢false, cond, not, _||_}
 use mathlib.Core.List.{List}
@@ -7,7 +7,7 @@ use native.Mathlib.Omega.{arith}
 use lib.ListN.{length, take}
 use lib.Seq.{sets}
 use lib.Dec.{ltb, eqb}
-use borrow.Author.Tests.{ltb-false, eqb-true, not-false}
+use borrow.Author.Tests.{ltb-false, eqb-true, not-false, le-ltb}
 use Rattle.sheet.specs.Setup.{setup}
 use Rattle.lowering.specs.Lower.{lowerSheet}
 use Rattle.complexify.specs.Entry.{wrongSetup, refusedSetup, answerOf, answer}
@@ -66,3 +66,13 @@ module _ (sheet listing constants : List ℕ) where
 
 pub entered : (sheet listing constants : List ℕ) → answer sheet listing constants .number ≡ 0 → Left sheet listing constants
 entered sheet listing constants e = accepts sheet listing constants (wrongSetup sheet listing constants) refl e
+
+-- and what lowering accepts, the entry does
+accepts-setup : (n r c : ℕ) → n ≡ 0 → r ≤ 65536 → c ≡ 256 → (not (eqb n 0) || (ltb 65536 r || not (eqb c 256))) ≡ false
+accepts-setup n r c e h f = rw (e, le-ltb 65536 r h, f)
+
+pub answered : (sheet listing constants : List ℕ) → Accepted sheet (length listing) → length constants ≡ 256 → answer sheet listing constants .number ≡ 0
+answered sheet listing constants a c =
+    ap (λ b. cond b refusedSetup (answerOf (lowerSheet sheet (length listing))) .number)
+    (accepts-setup (setup sheet .number) (length listing) (length constants) (a .right) (a .slice) c)
+    ∙ a .number

@@ -9,8 +9,9 @@ use native.Mathlib.Decide.{ℕ-discrete}
 use lib.ListN.{getD, length-set}
 use lib.Seq.{getD-set-other}
 use lib.Dec.{lit<, lit≤}
-use lib.Ieee.{ofBits, toBits, mul}
+use lib.Ieee.{ofBits, toBits, mul, eq}
 use Rattle.mir.specs.declared.ops.UniOp.{UniOp}
+use Rattle.mir.specs.declared.ops.BinOp.{BinOp}
 use Rattle.mir.specs.declared.records.Instruction.{Instruction}
 use Rattle.mir.specs.Register.{re, im}
 use Rattle.mir.specs.Length.{lengthOf}
@@ -26,22 +27,22 @@ use Rattle.player_machine.specs.Jumps.{breach}
 use Rattle.player_machine.specs.Answer.{answer}
 use Rattle.lowering.specs.declared.realness.Realness.{Realness}
 use Rattle.lowering.specs.Realness.{isRealReg}
-use Rattle.lowering.specs.Lines.{realLines}
+use Rattle.lowering.specs.Lines.{realLines, ensureLines, compareLines}
 use Rattle.lowering.specs.Complexifier as c
 use Rattle.lowering.specs.Complexifier.{then, unlisted, byOne}
-use Rattle.lowering.specs.Rerun.{rerunUni, rerun, complexify}
+use Rattle.lowering.specs.Rerun.{rerunUni, rerunBin, rerun, complexify}
 use Rattle.lowering.specs.Labels.{role, later, misplaced, unequal, passed}
 use Rattle.lowering.specs.Lower.{lowerFrom, lowerSheet}
-use Rattle.leftovers.specs.Leftovers.{Leftover, half, Alike, sheetOf, Accepted, Lowered, lowered, realAt, playOn, standing}
+use Rattle.leftovers.specs.Leftovers.{Leftover, half, Alike, sheetOf, Accepted, Lowered, lowered, realAt, playOn, standing, Mixing, Changes, EndAlike, Given}
 use Rattle.leftovers.specs.Kept.{kept-im}
-use Rattle.leftovers.specs.Examples.{zeros, mixing, touched, Needed, clean, Met, jumping, JumpedOver}
+use Rattle.leftovers.specs.Examples.{room, zeros, mixing, clean, jumping, clearing, touched, marked, compared}
 use Rattle.leftovers.proofs.Words.{not-both}
 use Rattle.leftovers.proofs.Sought.{none≢some}
 
 -- what is opened to lower a sheet, to stand at its points and to play on
 unfoldable lower : List ℕ → Lowered
-unfolding lowerSheet setup u16At lowerFrom role later misplaced unequal passed decoded instructionFrom takesKind lengthOf uniOps rerun rerunUni byOne realLines recordOf c.directed c.half re im complexify then unlisted
-lower bytes = lowered bytes 65536
+unfolding lowerSheet setup u16At lowerFrom role later misplaced unequal passed decoded instructionFrom takesKind lengthOf uniOps binOps rerun rerunUni rerunBin byOne realLines ensureLines compareLines recordOf c.directed c.emit c.half c.ensureComplex c.compare re im complexify then unlisted
+lower bytes = lowered bytes room
 
 unfoldable stood : List ℕ → ℕ → Option Store
 unfolding lower zeros reach recordFrom binOps exec put writes binWord
@@ -67,7 +68,7 @@ touches ρ e =
 
 -- ---- the first
 
-mixing-accepted : Accepted mixing 65536
+mixing-accepted : Accepted mixing room
 unfolding mixing lower
 mixing-accepted = record { right = refl; slice = lit≤ tt; number = refl }
 
@@ -91,27 +92,34 @@ with-it : seventh mixing touched ≡ 0x3ff0_0000_0000_0000
 unfolding mixing touched seventh
 with-it = refl
 
-pub needed : Needed mixing 1
-unfolding lower stood seventh im
-needed =
+pub mixing-given : Given mixing room zeros 1 zeros touched
+unfolding lower stood
+mixing-given =
     record {
-      given =
-          record {
-            accepted = mixing-accepted;
-            words = unfold zeros in refl;
-            upper = unfold mixing in lit≤ tt;
-            stands = mixing-stands;
-            changed = touches (realAt (sheetOf mixing) 1) mixing-real;
-          };
-      differs = λ e. differ (sym without ∙ e .stores .outside 7 (not-both (lower mixing .last) 7 (kept-im 1 (lit< tt) mixing-last)) ∙ with-it);
+      accepted = mixing-accepted;
+      words = unfold zeros in refl;
+      upper = unfold mixing in lit≤ tt;
+      stands = mixing-stands;
+      changed = touches (realAt (sheetOf mixing) 1) mixing-real;
     }
+
+pub mixing-differs : EndAlike (lowered mixing room) 1 zeros touched → ⊥
+unfolding lower seventh im
+mixing-differs e = differ (sym without ∙ e .stores .outside 7 (not-both (lower mixing .last) 7 (kept-im 1 (lit< tt) mixing-last)) ∙ with-it)
   where
     differ : _≡_ {A = ℕ} 0 0x3ff0_0000_0000_0000 → ⊥
     differ q = omega arith
 
+pub other : zeros ≡ touched → ⊥
+unfolding zeros touched
+other e = differ (ap (λ (σ : Store). at σ 5) e)
+  where
+    differ : _≡_ {A = ℕ} 0 0x4000_0000_0000_0000 → ⊥
+    differ q = omega arith
+
 -- ---- the second
 
-clean-accepted : Accepted clean 65536
+clean-accepted : Accepted clean room
 unfolding clean lower
 clean-accepted = record { right = refl; slice = lit≤ tt; number = refl }
 
@@ -141,37 +149,32 @@ same-destination d a e b q = cc
 no-half : (d a : ℕ) → Instruction.Nop ≡ Instruction.Uni UniOp.Half d a → ⊥
 no-half d a q = let z : _≡_ {A = ℕ} 0 1 = cc in omega arith
 
-clean-unmixed : (j d a : ℕ) → 2 ≤ j → getD (sheetOf clean .instructions) j Instruction.Nop ≡ Instruction.Uni UniOp.Half d a
+clean-no-half : (j d a : ℕ) → 2 ≤ j → getD (sheetOf clean .instructions) j Instruction.Nop ≡ Instruction.Uni UniOp.Half d a
     → isRealReg (realAt (sheetOf clean) j) d ≡ false → ⊥
-clean-unmixed zero d a h e q = omega arith
-clean-unmixed (suc zero) d a h e q = omega arith
-clean-unmixed (suc (suc zero)) d a h e q =
+clean-no-half zero d a h e q = omega arith
+clean-no-half (suc zero) d a h e q = omega arith
+clean-no-half (suc (suc zero)) d a h e q =
     let x = same-destination 1 0 d a (sym clean-half ∙ e) in
     true≢false (sym clean-into ∙ ap (isRealReg (realAt (sheetOf clean) 2)) x ∙ q)
-clean-unmixed (suc (suc (suc j))) d a h e q = no-half d a (sym (clean-after j) ∙ e)
+clean-no-half (suc (suc (suc j))) d a h e q = no-half d a (sym (clean-after j) ∙ e)
 
-pub met : Met clean 2
+pub clean-given : Given clean room zeros 2 zeros touched
 unfolding lower stood
-met =
+clean-given =
     record {
-      given =
-          record {
-            accepted = clean-accepted;
-            words = unfold zeros in refl;
-            upper = unfold clean in lit≤ tt;
-            stands = clean-stands;
-            changed = touches (realAt (sheetOf clean) 2) clean-real;
-          };
-      unmixed = λ m. clean-unmixed (m .j) (m .d) (m .a) (m .later) (m .isHalf) (m .intoComplex);
-      other = λ e. differ (unfold zeros touched in ap (λ (σ : Store). at σ 5) e);
+      accepted = clean-accepted;
+      words = unfold zeros in refl;
+      upper = unfold clean in lit≤ tt;
+      stands = clean-stands;
+      changed = touches (realAt (sheetOf clean) 2) clean-real;
     }
-  where
-    differ : _≡_ {A = ℕ} 0 0x4000_0000_0000_0000 → ⊥
-    differ q = omega arith
+
+pub clean-unmixed : Mixing (lowered clean room) 2 zeros → ⊥
+clean-unmixed m = clean-no-half (m .j) (m .d) (m .a) (m .later) (m .isHalf) (m .intoComplex)
 
 -- ---- the third
 
-jumping-accepted : Accepted jumping 65536
+jumping-accepted : Accepted jumping room
 unfolding jumping lower
 jumping-accepted = record { right = refl; slice = lit≤ tt; number = refl }
 
@@ -206,35 +209,76 @@ branch-no-half d a q = let z : _≡_ {A = ℕ} 0 1 = cc in omega arith
 label-no-half : (d a : ℕ) → Instruction.Label 3 ≡ Instruction.Uni UniOp.Half d a → ⊥
 label-no-half d a q = let z : _≡_ {A = ℕ} 0 1 = cc in omega arith
 
-jumping-unmixed : (j d a : ℕ) (α : Store) → 1 ≤ j → getD (sheetOf jumping .instructions) j Instruction.Nop ≡ Instruction.Uni UniOp.Half d a
+jumping-no-half : (j d a : ℕ) (α : Store) → 1 ≤ j → getD (sheetOf jumping .instructions) j Instruction.Nop ≡ Instruction.Uni UniOp.Half d a
     → standing (lower jumping) 1 zeros j ≡ some α → ⊥
-jumping-unmixed zero d a α h e q = omega arith
-jumping-unmixed (suc zero) d a α h e q = branch-no-half d a (sym jumping-1 ∙ e)
-jumping-unmixed (suc (suc zero)) d a α h e q = none≢some (sym jumping-over ∙ q)
-jumping-unmixed (suc (suc (suc zero))) d a α h e q = label-no-half d a (sym jumping-3 ∙ e)
-jumping-unmixed (suc (suc (suc (suc j)))) d a α h e q = no-half d a (sym (jumping-after j) ∙ e)
+jumping-no-half zero d a α h e q = omega arith
+jumping-no-half (suc zero) d a α h e q = branch-no-half d a (sym jumping-1 ∙ e)
+jumping-no-half (suc (suc zero)) d a α h e q = none≢some (sym jumping-over ∙ q)
+jumping-no-half (suc (suc (suc zero))) d a α h e q = label-no-half d a (sym jumping-3 ∙ e)
+jumping-no-half (suc (suc (suc (suc j)))) d a α h e q = no-half d a (sym (jumping-after j) ∙ e)
 
-pub jumped-over : JumpedOver jumping 1 2
+pub jumping-given : Given jumping room zeros 1 zeros touched
 unfolding lower stood
-jumped-over =
+jumping-given =
     record {
-      isHalf = unfold jumping in refl;
-      fromReal = unfold jumping in refl;
-      intoComplex = unfold jumping in refl;
-      met =
-          record {
-            given =
-                record {
-                  accepted = jumping-accepted;
-                  words = unfold zeros in refl;
-                  upper = unfold jumping in lit≤ tt;
-                  stands = jumping-stands;
-                  changed = touches (realAt (sheetOf jumping) 1) jumping-real;
-                };
-            unmixed = λ m. jumping-unmixed (m .j) (m .d) (m .a) (m .α) (m .later) (m .isHalf) (m .reached);
-            other = λ e. differ (unfold zeros touched in ap (λ (σ : Store). at σ 5) e);
-          };
+      accepted = jumping-accepted;
+      words = unfold zeros in refl;
+      upper = unfold jumping in lit≤ tt;
+      stands = jumping-stands;
+      changed = touches (realAt (sheetOf jumping) 1) jumping-real;
     }
-  where
-    differ : _≡_ {A = ℕ} 0 0x4000_0000_0000_0000 → ⊥
-    differ q = omega arith
+
+pub jumping-unmixed : Mixing (lowered jumping room) 1 zeros → ⊥
+unfolding lower
+jumping-unmixed m = jumping-no-half (m .j) (m .d) (m .a) (m .α) (m .later) (m .isHalf) (m .reached)
+
+pub jumping-half : getD (sheetOf jumping .instructions) 2 Instruction.Nop ≡ Instruction.Uni UniOp.Half 1 0
+unfolding jumping lower
+jumping-half = refl
+
+pub jumping-from : isRealReg (realAt (sheetOf jumping) 2) 0 ≡ true
+unfolding jumping lower
+jumping-from = refl
+
+pub jumping-into : isRealReg (realAt (sheetOf jumping) 2) 1 ≡ false
+unfolding jumping lower
+jumping-into = refl
+
+-- ---- the fourth
+
+pub clearing-accepted : Accepted clearing room
+unfolding clearing lower
+clearing-accepted = record { right = refl; slice = lit≤ tt; number = refl }
+
+pub clearing-equal : getD (sheetOf clearing .instructions) 1 Instruction.Nop ≡ Instruction.Bi BinOp.Equal 2 0 1
+unfolding clearing lower
+clearing-equal = refl
+
+pub clearing-real : isRealReg (realAt (sheetOf clearing) 1) 0 ≡ true
+unfolding clearing lower
+clearing-real = refl
+
+pub clearing-changes : Changes (lowered clearing room) 1 marked 1 marked compared
+unfolding clearing marked compared stood ofBits eq
+clearing-changes =
+    record {
+      next = 2;
+      from = lit≤ tt;
+      higher = lit< tt;
+      within = lit≤ tt;
+      before = refl;
+      after = refl;
+      first = λ x h k. absurd (omega arith);
+    }
+
+pub clearing-clears : (at marked (im 0) ≡ 0 → ⊥) × (at compared (im 0) ≡ 0)
+unfolding marked compared im
+clearing-clears = (λ q. omega arith, refl)
+
+pub clearing-writes : at marked (re 2) ≡ at compared (re 2) → ⊥
+unfolding marked compared re
+clearing-writes q = omega arith
+
+pub clearing-keeps : (at marked (re 3) ≡ 0 → ⊥) × (at compared (re 3) ≡ at marked (re 3))
+unfolding marked compared re
+clearing-keeps = (λ q. omega arith, refl)

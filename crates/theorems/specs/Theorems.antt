@@ -12,8 +12,9 @@ use Rattle.player_machine.specs.Draws.{draws, fills, Confined}
 use Rattle.lowering.specs.declared.realness.Realness.{Realness}
 use Rattle.leftovers.specs.Leftovers.{Leftover}
 use Rattle.leftovers.specs.Kept.{Kept, Parted}
-use Rattle.leftovers.specs.Examples.{mixing, clean, jumping, Needed, Met, JumpedOver}
+use Rattle.leftovers.specs.Examples.{mixing, clean, jumping, clearing}
 use Rattle.entries.specs.Entries.{EntriesDemand3}
+use Rattle.entries.specs.Examples.{Needed, Met, JumpedOver, Cleared}
 use Rattle.figures.specs.Shelf.{shelf}
 use Rattle.figures.specs.Told.{FiguresReported}
 use Rattle.assembly.specs.SheetText.{sheetText}
@@ -28,6 +29,8 @@ pub record Theorems : Type 0 where
   pub met : Met clean 2
   -- a Half that the play jumps over does not stand in the way
   pub jumpedOver : JumpedOver jumping 1 2
+  -- an instruction that clears the imaginary half of a real operand, writes its destination and keeps another register
+  pub cleared : Cleared clearing 1
   -- every word of the store is a leftover or must be the same in both endings
   pub parted : (ρ : Realness) → Parted (Kept ρ) (Leftover ρ)
   -- "Records played are at most all records plus calls times block records."

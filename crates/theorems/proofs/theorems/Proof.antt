@@ -7,8 +7,8 @@ use Rattle.player_machine.proofs.Bound.{answer-bound}
 use Rattle.player_machine.proofs.Stepping.{by-steps}
 use Rattle.player_machine.proofs.Drawing.{confined}
 use Rattle.leftovers.proofs.Words.{parted}
-use Rattle.leftovers.proofs.Examples.{needed, met, jumped-over}
 use Rattle.entries.proofs.Demand.{entries-demand-3}
+use Rattle.entries.proofs.Examples.{needed, met, jumped-over, cleared}
 use Rattle.figures.proofs.Theorem.{figures}
 use Rattle.assembly.proofs.Theorem.{round-trip}
 use Rattle.theorems.proofs.theorems.Statement.{statement}
@@ -21,6 +21,7 @@ returns c =
       needed = needed;
       met = met;
       jumpedOver = jumped-over;
+      cleared = cleared;
       parted = parted;
       bound = answer-bound;
       bySteps = by-steps;
