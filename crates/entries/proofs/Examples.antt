@@ -19,11 +19,11 @@ use Rattle.entries.proofs.Entered.{answered, entered}
 use Rattle.entries.proofs.Demand.{same}
 
 -- the slices are as long as is asked
-accepts : (sheet : List ℕ) → Accepted sheet room → answer sheet bytes words .number ≡ 0
+pub accepts : (sheet : List ℕ) → Accepted sheet room → answer sheet bytes words .number ≡ 0
 unfolding bytes words
 accepts sheet a = answered sheet bytes words a refl
 
-as-left : (sheet : List ℕ) → Accepted sheet room → lowered sheet room ≡ leftOf sheet
+pub as-left : (sheet : List ℕ) → Accepted sheet room → lowered sheet room ≡ leftOf sheet
 unfolding bytes words
 as-left sheet a = same sheet bytes words (entered sheet bytes words (accepts sheet a))
 

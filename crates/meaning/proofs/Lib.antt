@@ -19,3 +19,4 @@ pub mod Theorem
 pub mod Tidying
 pub mod Tidied
 pub mod Settling
+pub mod Examples

@@ -28,6 +28,7 @@ use Rattle.meaning.specs.Means.{Values}
 use Rattle.complexify.specs.Entry.{answer}
 use Rattle.entries.specs.Entries.{left}
 use Rattle.entries.proofs.Entered.{entered}
+use Rattle.entries.proofs.Demand.{same}
 use Rattle.meaning.specs.Preserved.{valuesOf, Holds, Every, Preserves, Preserved}
 use Rattle.meaning.proofs.Leaf.{Ready}
 use Rattle.meaning.proofs.Table.{Begins, begins-same, begins-grown}
@@ -108,6 +109,4 @@ lowered-preserves bytes room σ₀ a h =
 pub preserved : Preserved
 preserved sheet listing constants σ₀ a h =
     let f = entered sheet listing constants a in
-    let e : lowered sheet (length listing) ≡ left sheet listing constants =
-    λ j. record { sheet = sheetOf sheet; listing = sym (f .bytes) j; constants = sym (f .words) j; last = sym (f .last) j } in
-    subst (λ (l : Lowered). Preserves l σ₀) e (lowered-preserves sheet (length listing) σ₀ (f .accepted) h)
+    subst (λ (l : Lowered). Preserves l σ₀) (same sheet listing constants f) (lowered-preserves sheet (length listing) σ₀ (f .accepted) h)

@@ -15,6 +15,10 @@ use Rattle.leftovers.specs.Kept.{Kept, Parted}
 use Rattle.leftovers.specs.Examples.{mixing, clean, jumping, clearing}
 use Rattle.entries.specs.Entries.{EntriesDemand3}
 use Rattle.entries.specs.Examples.{Needed, Met, JumpedOver, Cleared}
+use Rattle.meaning.specs.Preserved.{Preserved}
+use Rattle.meaning.specs.Settled.{Settled}
+use Rattle.meaning.specs.Tidy.{Tidied}
+use Rattle.meaning.specs.Examples.{dividing, TidyMet, SettledMet}
 use Rattle.figures.specs.Shelf.{shelf}
 use Rattle.figures.specs.Told.{FiguresReported}
 use Rattle.assembly.specs.SheetText.{sheetText}
@@ -31,6 +35,14 @@ pub record Theorems : Type 0 where
   pub jumpedOver : JumpedOver jumping 1 2
   -- an instruction that clears the imaginary half of a real operand, writes its destination and keeps another register
   pub cleared : Cleared clearing 1
+  -- playing a sheet's listing computes what the sheet means, of every call of `lower` that answers 0
+  pub preserved : Preserved
+  -- whatever a Half would lose, where no Half of a real register into a complex one stands; there is such a sheet with a Half
+  pub settled : Settled
+  pub settledMet : SettledMet clean
+  -- of a tidy sheet each instruction does its row and no more; there is one, by which 6 / (1 + i) is 3 - 3i
+  pub tidied : Tidied
+  pub tidyMet : TidyMet dividing 0x4008_0000_0000_0000 0xc008_0000_0000_0000
   -- every word of the store is a leftover or must be the same in both endings
   pub parted : (ρ : Realness) → Parted (Kept ρ) (Leftover ρ)
   -- "Records played are at most all records plus calls times block records."

@@ -9,6 +9,10 @@ use Rattle.player_machine.proofs.Drawing.{confined}
 use Rattle.leftovers.proofs.Words.{parted}
 use Rattle.entries.proofs.Demand.{entries-demand-3}
 use Rattle.entries.proofs.Examples.{needed, met, jumped-over, cleared}
+use Rattle.meaning.proofs.Theorem.{preserved}
+use Rattle.meaning.proofs.Settling.{settled}
+use Rattle.meaning.proofs.Tidied.{tidied}
+use Rattle.meaning.proofs.Examples.{settled-met, tidy-met}
 use Rattle.figures.proofs.Theorem.{figures}
 use Rattle.assembly.proofs.Theorem.{round-trip}
 use Rattle.theorems.proofs.theorems.Statement.{statement}
@@ -22,6 +26,11 @@ returns c =
       met = met;
       jumpedOver = jumped-over;
       cleared = cleared;
+      preserved = preserved;
+      settled = settled;
+      settledMet = settled-met;
+      tidied = tidied;
+      tidyMet = tidy-met;
       parted = parted;
       bound = answer-bound;
       bySteps = by-steps;
