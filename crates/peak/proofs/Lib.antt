@@ -3,3 +3,4 @@ mod Flags
 mod Joining
 pub mod Windows
 pub mod Refusals
+pub mod Law
