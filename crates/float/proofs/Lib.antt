@@ -12,6 +12,7 @@ mod SquareRoot
 pub mod Heron
 pub mod ByMends
 mod ToIntegral
+pub mod WholeLaw
 mod RoundWide
 mod Sums
 mod FusedSum
