@@ -1,2 +1,4 @@
 pub mod Entered
 pub mod Demand
+pub mod Finished
+pub mod Complexified
