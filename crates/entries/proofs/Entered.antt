@@ -24,12 +24,12 @@ pub record Left (sheet listing constants : List ℕ) : Type 0 where
   pub last : left sheet listing constants .last ≡ lowered sheet (length listing) .last
 
 -- no test of three holds
-record Neither (x y z : Bool) : Type 0 where
-  first : x ≡ false
-  second : y ≡ false
-  third : z ≡ false
+pub record Neither (x y z : Bool) : Type 0 where
+  pub first : x ≡ false
+  pub second : y ≡ false
+  pub third : z ≡ false
 
-neither : (x y z : Bool) → (x || (y || z)) ≡ false → Neither x y z
+pub neither : (x y z : Bool) → (x || (y || z)) ≡ false → Neither x y z
 neither false false false e = record { first = refl; second = refl; third = refl }
 neither false false true e = absurd (true≢false e)
 neither false true z e = absurd (true≢false e)

@@ -1,22 +1,25 @@
 -- The steps of specs/Mends.antt lead to Word's root: `RootByMends`. Assumes nothing.
-use mathlib.Core.Path.{_≡_, refl, sym, ap, _∙_}
+use mathlib.Core.Path.{_≡_, refl, sym, ap, _∙_, subst}
 use mathlib.Core.Bool.{Bool, true, false, not, cond}
 use mathlib.Core.List.{[], _∷_}
 use Prim.Native.Nat.{ℕ, _+_, _-_, _*_, _/_, _%_, _^_, _≤_, _<_, Ordering, Ordering·lt, Ordering·gt}
-use native.Mathlib.Nat.{lt-of-lt-of-le, mul-le-mul-left}
+use native.Mathlib.Nat.{lt-of-lt-of-le, mul-le-mul-left, mod-eq-of-lt}
 use native.Mathlib.Numerals.{add-one}
 use native.Mathlib.Omega.{arith}
 use borrow.Author.Tests.{le-leb, lt-leb}
 use lib.Dec.{T, leb, leb→le, nleb→lt}
+use lib.Arith.{lt→nleb}
 use lib.Pow.{shl-lt, pow-pos, pow-mono}
 use lib.IntN.{ℤ}
 use lib.Ieee.{binary64, nearest, isNan}
+use lib.Ieee.Bits.{is-false}
 use Rattle.float.specs.Root.{squareRoot}
 use Rattle.float.specs.Word.{value, root}
 use Rattle.float.specs.Unpacked.{Unpacked}
 use Rattle.float.specs.Biased.{biased}
 use Rattle.float.specs.Mends.{mended, rounded, RootByMends}
 use Rattle.float.proofs.Closest.{Cmp}
+use Rattle.float.proofs.Fields.{unpacked}
 use Rattle.float.proofs.Marks.{number-word, units-number}
 use Rattle.float.proofs.SquareRoot.{root-units, root-word, q-lo, q-hi, k-hi}
 use Rattle.float.proofs.Heron.{eight-mends}
@@ -33,6 +36,10 @@ rounded-is m q r e is = go (leb r q) (leb→le r q) (nleb→lt r q) ∙ ap (λ (
     go : (b : Bool) → (T b → r ≤ q) → (T (not b) → q < r) → cond b q (q + 1) ≡ cond (leb (m * 2 ^ 52) (q * q + q)) q (q + 1)
     go true y x = let l = y tt in sym (ap (λ (b : Bool). cond b q (q + 1)) (le-leb (m * 2 ^ 52) (q * q + q) (omega (arith, is, l))))
     go false y x = let l = x tt in sym (ap (λ (b : Bool). cond b q (q + 1)) (lt-leb (m * 2 ^ 52) (q * q + q) (omega (arith, is, l))))
+
+-- a word below infinity's has no sign
+pub positive : (a m : ℕ) (e : ℤ) {neg : Bool} → Unpacked a neg m e → a < 2047 * 2 ^ 52 → Unpacked a false m e
+positive a m e t h = subst (λ (s : Bool). Unpacked a s m e) (t .sign ∙ is-false (leb (2 ^ 63) a) (lt→nleb (2 ^ 63) a (omega arith))) t
 
 module _ (a m : ℕ) (e : ℤ) (u : Unpacked a false m e) where
   abbrev M : ℕ
@@ -81,4 +88,8 @@ module _ (a m : ℕ) (e : ℤ) (u : Unpacked a false m e) where
           by Ordering·gt (omega (arith, l)) (omega (arith, hi)) (omega (arith, lo)) ∙ ap (λ (x : ℕ). field * 2 ^ 52 + x) (sym (add-one q))
 
 pub root-by-mends : RootByMends root
-root-by-mends a m e u = by-mends a m e u
+root-by-mends a lo hi =
+    let own : a % 2 ^ 63 ≡ a = mod-eq-of-lt (omega arith) in
+    let u = unpacked a (omega (arith, own)) (omega (arith, own)) in
+    let plus = positive a (u .0) (u .1) (u .2) hi in
+    (u .0, u .1, plus, by-mends a (u .0) (u .1) plus)

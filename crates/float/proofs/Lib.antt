@@ -1,5 +1,6 @@
 -- Lemmas that more than one function's proof uses, each building on those above it; the last two show the laws of specs/Laws.antt.
 pub mod Nan
+pub mod Order
 pub mod Marks
 mod Closest
 mod RoundBits
@@ -11,6 +12,7 @@ mod SquareRoot
 pub mod Heron
 pub mod ByMends
 mod ToIntegral
+pub mod WholeLaw
 mod RoundWide
 mod Sums
 mod FusedSum

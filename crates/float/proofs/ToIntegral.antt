@@ -109,7 +109,7 @@ integral-at t (fin u m e) s p c C v =
     ∙ ap (λ (n : ℕ). round binary64 s n 1) (whole-same (m * up e) (down e) p c (down-pos e) C (v .1) t s)
 
 -- ---- a word from 2 ^ 52 up is a whole number already, in every direction
-no-rest : (t : Direction) (s : Bool) (n c : ℕ) → 0 < c → whole t s (n * c) c ≡ n
+pub no-rest : (t : Direction) (s : Bool) (n c : ℕ) → 0 < c → whole t s (n * c) c ≡ n
 no-rest t s n c C = go t s
   where
     exact : n * c / c ≡ n
@@ -126,10 +126,14 @@ no-rest t s n c C = go t s
     go TowardPositive false = up-exact
     go TowardZero s = exact
 
-pub large-word : (t : Direction) (a : ℕ) → a < 2 ^ 64 → 1075 * 2 ^ 52 ≤ a % 2 ^ 63 → a % 2 ^ 63 < 2047 * 2 ^ 52 → toBits binary64 (roundToIntegral t binary64 (ofBits binary64 a)) ≡ a
-large-word t a fits lo hi = go (a / 2 ^ 52 % 2 ^ 11) refl
+pub large-value : (a : ℕ) → 1075 * 2 ^ 52 ≤ a % 2 ^ 63 → a % 2 ^ 63 < 2047 * 2 ^ 52
+    → (n : ℕ) × HasValue (ofBits binary64 a) (leb (2 ^ 63) a) (n * 2 ^ 1074) (2 ^ 1074) × HasValue (round binary64 (leb (2 ^ 63) a) n 1) (leb (2 ^ 63) a) n 1
+large-value a lo hi = go (a / 2 ^ 52 % 2 ^ 11) refl
   where
-    go : (x : ℕ) → a / 2 ^ 52 % 2 ^ 11 ≡ x → toBits binary64 (roundToIntegral t binary64 (ofBits binary64 a)) ≡ a
+    s : Bool
+    s = leb (2 ^ 63) a
+
+    go : (x : ℕ) → a / 2 ^ 52 % 2 ^ 11 ≡ x → (n : ℕ) × HasValue (ofBits binary64 a) s (n * 2 ^ 1074) (2 ^ 1074) × HasValue (round binary64 s n 1) s n 1
     go zero e = absurd (none (a % 2 ^ 52) (together a ∙ ap (λ (y : ℕ). y * 2 ^ 52 + a % 2 ^ 52) e) (mod-lt a {m = 2 ^ 52} (lit< tt)))
       where
         none : (f : ℕ) → a % 2 ^ 63 ≡ 0 * 2 ^ 52 + f → f < 2 ^ 52 → ⊥
@@ -137,23 +141,27 @@ large-word t a fits lo hi = go (a / 2 ^ 52 % 2 ^ 11) refl
     go (suc x) e =
         let h = together a in
         let l = mod-lt a {m = 2 ^ 52} (lit< tt) in
-        let s = leb (2 ^ 63) a in
         let q = 2 ^ 52 + a % 2 ^ 52 in
         let j = x - 1074 in
         let n = q * 2 ^ j in
         let x-ge : 1074 ≤ x = omega (arith, h, l, e) in
         let x-lt : suc x < 2047 = omega (arith, h, l, e) in
-        let units-are : q * 2 ^ x ≡ n * 2 ^ 1074 = ap (λ (y : ℕ). q * 2 ^ y) {x = x} {y = j + 1074} (omega (arith, x-ge)) ∙ sym (shifts q j 1074) in
-        let v : HasValue (ofBits binary64 a) s (n * 2 ^ 1074) (2 ^ 1074) =
-        subst (λ (y : ℕ). HasValue (ofBits binary64 a) s y (2 ^ 1074)) units-are
-        (subst (λ (y : Float). HasValue y s (q * 2 ^ x) (2 ^ 1074)) (sym (of-normal a x e x-lt)) (odd-sign 53 s q x 1074)) in
-        let r : HasValue (round binary64 s n 1) s n 1 =
-        round-exact binary64 s n 1 q x (lit< tt) (omega (arith, l)) (lt-of-lt-of-le (shl-lt 53 x (omega (arith, l))) (pow-mono {i = 53 + x} {j = 2098} (omega (arith, x-lt)))) (sym units-are ∙ sym (mul-one (q * 2 ^ x))) in
-        let r′ : HasValue (round binary64 s n 1) s (n * 2 ^ 1074) (2 ^ 1074) = rescale (round binary64 s n 1) s n 1 (n * 2 ^ 1074) (2 ^ 1074) (lit< tt) (mul-one (n * 2 ^ 1074)) r in
-        ap (toBits binary64) (integral-at t (ofBits binary64 a) s (n * 2 ^ 1074) (2 ^ 1074) (pow-pos 1074) v ∙ ap (λ (y : ℕ). round binary64 s y 1) (no-rest t s n (2 ^ 1074) (pow-pos 1074)))
-        ∙ value-bits (round binary64 s n 1) s (n * 2 ^ 1074) r′
-        ∙ sym (value-bits (ofBits binary64 a) s (n * 2 ^ 1074) v)
-        ∙ kept-word a fits (omega (arith, hi))
+        let units-are : q * 2 ^ x ≡ n * 2 ^ 1074 = ap (λ (y : ℕ). q * 2 ^ y) {x = x} {y = j + 1074} (omega (arith, x-ge)) ∙ sym (shifts q j 1074) in (
+          n,
+          subst (λ (y : ℕ). HasValue (ofBits binary64 a) s y (2 ^ 1074)) units-are
+              (subst (λ (y : Float). HasValue y s (q * 2 ^ x) (2 ^ 1074)) (sym (of-normal a x e x-lt)) (odd-sign 53 s q x 1074)),
+          round-exact binary64 s n 1 q x (lit< tt) (omega (arith, l)) (lt-of-lt-of-le (shl-lt 53 x (omega (arith, l))) (pow-mono {i = 53 + x} {j = 2098} (omega (arith, x-lt)))) (sym units-are ∙ sym (mul-one (q * 2 ^ x))),
+        )
+
+pub large-word : (t : Direction) (a : ℕ) → a < 2 ^ 64 → 1075 * 2 ^ 52 ≤ a % 2 ^ 63 → a % 2 ^ 63 < 2047 * 2 ^ 52 → toBits binary64 (roundToIntegral t binary64 (ofBits binary64 a)) ≡ a
+large-word t a fits lo hi =
+    let s = leb (2 ^ 63) a in
+    let v = large-value a lo hi in
+    let n = v .0 in
+    ap (toBits binary64) (integral-at t (ofBits binary64 a) s (n * 2 ^ 1074) (2 ^ 1074) (pow-pos 1074) (v .1) ∙ ap (λ (y : ℕ). round binary64 s y 1) (no-rest t s n (2 ^ 1074) (pow-pos 1074)))
+    ∙ value-bits (round binary64 s n 1) s (n * 2 ^ 1074) (rescale (round binary64 s n 1) s n 1 (n * 2 ^ 1074) (2 ^ 1074) (lit< tt) (mul-one (n * 2 ^ 1074)) (v .2))
+    ∙ sym (value-bits (ofBits binary64 a) s (n * 2 ^ 1074) (v .1))
+    ∙ kept-word a fits (omega (arith, hi))
 
 -- ---- NaNs, infinities and zeros, in every direction
 same-kind : (t : Direction) (x : Float) → isNan (roundToIntegral t binary64 x) ≡ isNan x

@@ -1,6 +1,7 @@
--- What Root, MulAdd and IfElse mean, said without their definitions (theorems `root`, `oneRoot`, `mulAdd`, `ifElse`). `HasValue x s p c` says that x is finite, has the sign s, and is p / c in size.
--- Assumes nothing.
+-- What Root, the roundings to a whole number, MulAdd and IfElse mean, said without their definitions (theorems `nearestRoot`, `oneRoot`, `integral`, `mulAdd`, `ifElse`).
+-- `HasValue x s p c` says that x is finite, has the sign s, and is p / c in size. Assumes nothing.
 use mathlib.Core.Path.{_≡_}
+use mathlib.Core.Logic.{_⊎_}
 use mathlib.Core.Bool.{Bool, true, false, cond, _&&_}
 use Prim.Native.Nat.{ℕ, zero, suc, _+_, _-_, _*_, _/_, _%_, _^_, _≤_, _<_}
 use lib.Dec.{eqb}
@@ -8,6 +9,8 @@ use lib.IntN.{ℤ, pos, negsuc, negℤ, _+ℤ_, _*ℤ_}
 use lib.Ieee.{Float, binary64, toBits, unlike, round}
 use lib.Ieee.Exact.{HasValue}
 use Rattle.float.specs.Word.{value}
+use Rattle.float.specs.declared.integral.Direction.{Direction}
+use Rattle.float.specs.declared.integral.Direction.the-variants.{TiesToEven, TowardNegative, TowardPositive, TowardZero}
 
 -- ---- Root
 -- the whole root of n is the largest whole number whose square is not above n
@@ -33,6 +36,35 @@ RootLaw root = (a : ℕ) → 0 < a → a < 2047 * 2 ^ 52 → NearestRoot (value 
 -- and no value has two nearest roots: the law leaves one word
 abbrev pub OneRoot : Type 0
 OneRoot = (x y z : Float) → NearestRoot x y → NearestRoot x z → toBits binary64 y ≡ toBits binary64 z
+
+-- ---- Round, Floor, Ceiling and Trunc
+-- n is the greatest whole number that is not above p / c, or the least that is not below it
+abbrev pub NotAbove : ℕ → ℕ → ℕ → Type 0
+NotAbove p c n = (n * c ≤ p) × (p < n * c + c)
+
+abbrev pub NotBelow : ℕ → ℕ → ℕ → Type 0
+NotBelow p c n = (p ≤ n * c) × (n * c < p + c)
+
+-- p / c is at most 1 / 2 from n, and where it is 1 / 2, n is even
+abbrev pub Nearest : ℕ → ℕ → ℕ → Type 0
+Nearest p c n =
+    (2 * (n * c) ≤ 2 * p + c) × (2 * p ≤ 2 * (n * c) + c) × ((2 * (n * c) ≡ 2 * p + c) ⊎ (2 * p ≡ 2 * (n * c) + c) → n % 2 ≡ 0)
+
+-- the size n of the whole number that p / c, with the sign s, goes to in each direction of IEEE 754
+abbrev pub GoesTo : Direction → Bool → ℕ → ℕ → ℕ → Type 0
+GoesTo TiesToEven s p c n = Nearest p c n
+GoesTo TowardNegative false p c n = NotAbove p c n
+GoesTo TowardNegative true p c n = NotBelow p c n
+GoesTo TowardPositive false p c n = NotBelow p c n
+GoesTo TowardPositive true p c n = NotAbove p c n
+GoesTo TowardZero s p c n = NotAbove p c n
+
+-- "One fact about integral rounding serves all directions and Round": of every finite word, however its value is written as a fraction, the result is exactly
+-- that whole number, with the word's sign
+abbrev pub IntegralLaw : (Direction → Float → Float) → Type 0
+IntegralLaw rounding =
+    (d : Direction) (a : ℕ) (s : Bool) (p c : ℕ) → 0 < c → HasValue (value a) s p c
+    → (n : ℕ) × GoesTo d s p c n × HasValue (rounding d (value a)) s n 1
 
 -- ---- MulAdd
 -- a magnitude with its sign, as a whole number

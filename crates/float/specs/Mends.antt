@@ -51,10 +51,12 @@ unfoldable pub rounded : ℕ → ℕ
 unfolding mended
 rounded m = let q = mended m .value in cond (leb (m * 2 ^ 52) (q * q + q)) q (q + 1)
 
--- These steps lead to Word's root of every positive and finite word, m * 2 ^ e with 53 digits. Halving e, downwards, leaves its lowest digit to the significand;
--- half the count of e from -8192, less 3048, is the root's field less one, and the leading digit of the rounded root adds that one.
+-- These steps lead to Word's root of every positive and finite word, which is m * 2 ^ e with an m of 53 digits. Halving e, downwards, leaves its lowest digit to the
+-- significand; half the count of e from -8192, less 3048, is the root's field less one, and the leading digit of the rounded root adds that one.
 abbrev pub RootByMends : (ℕ → ℕ) → Type 0
-RootByMends root = (a m : ℕ) (e : ℤ) → Unpacked a false m e → root a ≡ (biased e / 2 - 3048) * 2 ^ 52 + rounded (m * 2 ^ (biased e % 2))
+RootByMends root =
+    (a : ℕ) → 0 < a → a < 2047 * 2 ^ 52
+    → (m : ℕ) × (e : ℤ) × Unpacked a false m e × (root a ≡ (biased e / 2 - 3048) * 2 ^ 52 + rounded (m * 2 ^ (biased e % 2)))
 
 -- worked: for the root of 2, 90177536 is mended upwards to 95030248, then downwards to 94906346 and 94906265; with 26 digits more nothing is left to mend
 pub of-two : mended (2 ^ 53) ≡ record { value = 6369051672525772; mends = 4 }

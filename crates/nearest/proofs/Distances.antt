@@ -11,6 +11,7 @@ use lib.Ieee.Bits.{ofBits-toBits, is-false}
 use lib.Ieee.Fits.{add-fits, sub-fits, mul-fits}
 use Rattle.float.specs.Word.{value, word, minus, times}
 use Rattle.float.proofs.Nan.{only-nan, unequal, equal}
+use Rattle.float.proofs.Order.{below-number, not-below-nan}
 use Rattle.float.proofs.Marks.{number-word, value-word}
 use Rattle.nearest.specs.Nearest.{distance, Candidate, closer, chosen, better}
 use Rattle.nearest.specs.Apart.{apart}
@@ -86,19 +87,6 @@ module _ (re im x y : ℕ) where
 abbrev pub held : ℕ → Float → Option Candidate
 held index least = cond (isNan least) none (some (record { index = index; far = toBits binary64 least }))
 
--- what is below something is a number, and nothing is below a NaN
-below-number : (x y : Float) → lt x y ≡ true → isNan x ≡ false
-unfolding lt isNan
-below-number nan y e = absurd (true≢false (sym e))
-below-number (inf s) y e = refl
-below-number (fin s m d) y e = refl
-
-below-nan : (x : Float) → lt x nan ≡ false
-unfolding lt
-below-nan nan = refl
-below-nan (inf s) = refl
-below-nan (fin s m d) = refl
-
 -- whether a value differs from itself tells a NaN
 pub nan-differs : (x : Float) → ne x x ≡ true → isNan x ≡ true
 unfolding isNan
@@ -139,7 +127,7 @@ module _ (index i : ℕ) (least x : Float) (k : T (fits binary64 least)) (h : T 
   first e =
       let n = only-nan least e in
       ap₂ (λ (v w : Float). cond (lt x v || ne v v) (held i x) (held index w)) n n
-      ∙ ap (λ b. cond (b || true) (held i x) (held index nan)) (below-nan x)
+      ∙ ap (λ b. cond (b || true) (held i x) (held index nan)) (not-below-nan x nan (sym (ap isNan n) ∙ e))
       ∙ tests none
       ∙ ap (λ n. better closer (cond n none (some old)) new) (sym e)
 

@@ -1,3 +1,4 @@
--- Distances in f64 and in words; the loop over the points.
+-- Distances in f64 and in words; the loop over the points; the law of the answer.
 mod Distances
 pub mod Points
+pub mod Law

@@ -6,7 +6,7 @@ use mathlib.Core.List.{List, [], _∷_, _++_}
 use lib.Ieee.{Float, isNan, lt, ofBits}
 use Rattle.float.specs.Word.{value}
 use Rattle.peak.specs.Peak.{larger, largest}
-use Rattle.peak.proofs.Order.{not-below-through, above-number, below-trans}
+use Rattle.float.proofs.Order.{not-below-through, above-number, below-trans}
 
 -- whether the later of two values is taken
 abbrev yields : Float → Float → Bool

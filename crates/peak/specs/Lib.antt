@@ -1,3 +1,4 @@
 pub mod Peak
+pub mod Laws
 pub mod Facts
 pub mod Blocks

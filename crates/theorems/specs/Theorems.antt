@@ -5,7 +5,8 @@ use Rattle.float.specs.Root.{squareRoot}
 use Rattle.float.specs.Fused.{fusedMultiplyAdd}
 use Rattle.float.specs.Word.{root, ifElse}
 use Rattle.float.specs.Mends.{mended, EightMends, RootByMends}
-use Rattle.float.specs.Laws.{RootLaw, OneRoot, MulAddLaw, IfElseLaw}
+use Rattle.float.specs.Integral.{roundToIntegral}
+use Rattle.float.specs.Laws.{RootLaw, OneRoot, IntegralLaw, MulAddLaw, IfElseLaw}
 use Rattle.player_machine.specs.Count.{most, Bounds}
 use Rattle.player_machine.specs.Step.{PlaysBySteps}
 use Rattle.player_machine.specs.Draws.{draws, fills, Confined}
@@ -19,13 +20,20 @@ use Rattle.meaning.specs.Preserved.{Preserved}
 use Rattle.meaning.specs.Settled.{Settled}
 use Rattle.meaning.specs.Tidy.{Tidied}
 use Rattle.meaning.specs.Examples.{dividing, TidyMet, SettledMet}
+use Rattle.entries.specs.Complexified.{Complexified}
 use Rattle.figures.specs.Shelf.{shelf}
 use Rattle.figures.specs.Told.{FiguresReported}
 use Rattle.assembly.specs.SheetText.{sheetText}
 use Rattle.assembly.specs.RoundTrip.{RoundTrip}
+use Rattle.nearest.specs.Nearest.{nearest}
+use Rattle.nearest.specs.Laws.{NearestLaw}
+use Rattle.peak.specs.Peak.{after}
+use Rattle.peak.specs.Laws.{PeakLaw}
 
 -- all of it, one theorem a field
 pub record Theorems : Type 0 where
+  -- demand 2: a call of `lower` leaves what `complexify` lists for the instructions that it finished, all of them where it answers 0
+  pub complexified : Complexified
   -- demand 3, of every call of `lower` that answers 0
   pub demand3 : EntriesDemand3
   -- its condition about Half is needed, and can be met
@@ -61,7 +69,13 @@ pub record Theorems : Type 0 where
   -- "in a proved eight steps at most": the mended estimate is the whole root; rounded, it is Root's word
   pub eightMends : EightMends mended
   pub rootByMends : RootByMends root
+  -- "One fact about integral rounding serves all directions and Round."
+  pub integral : IntegralLaw (λ d. roundToIntegral d binary64)
   -- MulAdd rounds the exact value of a * b + c once
   pub mulAdd : MulAddLaw (fusedMultiplyAdd binary64)
   -- IfElse chooses bit by bit
   pub ifElse : IfElseLaw ifElse
+  -- "The index of the point with the smallest comes back; of equal ones, the earliest."
+  pub nearestPoint : NearestLaw nearest
+  -- "for each position the largest in the window that ends there"
+  pub runningPeak : PeakLaw after

@@ -1,6 +1,7 @@
 -- Each theorem, by the proof that its crate has of it.
 use Rattle.float.proofs.Right.{root-nearest, mul-add-exact, if-else-bit}
 use Rattle.float.proofs.OneRoot.{one-root}
+use Rattle.float.proofs.WholeLaw.{integral-law}
 use Rattle.float.proofs.Heron.{eight-mends}
 use Rattle.float.proofs.ByMends.{root-by-mends}
 use Rattle.player_machine.proofs.Bound.{answer-bound}
@@ -13,14 +14,18 @@ use Rattle.meaning.proofs.Theorem.{preserved}
 use Rattle.meaning.proofs.Settling.{settled}
 use Rattle.meaning.proofs.Tidied.{tidied}
 use Rattle.meaning.proofs.Examples.{settled-met, tidy-met}
+use Rattle.entries.proofs.Complexified.{complexified}
 use Rattle.figures.proofs.Theorem.{figures}
 use Rattle.assembly.proofs.Theorem.{round-trip}
+use Rattle.nearest.proofs.Law.{nearest-law}
+use Rattle.peak.proofs.Law.{peak-law}
 use Rattle.theorems.proofs.theorems.Statement.{statement}
 use Rattle.theorems.proofs.theorems.Tie as tie
 
 returns : tie.Need-returns
 returns c =
     record {
+      complexified = complexified;
       demand3 = entries-demand-3;
       needed = needed;
       met = met;
@@ -41,8 +46,11 @@ returns c =
       oneRoot = one-root;
       eightMends = eight-mends;
       rootByMends = root-by-mends;
+      integral = integral-law;
       mulAdd = mul-add-exact;
       ifElse = if-else-bit;
+      nearestPoint = nearest-law;
+      runningPeak = peak-law;
     }
 
 pub theorems-spec : {M : Type 1} → statement M

@@ -16,15 +16,15 @@ returns : tie.Need-returns
 returns c =
     let a = c .before .args in
     let one : units (leb (a .over) (a .under)) ≡ 1 = ap units (lt-leb (a .over) (a .under) (c .if1 .taken)) in
-    (omega (arith, one), omega (arith, less (a .q) (a .q - 1) (omega arith)), omega arith)
+    (omega (arith, one), omega (arith, less (a .q) (a .q - 1) (omega arith)), omega arith, omega (arith, one))
 
 returns-2 : tie.Need-returns-2
 returns-2 c =
     let a = c .before .args in
     let none : units (leb (a .over) (a .under)) ≡ 0 = ap units (le-leb (a .over) (a .under) (c .if1 .left)) in
-    (omega (arith, none), omega arith, omega arith)
+    (omega (arith, none), omega arith, omega arith, omega (arith, none))
 
 pub last-mend-spec : {M : Type 1} → statement M
 last-mend-spec =
     tie.close
-    (tie.spec (λ c. omega arith) (λ c. omega arith) (λ c. omega arith) (λ c. omega arith) (λ c. omega arith) returns returns-2)
+    (tie.spec (λ c. omega arith) (λ c. omega arith) (λ c. omega arith) (λ c. omega arith) (λ c. omega arith) (λ c. omega arith) returns returns-2)

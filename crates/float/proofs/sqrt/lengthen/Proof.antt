@@ -17,7 +17,7 @@ returns : tie.Need-returns
 returns c =
     let s = c .before in
     let l = near c in
-    (long-is (s .args .m) (s .args .w) (omega (arith, s .pre .1)), l .0, l .1, omega (arith, l .2, by s, s .pre .1), omega (arith, by s))
+    (long-is (s .args .m) (s .args .w) (omega (arith, s .pre .1)), l .0, l .1, omega (arith, l .2, by s, s .pre .1), omega (arith, by s), search needs)
 
 pub lengthen-spec : {M : Type 1} → statement M
 lengthen-spec =
@@ -34,4 +34,5 @@ lengthen-spec =
     (λ c κs. search needs) (λ c. search needs)
     (λ c. omega (arith, by (c .before)))
     (λ c. omega (arith, near c))
+    (λ c. search needs)
     returns)

@@ -11,4 +11,5 @@ mend-spec =
     (tie.spec
     (λ c. search needs)
     (λ c. omega (arith, div-le-self (c .args .m) (c .args .u)))
-    (λ c. (search needs, omega (arith, div-le-self (c .args .m) (c .args .u)))))
+    (λ c. search needs)
+    (λ c. (search needs, omega (arith, div-le-self (c .args .m) (c .args .u)), search needs)))

@@ -4,18 +4,15 @@ use mathlib.Core.Bool.{Bool, false}
 use Prim.Native.Nat.{ℕ, _+_, _-_, _*_, _/_, _%_, _^_, _≤_, _<_}
 use native.Mathlib.Nat.{mod-eq-of-lt}
 use native.Mathlib.Omega.{arith}
-use lib.Dec.{leb}
-use lib.Arith.{lt→nleb}
 use lib.IntN.{ℤ}
 use lib.Signed.{mag}
-use lib.Ieee.Bits.{is-false}
 use borrow.Author.Needs.{needs}
 use Rattle.float.specs.Word as Word
 use Rattle.float.specs.Unpacked.{Unpacked}
 use Rattle.float.specs.Biased.{biased}
 use Rattle.float.specs.Mends.{rounded}
 use Rattle.float.proofs.Signed.{read, read-same}
-use Rattle.float.proofs.ByMends.{widened, field-hi, root-by-mends}
+use Rattle.float.proofs.ByMends.{widened, positive, field-hi, by-mends}
 use Rattle.float.proofs.sqrt.root_finite.Statement.{statement}
 use Rattle.float.proofs.sqrt.root_finite.Tie as tie
 
@@ -35,21 +32,21 @@ module _ (a : ℕ) (neg : Bool) (m : ℕ) (e : ℤ) (t : Unpacked a neg m e) (a-
   pub asked : (2 ^ 52 ≤ m * 2 ^ o % 2 ^ 64) × (m * 2 ^ o % 2 ^ 64 < 2 ^ 54)
   asked = subst (λ (x : ℕ). (2 ^ 52 ≤ x) × (x < 2 ^ 54)) (sym shifted) in-range
 
-  positive : Unpacked a false m e
-  positive = subst (λ (s : Bool). Unpacked a s m e) (t .sign ∙ is-false (leb (2 ^ 63) a) (lt→nleb (2 ^ 63) a (omega arith))) t
+  plus : Unpacked a false m e
+  plus = positive a m e t a-lt
 
   module _ (r : ℕ) (r-is : r ≡ rounded (m * 2 ^ o % 2 ^ 64)) (top : r ≤ 2 ^ 53) (f : ℕ) (f-was : f ≡ biased (read e) / 2 - 3048) where
     f-is : f ≡ biased e / 2 - 3048
     f-is = let h = t .small in f-was ∙ ap (λ (z : ℤ). biased z / 2 - 3048) (read-same e (omega (arith, h)))
 
     low : f ≤ 1648
-    low = subst (λ (x : ℕ). x ≤ 1648) (sym f-is) (field-hi a m e positive)
+    low = subst (λ (x : ℕ). x ≤ 1648) (sym f-is) (field-hi a m e plus)
 
     pub result : (f * 2 ^ 52 % 2 ^ 64 + r < 2 ^ 64) × (f * 2 ^ 52 % 2 ^ 64 + r ≡ Word.root a)
     result = (
       omega (arith, low),
       ap₂ (λ (x y : ℕ). x + y) (mod-eq-of-lt (omega (arith, low)) ∙ ap (λ (x : ℕ). x * 2 ^ 52) f-is) (r-is ∙ ap rounded shifted)
-          ∙ sym (root-by-mends a m e positive),
+          ∙ sym (by-mends a m e plus),
     )
 
 odd-digit-requires : tie.Need-odd-digit-requires

@@ -26,10 +26,10 @@ module _ (c : tie.After-whole-root) where
   top : q < 2 ^ 53
   top =
       let e = c .whole-root .ensures in
-      root-lt (m * 2 ^ 52) q (2 ^ 53) (omega (arith, e .2), omega (arith, e .2, e .3)) (omega (arith, c .before .pre .1))
+      root-lt (m * 2 ^ 52) q (2 ^ 53) (omega (arith, e .3), omega (arith, e .3, e .4)) (omega (arith, c .before .pre .1))
 
   result : cond (leb r q) q (q + 1) ≡ rounded m
-  result = rounded-is m q r (c .whole-root .ensures .0) (c .whole-root .ensures .2)
+  result = rounded-is m q r (c .whole-root .ensures .0) (c .whole-root .ensures .3)
 
 returns : tie.Need-returns
 returns c =

@@ -1,4 +1,5 @@
--- The order of values: what is not below a number that is not below a third is not below the third, and below is transitive. Assumes nothing.
+-- The order of values: what is not below a number that is not below a third is not below the third; below is transitive; a NaN is below nothing, and nothing below it.
+-- Assumes nothing.
 use Prim.Native.Nat.{ℕ, suc, _+_, _*_, _<_}
 use mathlib.Core.Path.{_≡_, refl, sym, ap, ap₂, _∙_}
 use mathlib.Core.Bool.{Bool, true, false, not, _&&_, false≢true, true≢false}
@@ -80,7 +81,7 @@ not-below-through (fin s m e) (fin t n d) (inf u) i p q = q
 not-below-through (fin s m e) (fin t n d) (fin u k f) i p q =
     fraction-through s t u (m * up e) (n * up d) (k * up f) (down e) (down d) (down f) (down-pos e) (down-pos d) (down-pos f) p q
 
-not-above : (x y : Float) → lt x y ≡ true → lt y x ≡ false
+pub not-above : (x y : Float) → lt x y ≡ true → lt y x ≡ false
 unfolding lt
 not-above nan y p = absurd (false≢true p)
 not-above (inf s) nan p = refl
@@ -97,7 +98,13 @@ not-above (fin s m e) (inf true) p = absurd (false≢true p)
 not-above (fin s m e) (inf false) p = refl
 not-above (fin s m e) (fin t n d) p = below-not-above s t (m * up e * down d) (n * up d * down e) p
 
--- what is above another is a number, and so is what is below another
+-- what is below another is a number, and so is what is above another
+pub below-number : (x y : Float) → lt x y ≡ true → isNan x ≡ false
+unfolding lt isNan
+below-number nan y p = absurd (false≢true p)
+below-number (inf s) y p = refl
+below-number (fin s m e) y p = refl
+
 pub above-number : (x y : Float) → lt x y ≡ true → isNan y ≡ false
 unfolding lt isNan
 above-number nan y p = absurd (false≢true p)
@@ -114,3 +121,25 @@ below-trans x y z p q = either (lt x z) refl
     either : (t : Bool) → lt x z ≡ t → lt x z ≡ true
     either true e = e
     either false e = absurd (true≢false (sym p ∙ not-below-through x z y (above-number y z q) e (not-above y z q)))
+
+-- no value is below itself, and a NaN is not below any, nor is any below it
+pub not-below-self : (x : Float) → lt x x ≡ false
+not-below-self x = either (lt x x) refl
+  where
+    either : (t : Bool) → lt x x ≡ t → lt x x ≡ false
+    either true e = not-above x x e
+    either false e = e
+
+pub nan-not-below : (x y : Float) → isNan x ≡ true → lt x y ≡ false
+nan-not-below x y n = either (lt x y) refl
+  where
+    either : (t : Bool) → lt x y ≡ t → lt x y ≡ false
+    either true e = absurd (true≢false (sym n ∙ below-number x y e))
+    either false e = e
+
+pub not-below-nan : (x y : Float) → isNan y ≡ true → lt x y ≡ false
+not-below-nan x y n = either (lt x y) refl
+  where
+    either : (t : Bool) → lt x y ≡ t → lt x y ≡ false
+    either true e = absurd (true≢false (sym n ∙ above-number x y e))
+    either false e = e

@@ -1,0 +1,58 @@
+-- Short rows of points by computation. Assumes nothing.
+use mathlib.Core.Path.{_≡_, refl}
+use mathlib.Core.List.{List, [], _∷_}
+use Prim.Native.Nat.{ℕ}
+use lib.Ieee.{isNan, lt, ofBits, toBits, add, sub, mul}
+use lib.ListN.{replicate}
+use Rattle.nearest.specs.Nearest.{Values, nearest}
+
+-- the index i, none, and turned away
+abbrev at : ℕ → Values
+at i = record { number = 0; found = 1; index = i }
+
+abbrev nothing : Values
+nothing = record { number = 0; found = 0; index = 0 }
+
+abbrev away : Values
+away = record { number = 13; found = 0; index = 0 }
+
+-- from (0, 0): (2, 0), then (1, 0), (0, -1) and (-1, 0), which are equally far: the first of the three
+tie : nearest 0 0 (0x4000_0000_0000_0000 ∷ 0 ∷ 0x3ff0_0000_0000_0000 ∷ 0 ∷ 0 ∷ 0xbff0_0000_0000_0000 ∷ 0xbff0_0000_0000_0000 ∷ 0 ∷ []) ≡ at 1
+unfolding nearest isNan lt ofBits toBits add sub mul
+tie = refl
+
+-- a NaN in either word of a point is passed over, before and behind
+nans : nearest 0 0 (0x7ff0_0000_0000_0001 ∷ 0 ∷ 0x3ff0_0000_0000_0000 ∷ 0 ∷ 0 ∷ 0xfff8_0000_0000_0000 ∷ []) ≡ at 1
+unfolding nearest isNan lt ofBits toBits add sub mul
+nans = refl
+
+-- an infinite distance is one, and the earlier of two such; infinity from infinity is a NaN's
+infinite : nearest 0 0 (0x7ff0_0000_0000_0000 ∷ 0 ∷ 0xfff0_0000_0000_0000 ∷ 0 ∷ []) ≡ at 0
+unfolding nearest isNan lt ofBits toBits add sub mul
+infinite = refl
+
+apart : nearest 0x7ff0_0000_0000_0000 0 (0x7ff0_0000_0000_0000 ∷ 0 ∷ 0 ∷ 0 ∷ []) ≡ at 1
+unfolding nearest isNan lt ofBits toBits add sub mul
+apart = refl
+
+-- no points, NaNs alone, and an answer that is a NaN
+no-points : nearest 0 0 [] ≡ nothing
+unfolding nearest
+no-points = refl
+
+nans-alone : nearest 0 0 (0x7ff8_0000_0000_0000 ∷ 0 ∷ []) ≡ nothing
+unfolding nearest isNan ofBits toBits add sub mul
+nans-alone = refl
+
+lost : nearest 0 0xfff8_0000_0000_0007 (0 ∷ 0 ∷ 0 ∷ 0 ∷ []) ≡ nothing
+unfolding nearest isNan ofBits toBits add sub mul
+lost = refl
+
+-- three words, and 1,026
+odd : nearest 0 0 (0 ∷ 0 ∷ 0 ∷ []) ≡ away
+unfolding nearest
+odd = refl
+
+long : nearest 0 0 (replicate 1026 0) ≡ away
+unfolding nearest
+long = refl
