@@ -16,7 +16,7 @@ CRATES = TOP / "crates"
 TOKEN = re.compile(r"[(){};,⌜⌝]|[^\s(){};,⌜⌝]+")
 HEAD = re.compile(r"(?:pub |abbrev |unfoldable )*(?P<name>\S+) : (?P<type>.*)", re.DOTALL)
 BLOCK = re.compile(r"(?:pub )?(?P<kind>record|data) (?P<name>\S+)(?P<rest>.*)", re.DOTALL)
-MEMBER = re.compile(r"\s+(?:pub )?(?P<name>\S+) : (?P<type>.*)", re.DOTALL)
+MEMBER = re.compile(r"\s+(?:pub )?(?P<names>[^\s:]+(?: [^\s:]+)*) : (?P<type>.*)", re.DOTALL)
 USE = re.compile(r"(?:ghost )?use (?P<module>[^\s{;]+?)(?:\.\{(?P<names>[^}]*)\})?(?: as (?P<alias>[^\s;]+))?;?$")
 
 
@@ -140,7 +140,7 @@ def block_of(file: Path, match: re.Match[str]) -> Declaration:
     for item in chunks(rest.lstrip("\n"), top=False):
         member = MEMBER.match(item)
         if member:
-            declaration.members[member["name"]] = member["type"]
+            declaration.members.update({name: member["type"] for name in member["names"].split()})
     return declaration
 
 

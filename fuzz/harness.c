@@ -282,6 +282,114 @@ static size_t lent_length(uint8_t byte, unsigned of, size_t right, size_t unit) 
     }
 }
 
+/* Shelf figures: what lowering of the same sheet in all the room gave, and what a play of it from record 0 runs at most. */
+static void check_shelf(const Lowering *whole, size_t length) {
+    static Lent sheet, answer;
+    const uint8_t *lowered = whole->answer.at;
+    lend_copy(&sheet, whole->sheet.at, whole->sheet.length, 0xa5);
+    lend(&answer, length, 0xa5);
+    uint32_t number = tulipcricket_shelf(sheet.at, sheet.length, answer.at, answer.length);
+    take_back(&sheet, 0xa5);
+    take_back(&answer, 0xa5);
+    HOLDS(same(&sheet, whole->sheet.at));
+    if (length != TULIPCRICKET_SHELF_ANSWER) {
+        HOLDS(number == 8 && filled(answer.at, answer.length, 0xa5));
+        return;
+    }
+    HOLDS(number == whole->number && memcmp(answer.at, lowered, 16) == 0);
+    if (number != 0) {
+        HOLDS(filled(answer.at + 16, answer.length - 16, 0));
+        return;
+    }
+    HOLDS(memcmp(answer.at + 16, lowered + 16, 16) == 0);
+    Shape shape = shape_of(whole->listing.at, word_at(lowered + 16));
+    uint64_t most = shape.records + shape.calls * shape.block, records = word_at(answer.at + 32);
+    HOLDS(records == most || records == most - shape.block);
+}
+
+/* The running peak and the nearest point */
+
+static double number_of(uint64_t word) {
+    double number;
+    memcpy(&number, &word, 8);
+    return number;
+}
+
+static int is_nan(uint64_t word) { return (word & 0x7fffffffffffffff) > 0x7ff0000000000000; }
+
+/* What stands at position i is in its window, no word of the window is above it, and every earlier word of the window is below it. */
+static void is_peak(const uint8_t *run, const uint8_t *out, size_t i, uint64_t window) {
+    size_t from = i + 1 < window ? 0 : i + 1 - (size_t)window, at = i + 1;
+    uint64_t found = word_at(out + 8 * i);
+    for (size_t j = from; j <= i; j++) {
+        uint64_t word = word_at(run + 8 * j);
+        if (is_nan(word)) continue;
+        HOLDS(!is_nan(found) && number_of(word) <= number_of(found));
+        if (at > i && number_of(word) == number_of(found)) at = j;
+    }
+    HOLDS(at <= i ? word_at(run + 8 * at) == found : found == 0x7ff8000000000000);
+}
+
+static void check_peak(const uint8_t *bytes, size_t length, uint64_t window, size_t room) {
+    static Lent run, out;
+    lend_copy(&run, bytes, length, 0xa5);
+    lend(&out, room, 0xa5);
+    uint32_t number = tulipcricket_peak(run.at, run.length, window, out.at, out.length);
+    take_back(&run, 0xa5);
+    take_back(&out, 0xa5);
+    HOLDS(same(&run, bytes));
+    int torn = length % 8 != 0 || room % 8 != 0;
+    int barred = window == 0 || window > 64 || length > 32768 || room < length;
+    HOLDS(number == (torn ? 8 : barred ? 12 : 0));
+    HOLDS(filled(out.at + (number == 0 ? length : 0), room - (number == 0 ? length : 0), 0xa5));
+    for (size_t i = 0; number == 0 && i < length / 8; i++) is_peak(run.at, out.at, i, window);
+}
+
+/* "the difference of real words squared plus that of imaginary words squared", each operation rounded */
+static double distance(uint64_t re, uint64_t im, const uint8_t *point) {
+    double x = number_of(re) - number_of(word_at(point)), y = number_of(im) - number_of(word_at(point + 8));
+    double squared = x * x;
+    y *= y;
+    return squared + y;
+}
+
+/* The point found has a distance that is a number, and no other is smaller; where none is found all are NaNs. */
+static void is_nearest(uint64_t re, uint64_t im, const uint8_t *points, size_t length, int found, size_t at) {
+    double least_one = found ? distance(re, im, points + 16 * at) : 0;
+    HOLDS(least_one == least_one);
+    for (size_t i = 0; i < length / 16; i++) {
+        double other = distance(re, im, points + 16 * i);
+        HOLDS(found ? !(other < least_one) : other != other);
+    }
+}
+
+static void check_nearest(uint64_t re, uint64_t im, const uint8_t *bytes, size_t length, size_t room) {
+    static Lent points, answer;
+    lend_copy(&points, bytes, length, 0xa5);
+    lend(&answer, room, 0xa5);
+    uint32_t number = tulipcricket_nearest(re, im, points.at, points.length, answer.at, answer.length);
+    take_back(&points, 0xa5);
+    take_back(&answer, 0xa5);
+    HOLDS(same(&points, bytes));
+    if (room != TULIPCRICKET_NEAREST_ANSWER) {
+        HOLDS(number == 8 && filled(answer.at, answer.length, 0xa5));
+        return;
+    }
+    HOLDS(number == (length % 8 != 0 ? 8 : length % 16 != 0 || length > TULIPCRICKET_POINTS_LIMIT ? 13 : 0));
+    HOLDS(word_at(answer.at) == number && word_at(answer.at + 8) <= (number == 0 && length > 0));
+    HOLDS(word_at(answer.at + 8) == 1 ? word_at(answer.at + 16) < length / 16 : word_at(answer.at + 16) == 0);
+    if (number == 0) is_nearest(re, im, points.at, length, word_at(answer.at + 8) == 1, word_at(answer.at + 16));
+}
+
+/* The words of an input, whatever they are of, as a run and as points. */
+static void fuzz_words(const uint8_t *data, const uint8_t *rest, size_t size) {
+    size_t run = least(size, 32768 + 8), points = least(size, TULIPCRICKET_POINTS_LIMIT + 16);
+    if (data[1] % 8 != 1) run -= run % 8, points -= points % 16;
+    check_peak(rest, run, two(data + 2) % 67, lent_length(data[1], 3, run, 8));
+    check_nearest(word_at(rest), word_at(rest + 8), rest, points, lent_length(data[1], 2, TULIPCRICKET_NEAREST_ANSWER, 8));
+}
+
+
 static size_t room(size_t number) { return number == 0xffff ? 65536 : number == 0xfffe ? 65537 : number; }
 
 static void fuzz_lower(const uint8_t *data, size_t size) {
@@ -303,6 +411,7 @@ static void fuzz_lower(const uint8_t *data, size_t size) {
     agrees(&small, &whole);
     if (small.number == 7) is_played(&small);
     is_played(&whole);
+    check_shelf(&whole, lent_length(data[1], 3, TULIPCRICKET_SHELF_ANSWER, 8));
 }
 
 /* The store's words: all one word, then those of the input, each after its index. */
@@ -342,5 +451,6 @@ static void fuzz_play(const uint8_t *data, size_t size) {
 int LLVMFuzzerTestOneInput(const uint8_t *data, size_t size) {
     if (size >= LOWER_HEAD && data[0] % 2 == 0) fuzz_lower(data, size);
     if (size >= PLAY_HEAD && data[0] % 2 == 1) fuzz_play(data, size);
+    if (size >= PLAY_HEAD + 16) fuzz_words(data, data + PLAY_HEAD, size - PLAY_HEAD);
     return 0;
 }

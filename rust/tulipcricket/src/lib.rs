@@ -1,5 +1,6 @@
-//! Tulipcricket from Rust: `lower` a sheet to a listing, `play` the listing on a store, the running `peak` of answers. The C functions that do the work are proved;
-//! this wrapper, which lends them slices of the right lengths, is not.
+//! Tulipcricket from Rust: `lower` a sheet to a listing, `play` the listing on a store, the `shelf` figures of a sheet, the running `peak` of
+//! answers, the reference point `nearest` to one. The C functions that do the work are proved; this wrapper, which lends them slices of the
+//! right lengths, is not.
 //!
 //! The library is `libtulipcricket.a`, which `c/library` makes; see build.rs for where it is looked for. Its answers do not depend on the
 //! thread's floating-point environment.

@@ -1,0 +1,137 @@
+-- That the statements which the edits of must-fail/ put in place of the theorems are false, each under its edit's name.
+use Prim.Native.Nat.{ℕ, _^_, _≤_}
+use mathlib.Core.Path.{_≡_, refl, sym, ap, _∙_, subst}
+use mathlib.Core.Bool.{true}
+use mathlib.Core.List.{List, [], _∷_}
+use native.Mathlib.Omega.{arith}
+use lib.ListN.{length, drop, take, replicate, length-replicate}
+use lib.Dec.{lit<, lit≤}
+use Rattle.mir.specs.declared.records.Loc.{Loc}
+use Rattle.mir.specs.declared.records.Work.{Work}
+use Rattle.mir.specs.declared.records.Record.{Record}
+use Rattle.mir.specs.Register.{im}
+use Rattle.mir.specs.Length.{lengthOf}
+use Rattle.mir.specs.Field.{u16At, takesKind}
+use Rattle.mir.specs.Decode.{decoded}
+use Rattle.sheet.specs.Setup.{setup}
+use Rattle.records.specs.Record.{recordFrom}
+use Rattle.float.specs.Word.{ifElse}
+use Rattle.float.specs.Mends.{estimate, EightMends}
+use Rattle.float.specs.Laws.{IfElseLaw}
+use Rattle.player_machine.specs.Machine.{Write, _≔_, writes, execs, works, seek, isLabel, block, ticks, play}
+use Rattle.player_machine.specs.Jumps.{breach}
+use Rattle.player_machine.specs.Answer.{answer}
+use Rattle.player_machine.specs.Count.{Bounds}
+use Rattle.player_machine.specs.Step.{follows, written, step, steps, PlaysBySteps}
+use Rattle.player_machine.specs.Draws.{draws, fills, done, Confined}
+use Rattle.lowering.specs.declared.realness.Realness.{Realness}
+use Rattle.lowering.specs.Realness.{fresh, setReg}
+use Rattle.lowering.specs.Lower.{lowerFrom, lowerSheet}
+use Rattle.leftovers.specs.Leftovers.{Leftover, half, Accepted}
+use Rattle.leftovers.specs.Kept.{Kept, kept-im, Parted}
+use Rattle.leftovers.specs.Examples.{zeros, header, touched, mixing, clean}
+use Rattle.entries.specs.Examples.{bytes, words, Needed, Met, JumpedOver}
+use Rattle.entries.proofs.Entered.{answered}
+use Rattle.entries.proofs.Demand.{entries-demand-3}
+use Rattle.entries.proofs.Examples.{needed, met}
+use Rattle.figures.specs.Shelf.{refusal}
+use Rattle.figures.specs.Told.{FiguresReported}
+
+-- ---- demand 3
+
+-- where the endings differ the condition fails, and where it holds they are alike
+apart : (sheet : List ℕ) (i : ℕ) → Needed sheet i → Met sheet i → ⊥
+apart sheet i n m = n .differs (entries-demand-3 sheet bytes words zeros i zeros touched (n .given) .ending (m .unmixed))
+
+pub met-where-mixing : Met mixing 1 → ⊥
+met-where-mixing m = apart mixing 1 needed m
+
+pub needed-where-met : Needed clean 2 → ⊥
+needed-where-met n = apart clean 2 n met
+
+pub reached-half-jumped-over : JumpedOver mixing 1 1 → ⊥
+reached-half-jumped-over j = met-where-mixing (j .met)
+
+-- general 0 is complex in the one record and real in the other: its imaginary half would be kept and a leftover
+pub parted-by-two-records : ((ρ π : Realness) → Parted (Kept ρ) (Leftover π)) → ⊥
+parted-by-two-records p =
+    let ρ = fresh (replicate 64 0) in
+    let π = setReg ρ 0 true in
+    p ρ π .notBoth (im 0) (kept-im 0 (lit< tt) refl) (half 0 (lit< tt) refl)
+
+-- ---- what a record draws on and fills
+
+-- LoadComplex writes two words
+pub second-word-not-filled : Confined draws (λ w. take 1 (fills w)) → ⊥
+unfolding writes
+second-word-not-filled c = differ (ap length (c .written [] (Work.LoadComplex 0 1 (Loc.Stack 0)) []))
+  where
+    differ : _≡_ {A = ℕ} 2 1 → ⊥
+    differ e = omega arith
+
+-- Mov writes the word that it draws on
+value : List Write → ℕ
+value [] = 0
+value (i ≔ v ∷ ws) = v
+
+pub first-word-not-drawn-on : Confined (λ w. drop 1 (draws w)) fills → ⊥
+unfolding writes value
+first-word-not-drawn-on c = differ (ap value (c .depends [] (Work.Mov 0 1) [] (0 ∷ 5 ∷ []) done))
+  where
+    differ : _≡_ {A = ℕ} 0 5 → ⊥
+    differ e = omega arith
+
+-- ---- calls
+
+-- Branch 2 over a block of Label 1 and Branch 0, Label 2, and three Calls, each of which reaches both records of the block: 11 of 7 records
+calling : List ℕ
+calling =
+    5 ∷ 0 ∷ 15 ∷ 0 ∷ 2 ∷ 5 ∷ 0 ∷ 14 ∷ 0 ∷ 1 ∷ 5 ∷ 0 ∷ 15 ∷ 0 ∷ 0 ∷ 5 ∷ 0 ∷ 14 ∷ 0 ∷ 2 ∷ 5 ∷ 0 ∷ 16 ∷ 0 ∷ 1 ∷ 5 ∷ 0 ∷ 16 ∷ 0 ∷ 1 ∷ 5 ∷ 0 ∷ 16 ∷ 0 ∷ 1 ∷ []
+
+called : List Record
+called =
+    Record.Branch 2 ∷ Record.Label 1 ∷ Record.Branch 0 ∷ Record.Label 2 ∷ Record.Call 1 ∷ Record.Call 1 ∷ Record.Call 1 ∷ []
+
+pub bound-without-calls : Bounds length → ⊥
+unfolding calling zeros answer decoded recordFrom takesKind u16At lengthOf play works ticks execs seek isLabel block breach
+bound-without-calls law = differ (law calling [] 0 zeros)
+  where
+    differ : 11 ≤ 7 → ⊥
+    differ h = omega (arith, h)
+
+pub steps-without-calls : PlaysBySteps length → ⊥
+unfolding called steps step follows written play works ticks execs seek isLabel block breach
+steps-without-calls law = differ (ap (λ e. e .played) (law [] called 0 7 [] refl (lit≤ tt)))
+  where
+    differ : _≡_ {A = ℕ} 7 11 → ⊥
+    differ e = omega arith
+
+-- ---- the arithmetic
+
+-- of 1 and 0 chosen by a one
+pub false-first : IfElseLaw (λ c t f. ifElse c f t) → ⊥
+false-first law = differ (law 0 1 1 0 (lit< tt) (lit< tt))
+  where
+    differ : _≡_ {A = ℕ} 0 1 → ⊥
+    differ e = omega arith
+
+-- for the root of 2 the estimate is too small
+pub estimate-not-mended : EightMends estimate → ⊥
+estimate-not-mended law = let h = law (2 ^ 53) (lit≤ tt) (lit< tt) .0 .1 in omega (arith, h)
+
+-- ---- figures
+
+-- a header alone is accepted
+header-accepted : Accepted header 65536
+unfolding header lowerSheet setup u16At lowerFrom decoded
+header-accepted = record { right = refl; slice = lit≤ tt; number = refl }
+
+pub figures-of-no-sheet : FiguresReported (λ sheet. refusal 8 0) → ⊥
+figures-of-no-sheet law =
+    let listing : List ℕ = replicate 65536 0 in
+    let long : length listing ≡ 65536 = length-replicate {A = ℕ} 65536 0 in
+    let a = answered header listing (replicate 256 0) (subst (λ n. Accepted header n) (sym long) header-accepted) (length-replicate {A = ℕ} 256 0) in
+    differ (sym a ∙ law header listing (replicate 256 0) long (length-replicate {A = ℕ} 256 0) .number)
+  where
+    differ : _≡_ {A = ℕ} 0 8 → ⊥
+    differ e = omega arith
