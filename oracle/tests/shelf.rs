@@ -188,7 +188,7 @@ fn sheet() {
     let mut sheet = bytes(between(&text, "4. AN EXAMPLE\n", "and 64 times 00"));
     sheet.extend([0; 64]);
     sheet.extend(example(between(&text, "no place real), then\n", "Mem 4 becomes")));
-    let listing = example(between(&text, "the listing has 41 bytes:\n", "\n\u{c}"));
+    let listing = example(between(&text, "the listing has 41 bytes:\n", "\n\n"));
     let case = ToLower { sheet, room: 41, table: 256 };
     let (answer, written, constants) = lowered(&Reference, &case);
     assert_eq!((answer.number, answer.index, answer.written, answer.count), (0, 4, 41, 1));
