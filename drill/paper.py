@@ -32,10 +32,11 @@ def word(digits):
 
 
 def section_8():
-    """Its text, without page lines."""
+    """Its text, without page lines, each run of blanks and line feeds one blank."""
     text = PAPER.read_text(encoding="ascii")
     text = text[text.index("\n8. TO TRY A NEW PLAYER\n"):]
-    return re.sub(r"\f.*\n", "", text)
+    text = re.sub(r"\f.*\n", "", re.split(r"\n9\. ", text)[0])
+    return " ".join(text.split())
 
 
 def between(text, start, end):
@@ -67,30 +68,74 @@ def words(text):
     return {int(index): word(digits) for index, digits in pairs}
 
 
-def plays(text):
-    """Start, bytes changed and what comes back, of each play without words."""
-    found = []
-    for left, right in items(text):
-        start = int(left[1]) if left[0] == "start" else 0
-        pairs = [one.split(":") for one in left if ":" in one]
-        changed = {int(at): int(byte, 16) for at, byte in pairs}
-        found.append((start, changed, tuple(map(int, right))))
-    return found
+def cut_or_filled(row, count):
+    """So many of them: the last left off, or zeros put behind."""
+    return (row + [0] * (count - len(row)))[:count]
+
+
+class Play:
+    """One play: what it is given, the answer and the store's checksum where the paper has it."""
+
+    def __init__(self, listing, left, right):
+        given = {"start": 0, "constants": len(listing.constants), "words": 1602, "bytes": len(listing.listing)}
+        changes = []
+        for name, one in zip([None] + left, left):
+            if name in given:
+                given[name] = int(one)
+            elif ":" in one:
+                changes.append(one.split(":"))
+        self.name, self.start = " ".join(left), given["start"]
+        self.constants = cut_or_filled(listing.constants, given["constants"])
+        self.store = cut_or_filled(listing.store, given["words"])
+        self.listing = bytearray(cut_or_filled(list(listing.listing), given["bytes"]))
+        for at, byte in changes:
+            self.listing[int(at)] = int(byte, 16)
+        if len(right) == 1:
+            right = listing.answer + right
+        self.answer = tuple(map(int, right[:3]))
+        self.checksum = right[3] if len(right) > 3 else None
+
+    def differences(self, player, after=None):
+        """A line for each difference from the paper; after is the store at the end, where the paper has it."""
+        store = list(self.store)
+        answer = player.play(bytes(self.listing), self.constants, store, self.start)
+        if answer != self.answer:
+            yield "%s gives %s" % (self.name, answer)
+        if self.answer[0] != 0:
+            after = self.store
+        if after is not None:
+            yield from ("%s, word %d is %016x" % (self.name, at, given)
+                        for at, (given, listed) in enumerate(zip(store, after)) if given != listed)
+        if self.checksum is not None:
+            given = "%08x" % player.checksum(player.file_of(store))
+            if given != self.checksum:
+                yield "%s gives a store with the checksum %s" % (self.name, given)
 
 
 class Listing:
-    """A listing of section 8 with its plays, from the text behind "Then plays"."""
+    """A listing of section 8 with its plays, from the text that begins with its number."""
 
     def __init__(self, text):
-        self.constants = [word(between(text, "one constant,", ", and a store").strip())]
-        before = words(between(text, "zeros but for words", "of the listing"))
+        self.checksum = between(text, "checksum ", ":")[:8]
+        self.listing = bytes.fromhex(between(text, ":", "With one constant"))
+        self.constants = [word(between(text, "With one constant, ", ","))]
+        before = words(between(text, "zeros but for words", "from start 0"))
         self.store = [before.get(index, 0) for index in range(1602)]
-        self.listing = bytes.fromhex(between(text, "(hexadecimal):", "From start 0"))
-        answer = between(text, "number, index, played =", "and leaves words")
-        self.answer = tuple(map(int, answer.split()))
-        after = words(between(text, "and leaves words", "all others"))
+        answer = between(text, "comes back", ",").split()
+        after = words(between(text, "words are new:", "With a change"))
         self.after = [after.get(at, old) for at, old in enumerate(self.store)]
-        self.plays = plays(between(text, "it gives number, index, played:", None))
+        self.answer = answer[:3]
+        self.whole = Play(self, ["start", "0"], answer)
+        listed = items(between(text, "With a change comes back:", None))
+        self.plays = [Play(self, left, right) for left, right in listed]
+
+    def differences(self, player):
+        given = "%08x" % player.checksum(self.listing)
+        if given != self.checksum:
+            yield "the listing's checksum is " + given
+        yield from self.whole.differences(player, self.after)
+        for play in self.plays:
+            yield from play.differences(player)
 
 
 class Section:
@@ -100,54 +145,29 @@ class Section:
         text = section_8()
         self.vectors = (vectors(between(text, "Operands = result:", "With NaN operands:"))
                         + vectors(between(text, "With NaN operands:", "Then plays")))
-        self.listings = [Listing(one) for one in text.split("Then plays")[1:]]
+        self.listings = [Listing(one) for one in re.split(r"Listing \d", text)[1:]]
+        self.of_ff = re.search(r"checksum of (\d+) bytes ff is ([0-9a-f]{8})", text)
 
     def count_of_plays(self):
         return sum(1 + len(listing.plays) for listing in self.listings)
 
 
-def check_vectors(section, player):
-    lines = []
+def vector_differences(section, player):
     for name, operands, results in section.vectors:
         given = getattr(player, FUNCTIONS[name])(*operands)
         given = list(given) if isinstance(given, tuple) else [given]
         if given != results:
-            lines.append("%s of %s is %s" % (
+            yield "%s of %s is %s" % (
                 name, ["%016x" % one for one in operands],
-                ["%016x" % one for one in given]))
-    return lines
+                ["%016x" % one for one in given])
 
 
-def check_whole_play(listing, player):
-    store = list(listing.store)
-    answer = player.play(listing.listing, listing.constants, store, 0)
-    lines = []
-    if answer != listing.answer:
-        lines.append("start 0 gives %s" % (answer,))
-    for at, (given, listed) in enumerate(zip(store, listing.after)):
-        if given != listed:
-            lines.append("word %d is %016x" % (at, given))
-    return lines
-
-
-def check_plays(listing, player):
-    lines = []
-    for start, changed, listed in listing.plays:
-        bytes_of_it = bytearray(listing.listing)
-        for at, byte in changed.items():
-            bytes_of_it[at] = byte
-        store = list(listing.store)
-        answer = player.play(bytes(bytes_of_it), listing.constants, store, start)
-        if answer != listed:
-            lines.append("start %d, %s gives %s" % (start, changed, answer))
-        if listed[0] != 0 and store != listing.store:
-            lines.append("start %d, %s changes the store" % (start, changed))
-    return lines
-
-
-def check(player):
-    section = Section()
-    lines = check_vectors(section, player)
+def check(player, section=None):
+    """The differences one after the other, each worked out where it is asked for."""
+    section = section or Section()
+    given = "%08x" % player.checksum(b"\xff" * int(section.of_ff[1]))
+    if given != section.of_ff[2]:
+        yield "the checksum of bytes ff is " + given
+    yield from vector_differences(section, player)
     for listing in section.listings:
-        lines += check_whole_play(listing, player) + check_plays(listing, player)
-    return lines
+        yield from listing.differences(player)

@@ -60,6 +60,22 @@ def with_sign(s, w):
     return w + s * HIGHEST_BIT
 
 
+# 3. THE LISTING, and page 1: words in a file, a file's checksum
+
+
+def file_of(words):
+    """The words by index, one right after the other, the lowest byte of each first."""
+    return b"".join(w.to_bytes(8, "little") for w in words)
+
+
+def checksum(data):
+    a, b = 1, 0
+    for byte in data:
+        a = (a + byte) % 65521
+        b = (b + a) % 65521
+    return b * 65536 + a
+
+
 # 7. OPERATIONS ON WORDS
 
 

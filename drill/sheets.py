@@ -11,6 +11,7 @@ format stands in oracle/src/lists.rs.
 """
 
 import sys
+from typing import NamedTuple
 
 sys.dont_write_bytecode = True
 
@@ -259,25 +260,47 @@ def lower(sheet, room, table, full_at):
     return 0, index, record
 
 
+class Case(NamedTuple):
+    """A sheet of a list, the room lent, and what lowering gives."""
+    sheet: bytes
+    room: int
+    table: int
+    number: int
+    index: int
+    flags: bytes
+    places: bytes
+    listing: bytes
+    constants: list[int]
+
+
+def read_case(reader):
+    length, room, table, number, index, written, constants = (reader.u32() for _ in range(7))
+    flags, places = reader.take(32), reader.take(64)
+    return Case(reader.take(length), room, table, number, index, flags, places, reader.take(written), reader.words(constants))
+
+
+def cases(path):
+    """The cases of a list."""
+    with open(path, "rb") as file:
+        reader = Reader(file.read())
+    found = [read_case(reader) for _ in range(reader.u32())]
+    if reader.at != len(reader.data):
+        raise SystemExit("bytes are left behind the last case")
+    return found
+
+
 def main():
     if len(sys.argv) != 2:
         raise SystemExit("usage: python3 drill/sheets.py LIST")
-    with open(sys.argv[1], "rb") as file:
-        reader = Reader(file.read())
-    count, differ = reader.u32(), 0
-    for case in range(count):
-        length, room, table, number, index, written, constants = (reader.u32() for _ in range(7))
-        flags, places = reader.take(32), reader.take(64)
-        sheet = reader.take(length)
-        reader.take(written + 8 * constants)
-        full_at = index if number == LISTING_FULL else None
-        given = lower(sheet, room, table, full_at)
-        if given[:2] != (number, index) or bytes(given[2].registers) != flags or given[2].places != places:
+    count = differ = 0
+    for case in cases(sys.argv[1]):
+        full_at = case.index if case.number == LISTING_FULL else None
+        number, index, record = lower(case.sheet, case.room, case.table, full_at)
+        if (number, index) != case[3:5] or bytes(record.registers) != case.flags or record.places != case.places:
             differ += 1
             if differ <= MOST_LINES:
-                print("sheet %d: %d at %d, the list has %d at %d" % (case, given[0], given[1], number, index))
-    if reader.at != len(reader.data):
-        raise SystemExit("bytes are left behind the last case")
+                print("sheet %d: %d at %d, the list has %d at %d" % (count, number, index, case.number, case.index))
+        count += 1
     print("%d sheets, %d differ" % (count, differ))
     return 1 if differ else 0
 

@@ -13,9 +13,10 @@ fn paper(name: &str) -> String {
     std::fs::read_to_string(path).unwrap()
 }
 
-/// docs/SHELF.md without the lines that number its pages.
-fn shelf() -> String {
-    paper("SHELF").split('\u{c}').map(|page| page.split_once('\n').unwrap().1).collect()
+/// Section 8 of docs/SHELF.md without the lines that number its pages.
+fn section_8() -> String {
+    let text: String = paper("SHELF").split('\u{c}').map(|page| page.split_once('\n').unwrap().1).collect();
+    between(&text, "\n8. TO TRY A NEW PLAYER\n", "\n9. ").to_string()
 }
 
 /// What stands behind `start`, up to `end`.
@@ -59,10 +60,10 @@ fn record(name: &str) -> Vec<u8> {
 
 #[test]
 fn operations() {
-    let text = shelf();
+    let text = section_8();
     let mut rows = items(between(&text, "Operands = result:", "With NaN operands:"));
     rows.extend(items(between(&text, "With NaN operands:", "Then plays")));
-    assert!(rows.len() >= 100);
+    assert!(rows.len() >= 150);
     let mut name = String::new();
     for (left, right) in rows {
         let names = left.iter().take_while(|one| one.starts_with(char::is_uppercase)).count();
@@ -92,44 +93,85 @@ fn with(mut store: Vec<u64>, text: &str) -> Vec<u64> {
     store
 }
 
-fn numbers(words: &[&str]) -> Vec<u64> {
-    words.iter().map(|one| one.parse().unwrap()).collect()
+/// The checksum of a store, Adler-32 of its words with the lowest byte first.
+fn checksum(store: &[u64]) -> String {
+    let (mut a, mut b) = (1u32, 0u32);
+    for byte in store.iter().flat_map(|word| word.to_le_bytes()) {
+        a = (a + u32::from(byte)) % 65521;
+        b = (b + a) % 65521;
+    }
+    format!("{:08x}", b * 65536 + a)
 }
 
-/// A listing of section 8 with its plays, in the text behind "Then plays".
-fn plays_of(text: &str) {
-    let constants = [word(between(text, "one constant, ", ","))];
-    let before = with(vec![0; STORE], between(text, "zeros but for words", "of the listing"));
-    let after = with(before.clone(), between(text, "and leaves words", "all others"));
-    let listing = bytes(between(text, "(hexadecimal):", "From start 0"));
-    let whole: Vec<&str> = between(text, "number, index, played =", "and leaves").split_whitespace().collect();
-    let mut rows = items(between(text, "it gives number, index, played:", ""));
-    assert!(rows.len() >= 20);
-    rows.push((vec!["start", "0"], whole));
-    for (left, right) in rows {
-        let start = if left[0] == "start" { left[1].parse().unwrap() } else { 0 };
-        let mut changed = listing.clone();
-        for (at, byte) in left.iter().filter_map(|one| one.split_once(':')) {
-            changed[at.parse::<usize>().unwrap()] = u8::from_str_radix(byte, 16).unwrap();
-        }
-        let mut store = before.clone();
-        let answer = play(&changed, &constants, &mut store, start);
-        assert_eq!(vec![answer.number as u64, answer.index, answer.played], numbers(&right), "{left:?}");
-        if left == ["start", "0"] {
-            assert_eq!(store, after);
-        }
-        if answer.number != 0 {
-            assert_eq!(store, before);
+/// A listing of section 8: bytes, constants, the stores before and after, what comes back from start 0.
+struct Listing<'a> {
+    bytes: Vec<u8>,
+    constants: Vec<u64>,
+    before: Vec<u64>,
+    after: Vec<u64>,
+    answer: Vec<&'a str>,
+}
+
+/// What a play is given: so many of each, the last left off or zeros behind them, then the bytes changed.
+fn given(listing: &Listing, left: &[&str]) -> (Vec<u8>, Vec<u64>, Vec<u64>, u64) {
+    let (mut bytes, mut constants, mut store, mut start) =
+        (listing.bytes.clone(), listing.constants.clone(), listing.before.clone(), 0);
+    for pair in left.windows(2).filter(|pair| pair[1].parse::<usize>().is_ok()) {
+        let count = pair[1].parse().unwrap();
+        match pair[0] {
+            "bytes" => bytes.resize(count, 0),
+            "constants" => constants.resize(count, 0),
+            "words" => store.resize(count, 0),
+            "start" => start = count as u64,
+            other => panic!("{other}"),
         }
     }
+    for (at, byte) in left.iter().filter_map(|one| one.split_once(':')) {
+        bytes[at.parse::<usize>().unwrap()] = u8::from_str_radix(byte, 16).unwrap();
+    }
+    (bytes, constants, store, start)
+}
+
+/// One play; a checksum alone goes with the number, index and records played from start 0.
+fn play_of(listing: &Listing, left: &[&str], right: &[&str]) {
+    let right = if right.len() == 1 { [&listing.answer[..3], right].concat() } else { right.to_vec() };
+    let (bytes, constants, before, start) = given(listing, left);
+    let mut store = before.clone();
+    let answer = play(&bytes, &constants, &mut store, start);
+    let numbers: Vec<u64> = right[..3].iter().map(|one| one.parse().unwrap()).collect();
+    assert_eq!(vec![answer.number as u64, answer.index, answer.played], numbers, "{left:?}");
+    if answer.number == 0 {
+        assert_eq!(checksum(&store), right[3], "{left:?}");
+    } else {
+        assert_eq!((&store, right.len()), (&before, 3), "{left:?}");
+    }
+    if left == ["start", "0"] {
+        assert_eq!(store, listing.after);
+    }
+}
+
+/// A listing with its plays, in the text behind "Listing".
+fn plays_of(text: &str) -> usize {
+    let before = with(vec![0; STORE], between(text, "zeros but for words", "from start 0"));
+    let listing = Listing {
+        bytes: bytes(between(text, ":", "With one constant")),
+        constants: vec![word(between(text, "With one constant, ", ","))],
+        after: with(before.clone(), between(text, "words are new:", "With a change")),
+        before,
+        answer: between(text, "comes back", ",").split_whitespace().collect(),
+    };
+    let mut rows = items(between(text, "With a change comes back:", ""));
+    rows.push((vec!["start", "0"], listing.answer.clone()));
+    rows.iter().for_each(|(left, right)| play_of(&listing, left, right));
+    rows.len()
 }
 
 #[test]
 fn plays() {
-    let text = shelf();
-    let listings: Vec<&str> = text.split("Then plays").skip(1).collect();
-    assert_eq!(listings.len(), 2);
-    listings.into_iter().for_each(plays_of);
+    let text = section_8();
+    let listings: Vec<&str> = text.split("\nListing ").skip(1).collect();
+    assert_eq!(listings.len(), 3);
+    assert!(listings.into_iter().map(plays_of).sum::<usize>() >= 110);
 }
 
 /// The bytes at the start of each line of an example; other words end them.
@@ -146,7 +188,7 @@ fn sheet() {
     let mut sheet = bytes(between(&text, "4. AN EXAMPLE\n", "and 64 times 00"));
     sheet.extend([0; 64]);
     sheet.extend(example(between(&text, "no place real), then\n", "Mem 4 becomes")));
-    let listing = example(between(&text, "the listing has 41 bytes:\n", "\n\u{c}"));
+    let listing = example(between(&text, "the listing has 41 bytes:\n", "\n\n"));
     let case = ToLower { sheet, room: 41, table: 256 };
     let (answer, written, constants) = lowered(&Reference, &case);
     assert_eq!((answer.number, answer.index, answer.written, answer.count), (0, 4, 41, 1));
