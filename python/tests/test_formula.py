@@ -230,8 +230,8 @@ class Plays(unittest.TestCase):
         self.assertEqual(answers["K"], [1.0, 3.0, 3.0])
         self.assertTrue(formula.is_real("K"))
 
-    def test_refusals_cannot_change(self) -> None:
-        """The places of names: what is shown first."""
+    def test_places(self) -> None:
+        """What is given stands in Param, what is shown first in Mem."""
         formula = Formula(CELL)
         self.assertEqual([formula.place(name) for name in ("f", "Z", "w", "Rs")], ["Param 0", "Mem 0", "Mem 1", "Mem 2"])
 
@@ -427,6 +427,38 @@ class Near(unittest.TestCase):
                 worst = max(worst, ulps(answer, exact))
         self.assertLess(worst, 2)
 
+    def test_corner(self) -> None:
+        """A corner by if, where only + - * / occur: within 2 units of the last place on both sides."""
+        formula = Formula("given w\nR0 = 20 ; R1 = 250 ; C1 = 1e-5 ; C2 = 3e-6\n"
+                          "Z = R0 + 1/(1/R1 + j*w*C1) if w < 1000 else R0 + 1/(1/R1 + j*w*C2)\nshow Z")
+        sides = set()
+        for f in frequencies():
+            w = 6.283185307179586 * f
+            z = formula(w=w)
+            sides.add(w < 1000)
+            inner = over((Fraction(1, 250), Fraction(w) * Fraction(1e-5 if w < 1000 else 3e-6)))
+            for answer, exact in ((z.real, 20 + inner[0]), (z.imag, inner[1])):
+                self.assertLess(ulps(answer, exact), 2)
+        self.assertEqual(sides, {True, False})
+
+    def test_roots_in_a_circuit(self) -> None:
+        """R0-p(R1-W1,CPE1): within 4 units of 2^-53 of Z's size, 3 units of the last place in Re and 6 in Im (docs/FORMULA.md)."""
+        formula = Formula(circuit("R0-p(R1-W1,CPE1)", [20, 250, 150, 4e-5, 0.85]).text.replace("given f\nw = 2*pi*f", "given w"))
+        for f in frequencies():
+            w = 6.283185307179586 * f
+            z = formula(w=w)
+            with localcontext() as context:
+                context.prec = 60
+                cpe = [Fraction(half) * Fraction(4e-5) for half in power(Decimal(0), Decimal(w), Fraction(0.85))]
+                warburg = 150 / Fraction(Decimal(w).sqrt())
+            branch = over((250 + warburg, -warburg))
+            inner = over((branch[0] + cpe[0], branch[1] + cpe[1]))
+            exact = (20 + inner[0], inner[1])
+            away = (Fraction(z.real) - exact[0]) ** 2 + (Fraction(z.imag) - exact[1]) ** 2
+            self.assertLess(away, (exact[0] ** 2 + exact[1] ** 2) * (4 * Fraction(2) ** -53) ** 2)
+            self.assertLess(ulps(z.real, exact[0]), 3)
+            self.assertLess(ulps(z.imag, exact[1]), 6)
+
     def test_powers(self) -> None:
         """x^n in every quadrant: within 6 units of 2^-53 of its size (docs/FORMULA.md says what was seen)."""
         chance, worst = random.Random(5), Decimal(0)
@@ -462,7 +494,7 @@ class Near(unittest.TestCase):
                 self.assertLess(abs(answer - exact) / abs(exact), 1e-14, (text, f))
 
     def test_readme(self) -> None:
-        """The README's formula at 1 Hz, by the words of double-precision arithmetic done by hand elsewhere: see README.md."""
+        """Z of the sheet that README.md writes by hand, at w = 1000: its words are the doubles nearest to the exact Z."""
         formula = Formula("given w\nRs = 20 ; Rct = 250 ; C = 1e-5\nmode plain\nZ = Rs + 1/(1/Rct + j*w*C)\nshow Z")
         run = formula.play({"w": [(word_of(1000.0),)]})
         self.assertEqual(run.bits("Z"), [("404b3dcb08d3dcb1", "c0558d3dcb08d3dd")])

@@ -10,13 +10,15 @@ import argparse
 import sys
 import time
 from pathlib import Path
-from typing import Dict, List, Optional, Sequence, Tuple
+from typing import Dict, List, Mapping, Optional, Sequence, Tuple
 
+from . import plots, report
 from . import table as tables
 from .circuits import formula_text
 from .errors import FormulaError, LibraryMissing, TableError, TulipcricketError
 from .formula import Formula, Run
 from .meaning import Value
+from .words import double_of
 
 PICTURES = (".svg", ".png", ".pdf")
 
@@ -188,6 +190,35 @@ def run_command(words: argparse.Namespace) -> None:
     write_file(words.output, tables.write(columns, table.separator if table else ",").encode())
     if words.sheet:
         write_file(words.sheet, formula.sheet.data)
+    missing = draw(words, formula, given, run, columns, table.name if table else "no table")
+    if missing:
+        raise Unusable(missing)
+
+
+def draw(words: argparse.Namespace, formula: Formula, given: Mapping[str, List[Value]], run: Run,
+         columns: Sequence[Tuple[str, List[str]]], source: str) -> str:
+    """The plots and the report that are asked for; a report is written without plots too. Says what could not be drawn."""
+    if not words.plot and not words.report:
+        return ""
+    curves, missing = None, ""
+    try:
+        curves = plots.curves(formula, doubles(given), run, words.over)
+        plots.matplotlib()
+    except plots.NoPlots as why:
+        curves, missing = None, str(why)
+    if curves is not None:
+        for name in words.plot:
+            write_file(name, plots.picture(curves, name))
+    if words.report:
+        write_file(words.report, report.page(formula, run, columns, curves, missing, source).encode())
+        if missing:
+            print(f"tulipcricket: the report has no plots: {missing}", file=sys.stderr)
+    return missing if words.plot else ""
+
+
+def doubles(given: Mapping[str, List[Value]]) -> Dict[str, List[float]]:
+    """Real columns as numbers."""
+    return {name: [double_of(value[0]) for value in values] for name, values in given.items()}
 
 
 def main(arguments: Optional[Sequence[str]] = None) -> int:
