@@ -1,5 +1,6 @@
 """Malformed formulas: each is refused at the line and column that its case marks."""
 
+import random
 import unittest
 from pathlib import Path
 from typing import List, Tuple
@@ -70,6 +71,24 @@ class Malformed(unittest.TestCase):
     def at_the_end(piece: str, end: str) -> str:
         """The end of a line is blamed where it stands."""
         return f"{HEAD}{piece}\nshow w\n".replace("\n", end).replace("|\r\n", "|\n")
+
+    def test_any_text(self) -> None:
+        """Tokens in any order, and any bytes, are taken or refused within the text, and nothing else happens."""
+        chance = random.Random(11)
+        tokens = ("given show mode plain complex if else and or not j pi f w Z sqrt abs ( ) + - * / ^ < <= == = , ; 1 2.5 1e3 0.3 # ² . $ é"
+                  " _ 1e999 f w ( ) 1").split(" ") + ["\n", "\r\n", "\t", "\0"]
+        for i in range(4000):
+            text = "".join(chance.choice(tokens) + chance.choice(["", " "]) for _ in range(chance.randint(1, 25)))
+            text = f"{HEAD}Z = {text}\nshow Z" if i % 2 else text
+            data = text.encode() if i % 4 else bytes(chance.getrandbits(8) for _ in range(30))
+            try:
+                Formula.read(data, "x")
+            except FormulaError as error:
+                lines = error.text.split("\n")
+                self.assertLessEqual(error.line, len(lines))
+                self.assertLessEqual(error.column, len(lines[error.line - 1]) + 1)
+                self.assertGreaterEqual(min(error.line, error.column), 1)
+                error.shown()
 
     def test_nothing_shown(self) -> None:
         """The end of the file is blamed."""

@@ -10,9 +10,9 @@ import argparse
 import sys
 import time
 from pathlib import Path
-from typing import Dict, List, Mapping, Optional, Sequence, Tuple
+from typing import Any, Dict, List, Mapping, NoReturn, Optional, Sequence, Tuple
 
-from . import plots, report
+from . import plots, provenance, report
 from . import table as tables
 from .circuits import formula_text
 from .errors import FormulaError, LibraryMissing, TableError, TulipcricketError
@@ -27,9 +27,22 @@ class Unusable(Exception):
     """Wrong usage, or a file that cannot be read or made."""
 
 
+class Version(argparse.Action):
+    """Prints the commit; git is asked only then."""
+
+    def __init__(self, option_strings: Sequence[str], dest: str, **words: Any) -> None:
+        super().__init__(option_strings, dest, nargs=0, **words)
+
+    def __call__(self, top: argparse.ArgumentParser, *_: object) -> NoReturn:
+        """Ends the command."""
+        print(f"tulipcricket, commit {provenance.commit()}")
+        top.exit()
+
+
 def parser() -> argparse.ArgumentParser:
     """The words of the command line."""
     top = argparse.ArgumentParser(prog="tulipcricket", description="Answers of a formula, every bit by the proved library.")
+    top.add_argument("--version", action=Version, help="print the commit, and stop")
     commands = top.add_subparsers(dest="command", required=True)
     run = commands.add_parser("run", help="play a formula at every line of a table", description=run_text())
     run.add_argument("files", nargs="*", metavar="FILE", help="FORMULA TABLE, or TABLE with --circuit; - is standard input")

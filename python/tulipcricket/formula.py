@@ -166,7 +166,7 @@ class Formula:
                     f"{self.program.name}:{let.at.line}: {let.name} plays as {played}, and exact evaluation gives {told}; "
                     "this is a fault of this program, and no answer is given")
 
-    def __call__(self, *, validate: str = "three", **given: Any) -> Any:
+    def __call__(self, /, *, validate: str = "three", **given: Any) -> Any:
         """The answers for numbers, lists or numpy arrays by name; of several names shown, a dict.
 
         Numbers give numbers, lists give lists, and where one of them is an array, so are the answers. `validate` is `three` or `every`.

@@ -60,9 +60,12 @@ def curves(formula: Formula, given: Dict[str, List[float]], run: Run, over: Opti
     return [Curve(name, over, x, [complex(value) for value in run.values(name)]) for name in names]
 
 
-def label(text: str, name: str) -> str:
-    """An axis: what is drawn, and the unit of the name where its unit is known."""
-    return f"{text} / {UNITS[name]}" if name in UNITS else text
+def label(text: str, names: Sequence[str]) -> str:
+    """An axis: what is drawn, in the unit of the name where that is known; of several names, what is drawn alone."""
+    if len(names) > 1:
+        return text.format("").strip()
+    unit = f" / {UNITS[names[0]]}" if names[0] in UNITS else ""
+    return text.format(names[0]) + unit
 
 
 def finite(curve: Curve) -> List[Tuple[float, complex]]:
@@ -96,15 +99,17 @@ def nyquist(axes: Any, drawn: Sequence[Curve]) -> None:
         axes.plot([z.real for _, z in points], [-z.imag for _, z in points], color=colour, label=curve.name, **style(len(points)))
     axes.margins(0.12)
     axes.set_aspect("equal", adjustable=adjustable(drawn))
-    first = drawn[0]
-    axes.set_xlabel(label(f"Re {first.name}", first.name))
-    axes.set_ylabel(label(f"−Im {first.name}", first.name))
+    first, names = drawn[0], [curve.name for curve in drawn]
+    axes.set_xlabel(label("Re {}", names))
+    axes.set_ylabel(label("−Im {}", names))
+    axes.xaxis.set_major_locator(matplotlib().ticker.MaxNLocator(6))
     axes.set_title(f"Nyquist, powers of ten of {first.over}{' in ' + UNITS[first.over] if first.over in UNITS else ''} marked")
     if len(drawn) > 1:
         axes.legend()
     axes.figure.draw_without_rendering()
+    named: List[Tuple[float, float]] = []
     for curve, colour in zip(drawn, COLOURS * len(drawn)):
-        mark(axes, decades(finite(curve)), colour)
+        mark(axes, decades(finite(curve)), colour, named)
 
 
 def adjustable(drawn: Sequence[Curve]) -> str:
@@ -127,16 +132,14 @@ def scale_of_sizes(axes: Any, sizes: Sequence[float]) -> None:
         axes.yaxis.set_minor_formatter(ticker.NullFormatter())
 
 
-def mark(axes: Any, marks: Sequence[Tuple[int, complex]], colour: str) -> None:
-    """Rings at the decades, with names where they do not lie upon each other."""
-    named: List[Tuple[float, float]] = []
+def mark(axes: Any, marks: Sequence[Tuple[int, complex]], colour: str, named: List[Tuple[float, float]]) -> None:
+    """Rings at the decades, with names below them, inside an arc, where they do not lie upon each other; `named` is where names stand."""
     for k, z in marks:
         axes.plot([z.real], [-z.imag], marker="o", markersize=6, markerfacecolor="white", markeredgecolor=colour, linestyle="none")
         x, y = axes.transData.transform((z.real, -z.imag))
         if all(math.hypot(x - u, y - v) > 26 for u, v in named):
             named.append((x, y))
-            axes.annotate(f"$10^{{{k}}}$", (z.real, -z.imag), textcoords="offset points", xytext=(5, 6), fontsize=8, color=colour,
-                          bbox={"boxstyle": "square,pad=0.1", "facecolor": "white", "edgecolor": "none", "alpha": 0.8})
+            axes.annotate(f"$10^{{{k}}}$", (z.real, -z.imag), textcoords="offset points", xytext=(5, -11), fontsize=8, color=colour)
 
 
 def bode(upper: Any, lower: Any, drawn: Sequence[Curve]) -> None:
@@ -150,9 +153,9 @@ def bode(upper: Any, lower: Any, drawn: Sequence[Curve]) -> None:
     for axes in (upper, lower):
         axes.set_xscale("log")
     scale_of_sizes(upper, [abs(z) for curve in drawn for x, z in finite(curve) if x > 0 and z != 0])
-    upper.set_ylabel(label(f"|{first.name}|", first.name))
+    upper.set_ylabel(label("|{}|", [curve.name for curve in drawn]) if len(drawn) == 1 else "size")
     lower.set_ylabel("phase / °")
-    lower.set_xlabel(label(first.over, first.over))
+    lower.set_xlabel(label("{}", [first.over]))
     upper.set_title("Bode")
     if len(drawn) > 1:
         upper.legend()
