@@ -21,8 +21,16 @@ class WithLibrary(build_py):
             raise SystemExit(f"{LIBRARY} is not there: run c/library first")
         folder = Path(self.build_lib) / "tulipcricket"
         shutil.copy2(LIBRARY, folder / LIBRARY.name)
-        said = subprocess.run(["git", "-C", str(ROOT), "rev-parse", "HEAD"], capture_output=True, text=True, check=False)
-        (folder / "commit").write_text(said.stdout)
+        (folder / "commit").write_text(commit())
+
+
+def commit() -> str:
+    """The commit's name, with -dirty where files are changed; nothing where there is no git."""
+    words = ["git", "-C", str(ROOT), "describe", "--always", "--abbrev=40", "--dirty", "--exclude=*"]
+    try:
+        return subprocess.run(words, capture_output=True, text=True, check=False).stdout
+    except OSError:
+        return ""
 
 
 setup(cmdclass={"build_py": WithLibrary})

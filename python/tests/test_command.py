@@ -1,5 +1,6 @@
 """The command run: tables in and out, separators, marks, files, exit statuses."""
 
+import contextlib
 import io
 import os
 import subprocess
@@ -9,7 +10,8 @@ import unittest
 from pathlib import Path
 from typing import Tuple
 
-from tulipcricket import TableError
+from tulipcricket import Formula, TableError
+from tulipcricket.command import main
 from tulipcricket.table import Table
 from tulipcricket.words import double_of, hexadecimal, lost, read, word_of, written
 
@@ -147,12 +149,26 @@ class Commands(unittest.TestCase):
         for words in (["none.formula", "x.csv"], ["d.formula", "none.csv"], ["d.formula"], [], ["d.formula", "x.csv", "x.csv"],
                       ["d.formula", "x.csv", "-o", "x.csv"], ["d.formula", "x.csv", "-o", "no/z.csv"], ["-", "-"],
                       ["d.formula", "x.csv", "--plot", "z.gif"], ["d.formula", "x.csv", "--values", "1"], ["--formula"],
-                      ["d.formula", "x.csv", "--circuit", "R0"], ["d.formula", "x.csv", "--wrong"]):
+                      ["d.formula", "x.csv", "--circuit", "R0"], ["d.formula", "x.csv", "--wrong"],
+                      ["d.formula", "x.csv", "-o", "a.svg", "--plot", "a.svg"]):
             status, out, error = self.run_it(*words)
             self.assertEqual((status, out), (2, ""), words)
             self.assertNotIn("Traceback", error)
         self.assertEqual(sorted(path.name for path in self.folder.iterdir()), ["bad.formula", "d.formula", "x.csv"])
         self.assertEqual(self.run_it("d.formula", "x.csv", "-o", "x.csv", "--force")[0], 0)
+
+    def test_sheet(self) -> None:
+        """The sheet that is written is the formula's."""
+        self.assertEqual(self.run_it("d.formula", "x.csv", "-o", "z.csv", "--sheet", "d.sheet"), (0, "", ""))
+        self.assertEqual((self.folder / "d.sheet").read_bytes(), Formula(DOUBLE).sheet.data)
+
+    def test_version(self) -> None:
+        """The commit."""
+        said = io.StringIO()
+        with contextlib.redirect_stdout(said), self.assertRaises(SystemExit) as caught:
+            main(["--version"])
+        self.assertEqual(caught.exception.code, 0)
+        self.assertRegex(said.getvalue(), r"\Atulipcricket, commit ([0-9a-f]{40}(-dirty)?|unknown)\n\Z")
 
     def test_missing_library(self) -> None:
         """Said with status 2."""

@@ -3,7 +3,7 @@
 from __future__ import annotations
 
 import re
-from typing import Dict, List, NamedTuple, NoReturn, Sequence, Tuple, Union
+from typing import Dict, List, NamedTuple, NoReturn, Sequence, Union
 
 from .errors import FormulaError
 from .formula import Formula
@@ -137,8 +137,3 @@ def formula_text(text: str, values: Sequence[Union[str, float]]) -> str:
 def circuit(text: str, values: Sequence[Union[str, float]]) -> Formula:
     """The formula of a circuit, compiled: circuit("R0-p(R1,C1)", [20, 250, 1e-5])."""
     return Formula(formula_text(text, values), "circuit")
-
-
-def elements() -> Tuple[str, ...]:
-    """The elements that are known."""
-    return tuple(KINDS)

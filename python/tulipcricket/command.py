@@ -56,7 +56,7 @@ def parser() -> argparse.ArgumentParser:
     run.add_argument("--values", metavar="LIST", help="the circuit's values in its order, parted by commas")
     run.add_argument("--formula", action="store_true", help="print the formula of --circuit, and stop")
     run.add_argument("--validate", default="three", choices=["three", "every"], help="points compared with exact evaluation")
-    run.add_argument("--sheet", metavar="FILE", help="write the formula's sheet")
+    run.add_argument("--sheet", metavar="FILE", help="write the formula's sheet, for the shelf; every point is then validated")
     run.add_argument("--plot", action="append", default=[], metavar="FILE", help="Nyquist and Bode plot: .svg, .png or .pdf")
     run.add_argument("--report", metavar="FILE", help="one HTML file: formula, operations, answers, plots")
     run.add_argument("-x", "--over", metavar="NAME", help="the given name that plots are drawn over (the first real one)")
@@ -189,6 +189,8 @@ def run_command(words: argparse.Namespace) -> None:
     made = [words.output, *words.plot] + [name for name in (words.report, words.sheet) if name]
     for name in made:
         may_be_made(name, words.force)
+        if name != "-" and made.count(name) > 1:
+            raise Unusable(f"{name} is to be made twice")
     for name in words.plot:
         if not name.lower().endswith(PICTURES):
             raise Unusable(f"{name}: a plot ends with {', '.join(PICTURES)}")
@@ -198,7 +200,8 @@ def run_command(words: argparse.Namespace) -> None:
     for one in formula.program.givens:
         assert table is not None
         given[one.name] = table.values(one.name, one.is_complex)
-    run = formula.play(given, every=words.validate == "every", progress=Bar())
+    every = words.validate == "every" or words.sheet is not None
+    run = formula.play(given, every=every, progress=Bar())
     columns = answers_of(formula, table, run, words.bits)
     write_file(words.output, tables.write(columns, table.separator if table else ",").encode())
     if words.sheet:
