@@ -1,7 +1,8 @@
 /* The functions of tulipcricket.h: each calls the proved function below it with what unguarded.h asks, and leaves the caller's floating-point
  * environment as it was, its flags too. No floating-point operation stands in this file.
  *
- * A further function has three lines here, its declarations in both headers, its crate in c/library, and cases in environment.c. */
+ * A further function has three lines here, its declarations in both headers, its name in tulipcricket.map and in the Python package's
+ * library.py, its crate in c/library, and cases in environment.c. */
 #include "tulipcricket.h"
 #include "unguarded.h"
 

@@ -1,4 +1,4 @@
-/* Tulipcricket's entries as C functions: link target/staticlib/libtulipcricket.a, which c/library makes.
+/* Tulipcricket's entries as C functions: link target/staticlib/libtulipcricket.a, or libtulipcricket.so beside it, which c/library makes.
  *
  * Every slice is a pointer and a count of bytes; an empty one may have any pointer, NULL too. A slice that is written may not overlap
  * another. The functions keep no pointer, hold nothing between calls, take no memory but the stack's, and call only memcpy and memset.
