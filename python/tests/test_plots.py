@@ -1,5 +1,6 @@
 """Plots and reports. Where matplotlib is not there, that this is said and all else works."""
 
+import cmath
 import contextlib
 import io
 import math
@@ -126,8 +127,14 @@ class Marks(unittest.TestCase):
     def test_decades(self) -> None:
         """The point nearest to each power of ten, none where no point is near."""
         points = [(x, complex(x)) for x in (0.09, 0.11, 1.0, 30.0, 95.0, 1200.0)]
-        self.assertEqual(plots.decades(points), [(-1, 0.11), (0, 1.0), (2, 95.0), (3, 1200.0)])
+        self.assertEqual(plots.decades(points), [(-1, 1), (0, 2), (2, 4), (3, 5)])
         self.assertEqual(plots.decades([(-1.0, 1j)]), [])
+
+    def test_falls(self) -> None:
+        """An arc rises on its left side and falls on its right one, whichever way it is gone."""
+        arc = [(float(i), 1 + cmath.exp(-1j * math.pi * i / 10)) for i in range(11)]
+        self.assertEqual([plots.falls(arc, i) for i in (1, 2, 8, 9)], [True, True, False, False])
+        self.assertEqual([plots.falls(arc[::-1], i) for i in (1, 2, 8, 9)], [False, False, True, True])
 
     def test_parenthesised(self) -> None:
         """Every operation in parentheses."""

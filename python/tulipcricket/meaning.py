@@ -1,4 +1,4 @@
-"""What a formula means: its tree evaluated with exact whole-number arithmetic, each operation rounded once.
+"""What a formula means: its tree evaluated with exact whole-number arithmetic, each single step on words rounded once.
 
 Written apart from the compiler: it knows the tree and docs/FORMULA.md, and neither registers nor places nor sheets. A value is a tuple of
 words: one of a real number, two of a complex number. The play of the compiled sheet must give the same words.

@@ -73,17 +73,17 @@ def finite(curve: Curve) -> List[Tuple[float, complex]]:
     return [(x, z) for x, z in zip(curve.x, curve.z) if math.isfinite(x) and cmath.isfinite(z)]
 
 
-def decades(points: Sequence[Tuple[float, complex]]) -> List[Tuple[int, complex]]:
-    """For each power of ten within the range the nearest point, if it is within a tenth of a decade."""
-    positive = [(math.log10(x), z) for x, z in points if x > 0]
-    if not positive:
+def decades(points: Sequence[Tuple[float, complex]]) -> List[Tuple[int, int]]:
+    """For each power of ten within the range the index of the nearest point, if it is within a tenth of a decade."""
+    places = [(math.log10(x), i) for i, (x, _) in enumerate(points) if x > 0]
+    if not places:
         return []
-    low, high = min(x for x, _ in positive), max(x for x, _ in positive)
+    low, high = min(places)[0], max(places)[0]
     found = []
     for k in range(math.ceil(low - 0.05), math.floor(high + 0.05) + 1):
-        x, z = min(positive, key=lambda point: abs(point[0] - k))
-        if abs(x - k) <= 0.1:
-            found.append((k, z))
+        place, i = min(places, key=lambda one: abs(one[0] - k))
+        if abs(place - k) <= 0.1:
+            found.append((k, i))
     return found
 
 
@@ -109,7 +109,7 @@ def nyquist(axes: Any, drawn: Sequence[Curve]) -> None:
     axes.figure.draw_without_rendering()
     named: List[Tuple[float, float]] = []
     for curve, colour in zip(drawn, COLOURS * len(drawn)):
-        mark(axes, decades(finite(curve)), colour, named)
+        mark(axes, finite(curve), colour, named)
 
 
 def adjustable(drawn: Sequence[Curve]) -> str:
@@ -132,14 +132,23 @@ def scale_of_sizes(axes: Any, sizes: Sequence[float]) -> None:
         axes.yaxis.set_minor_formatter(ticker.NullFormatter())
 
 
-def mark(axes: Any, marks: Sequence[Tuple[int, complex]], colour: str, named: List[Tuple[float, float]]) -> None:
-    """Rings at the decades, with names below them, inside an arc, where they do not lie upon each other; `named` is where names stand."""
-    for k, z in marks:
+def falls(points: Sequence[Tuple[float, complex]], i: int) -> bool:
+    """Whether the drawn curve falls towards the right at a point."""
+    way = points[min(i + 1, len(points) - 1)][1] - points[max(i - 1, 0)][1]
+    return way.real * -way.imag < 0
+
+
+def mark(axes: Any, points: Sequence[Tuple[float, complex]], colour: str, named: List[Tuple[float, float]]) -> None:
+    """Rings at the decades, with names inside an arc, where they do not lie upon each other; `named` is where names stand."""
+    for k, i in decades(points):
+        z = points[i][1]
         axes.plot([z.real], [-z.imag], marker="o", markersize=6, markerfacecolor="white", markeredgecolor=colour, linestyle="none")
         x, y = axes.transData.transform((z.real, -z.imag))
         if all(math.hypot(x - u, y - v) > 26 for u, v in named):
             named.append((x, y))
-            axes.annotate(f"$10^{{{k}}}$", (z.real, -z.imag), textcoords="offset points", xytext=(5, -11), fontsize=8, color=colour)
+            side = (-4, "right") if falls(points, i) else (5, "left")
+            axes.annotate(f"$10^{{{k}}}$", (z.real, -z.imag), textcoords="offset points", xytext=(side[0], -11), ha=side[1], fontsize=8,
+                          color=colour)
 
 
 def bode(upper: Any, lower: Any, drawn: Sequence[Curve]) -> None:

@@ -149,7 +149,7 @@ def page(formula: Formula, run: Run, columns: Sequence[Tuple[str, List[str]]], c
     title = html.escape(formula.program.name)
     parsed = "\n".join(f"{let.name} = {parenthesised(let.value)}" for let in formula.program.lets)
     mode = "stable" if formula.program.stable else "plain"
-    rounded = f"<p>Each pair of parentheses is one operation, rounded once; {mode} mode.</p>"
+    rounded = f"<p>Each pair of parentheses is one operation, in single steps that round once; {mode} mode.</p>"
     legend = '<p class="quiet">Index, line and column of the formula, instruction.</p>'
     parts = [
         f"<h1>{title}</h1>",
