@@ -1,14 +1,14 @@
--- `making::assemble` meets its contract.
+-- `making::sheet_or_refusal` meets its contract.
 use borrow.Author.Needs.{needs}
 use native.Mathlib.Omega.{arith}
 use Prim.Native.Nat.{_≤_}
 use lib.ListN.{length}
 use Rattle.assembly.proofs.Writing.{sheet-written, line-written}
-use Rattle.assembly.proofs.making.assemble.Statement.{statement}
-use Rattle.assembly.proofs.making.assemble.Tie as tie
+use Rattle.assembly.proofs.making.sheet_or_refusal.Statement.{statement}
+use Rattle.assembly.proofs.making.sheet_or_refusal.Tie as tie
 
-pub assemble-spec : {M : Type 1} → statement M
-assemble-spec =
+pub sheet-or-refusal-spec : {M : Type 1} → statement M
+sheet-or-refusal-spec =
     tie.close
     (tie.spec
     (λ c. search needs) (λ c κs. search needs)
