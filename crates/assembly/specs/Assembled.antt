@@ -16,7 +16,7 @@ use Rattle.lowering.specs.Realness.{bitAt, byteOf}
 use Rattle.replay.specs.Same.{same}
 use Rattle.text.specs.Text.{ascii, decimal, uniNames, binNames, fusedNames}
 use Rattle.text.specs.Text as Text
-use Rattle.assembly.specs.Lines.{named, refusedText}
+use Rattle.assembly.specs.Lines.{named, refusedText, longText}
 
 -- the pieces of a text between the bytes c; one at its end closes the last piece
 abbrev pub joined : ℕ → List (List ℕ) → List (List ℕ)
@@ -262,7 +262,12 @@ unfoldable pub assembled : List ℕ → Assembled
 unfolding pieces assembledFrom
 assembled text = assembledFrom 1 noSheet (pieces 10 text)
 
--- what the program `assemble` writes for a text
+-- the sheet, or the line of its refusal
 abbrev pub outcome : Assembled → List ℕ
 outcome (accepted sheet) = sheet
 outcome (refusedAt n why) = refusedText n why
+
+-- what the program `assemble` writes for a text, of which it takes at most 500,000 bytes
+unfoldable pub written : List ℕ → List ℕ
+unfolding assembled
+written text = cond (ltb 500000 (length text)) longText (outcome (assembled text))

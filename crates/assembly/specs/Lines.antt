@@ -67,3 +67,7 @@ reasons = "" ∷ "no mode" ∷ "sheet full" ∷ "no such line" ∷ []
 -- a text that is no sheet's, by its first line that is not
 unfoldable pub refusedText : ℕ → ℕ → List ℕ
 refusedText number reason = line (ascii "refused line" ++ space (decimal number) ++ space (nameOf reasons reason))
+
+-- a text that is too long to be read
+unfoldable pub longText : List ℕ
+longText = ascii "refused text of more than 500000 bytes\n"

@@ -2,7 +2,7 @@
 ghost use mathlib.Core.Path.{_≡_};
 ghost use Rattle.text.specs.Line.{Adds, Prints};
 ghost use Rattle.mir.specs.declared.records.Instruction.{Instruction};
-ghost use Rattle.assembly.specs.Lines.{modeLine, realPlace, realLine, constantLine, named, mathName, workLine, instructionLine, refusedText};
+ghost use Rattle.assembly.specs.Lines.{modeLine, realPlace, realLine, constantLine, named, mathName, workLine, instructionLine, refusedText, longText};
 use mir::ops::ArithOp;
 use mir::ops::arith_number;
 use mir::records::Instruction;
@@ -162,4 +162,11 @@ pub fn refused_line(number: u64, why: u8) -> Line
         .byte(b' ')
         .word_in(b"/no mode/sheet full/no such line/", why as u64)
         .byte(b'\n')
+}
+
+// The refusal of a text that is too long.
+pub fn long_line() -> Line
+    ensures { λ r. ⌜ Prints longText r ⌝ }
+{
+    empty_line().text(b"refused text of more than 500000 bytes\n")
 }

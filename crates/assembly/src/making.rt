@@ -4,9 +4,11 @@ ghost use mathlib.Core.Path.{_≡_};
 ghost use lib.ListN.{length, take};
 ghost use Rattle.mir.specs.Field.{placeAt};
 ghost use Rattle.assembly.specs.Assembled.{real, constantLine, instruction, marked, grown, withLine, opened, stepped};
-ghost use Rattle.assembly.specs.Assembled.{assembled, outcome};
+ghost use Rattle.assembly.specs.Assembled.{assembled, outcome, written};
+ghost use Rattle.assembly.specs.Lines.{longText};
 ghost use Rattle.assembly.specs.Reading.{asNumber};
 ghost use Rattle.assembly.specs.Making.{partOf, placeBit, withBit, sheetOf, refusal, Room, Makes, withRead, asAssembled};
+use super::lines::long_line;
 use super::lines::refused_line;
 use super::reading::Number;
 use super::reading::behind;
@@ -270,8 +272,8 @@ pub struct Written {
     pub len: usize,
 }
 
-// A text's sheet, or its refusal.
-pub fn assemble(t: &[u8]) -> Written
+// The sheet of a text that is not too long, or its refusal.
+fn sheet_or_refusal(t: &[u8]) -> Written
     ensures { λ r. ⌜ take (r .len) (r .bytes) ≡ outcome (assembled (now (t .entry))) ⌝ }
     ensures { λ r. ⌜ r .len ≡ length (outcome (assembled (now (t .entry)))) ⌝ }
 {
@@ -290,4 +292,30 @@ pub fn assemble(t: &[u8]) -> Written
         bytes: out,
         len: line.len,
     }
+}
+
+// The refusal of a text that is too long.
+fn too_long() -> Written
+    ensures { λ r. ⌜ take (r .len) (r .bytes) ≡ longText ⌝ }
+    ensures { λ r. ⌜ r .len ≡ length longText ⌝ }
+{
+    let mut out = [0u8; 16384];
+    let line = long_line();
+    let bytes = line.bytes;
+    put_bytes(&mut out, 0, &bytes);
+    Written {
+        bytes: out,
+        len: line.len,
+    }
+}
+
+// A text's sheet, or its refusal.
+pub fn assemble(t: &[u8]) -> Written
+    ensures { λ r. ⌜ take (r .len) (r .bytes) ≡ written (now (t .entry)) ⌝ }
+    ensures { λ r. ⌜ r .len ≡ length (written (now (t .entry))) ⌝ }
+{
+    if 500000 < t.len() {
+        return too_long();
+    }
+    sheet_or_refusal(t)
 }

@@ -6,6 +6,12 @@ ghost use Rattle.io.specs.Counts.{Counts};
 ghost use Rattle.libc.specs.Io.{Status};
 ghost use Rattle.files.specs.Most.{atMost};
 
+// Says on standard error what failed, and why, as errno has it.
+fn fail(name: &[u8]) {
+    io::write_all(libc::STDERR_FILENO, b"tulipcricket: ");
+    os::fail(name);
+}
+
 // Whether a file was read to its end, or as far as there was room, and how many bytes came.
 pub struct Got {
     pub ok: bool,
@@ -55,12 +61,12 @@ fn read_file(path: &[u8], buf: &mut [u8]) -> Got
 {
     let fd = os::open_read(path);
     if fd < 0 {
-        os::fail(path);
+        fail(path);
         return nothing(buf);
     }
     let got = read_all(fd, buf);
     if !got.ok {
-        os::fail(path);
+        fail(path);
     }
     libc::close(fd);
     got
@@ -84,7 +90,7 @@ pub fn read_input(buf: &mut [u8]) -> Got
     }
     let got = read_all(libc::STDIN_FILENO, buf);
     if !got.ok {
-        os::fail(b"standard input");
+        fail(b"standard input");
     }
     got
 }
@@ -95,11 +101,11 @@ fn fill(fd: i32, path: &[u8], bytes: &[u8]) -> i32
 {
     let written = io::write_all(fd, bytes);
     if !written {
-        os::fail(path);
+        fail(path);
     }
     let closed = libc::close(fd) == 0;
     if written && !closed {
-        os::fail(path);
+        fail(path);
     }
     if written && closed {
         return 0;
@@ -117,7 +123,7 @@ pub fn make_arg(i: usize, bytes: &[u8], n: usize) -> i32
     let long = os::arg(i, &mut path);
     let fd = os::create(&path[..long]);
     if fd < 0 {
-        os::fail(&path[..long]);
+        fail(&path[..long]);
         return -1;
     }
     if n < bytes.len() {
@@ -135,15 +141,22 @@ pub fn remove_arg(i: usize) -> i32
     os::unlink(&path[..n])
 }
 
+// Writes bytes to standard output. Where not all could be written, says so on standard error.
+fn write_out(bytes: &[u8]) {
+    if !io::write_all(libc::STDOUT_FILENO, bytes) {
+        fail(b"standard output");
+    }
+}
+
 // Prints the first n bytes, or all where there are fewer; how many these are.
 pub fn print(bytes: &[u8], n: usize) -> usize
     ensures { λ r. ⌜ r ≡ atMost n (length (now (bytes .entry))) ⌝ }
 {
     if n < bytes.len() {
-        io::write_all(libc::STDOUT_FILENO, &bytes[0..n]);
+        write_out(&bytes[0..n]);
         return n;
     }
-    io::write_all(libc::STDOUT_FILENO, bytes);
+    write_out(bytes);
     bytes.len()
 }
 
@@ -166,6 +179,7 @@ pub fn holds(i: usize, right: bool, text: &[u8]) -> bool
     if !right {
         let mut path = io::buffer();
         let n = os::arg(i, &mut path);
+        io::write_all(libc::STDERR_FILENO, b"tulipcricket: ");
         io::write_all(libc::STDERR_FILENO, &path[..n]);
         io::write_all(libc::STDERR_FILENO, b": ");
         io::write_all(libc::STDERR_FILENO, text);

@@ -32,11 +32,14 @@ module _ (s : List ℕ) where
       above b = one ∙ simp (le-ltb _ _ a, lt-ltb _ _ b)
 
       module _ (b : getD s i 0 ≤ 57) where
-        pub large : 1844674407370955160 < n → startFrom n (drop i s) ≡ noStart
+        abbrev next : ℕ
+        next = 10 * n + (getD s i 0 - 48)
+
+        pub large : 18446744073709551615 < next → startFrom n (drop i s) ≡ noStart
         unfolding startFrom
         large k = one ∙ simp (le-ltb _ _ a, le-ltb _ _ b, lt-ltb _ _ k)
 
-        pub digit : n ≤ 1844674407370955160 → startFrom n (drop i s) ≡ startFrom (10 * n + (getD s i 0 - 48)) (drop (i + 1) s)
+        pub digit : next ≤ 18446744073709551615 → startFrom n (drop i s) ≡ startFrom next (drop (i + 1) s)
         unfolding startFrom
         digit k = one ∙ simp (le-ltb _ _ a, le-ltb _ _ b, le-ltb _ _ k)
 

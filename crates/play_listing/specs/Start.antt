@@ -9,13 +9,13 @@ use Rattle.play_listing.specs.declared.start.Start.{Start}
 abbrev pub noStart : Start
 noStart = record { ok = false; number = 0 }
 
--- digits behind the number that those before them spell; what would not fit a word is not taken
+-- digits after the number that those before them spell; a number of 2^64 or more is not taken
 unfoldable pub startFrom : ℕ → List ℕ → Start
 startFrom n [] = record { ok = true; number = n }
 startFrom n (b ∷ s) =
     cond (ltb b 48) noStart
     (cond (ltb 57 b) noStart
-    (cond (ltb 1844674407370955160 n) noStart (startFrom (10 * n + (b - 48)) s)))
+    (cond (ltb 18446744073709551615 (10 * n + (b - 48))) noStart (startFrom (10 * n + (b - 48)) s)))
 
 -- at least one digit
 unfoldable pub startOf : List ℕ → Start

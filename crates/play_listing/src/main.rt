@@ -75,14 +75,17 @@ fn play_from(start: u64) {
     }
 }
 
-fn play_from_argument() -> bool {
+fn play_from_argument() {
     let mut text = [0u8; 32];
     let n = os::arg(5, &mut text);
     let start = start_of(&text[..n]);
-    if start.ok {
+    if files::holds(
+        5,
+        start.ok,
+        b"no record's index, which is 0 to 18446744073709551615",
+    ) {
         play_from(start.number);
     }
-    start.ok
 }
 
 fn main() {
@@ -91,7 +94,8 @@ fn main() {
         play_from(0);
         return;
     }
-    if count == 6 && play_from_argument() {
+    if count == 6 {
+        play_from_argument();
         return;
     }
     files::usage(false, b"play_listing LISTING CONSTANTS STORE AFTER [START]");

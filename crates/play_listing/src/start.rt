@@ -18,7 +18,7 @@ fn none() -> Start
     }
 }
 
-// Digits alone, at least one. A number above 18,446,744,073,709,551,609 is not taken.
+// Digits alone, at least one, of a number below 2^64.
 pub(crate) fn start_of(s: &[u8]) -> Start
     ensures { λ r. ⌜ r ≡ startOf (now (s .entry)) ⌝ }
 {
@@ -35,10 +35,14 @@ pub(crate) fn start_of(s: &[u8]) -> Start
         if 57 < b {
             return none();
         }
-        if 1844674407370955160 < n {
+        if 1844674407370955161 < n {
             return none();
         }
-        n = 10 * n + (b as u64 - 48);
+        let digit = b as u64 - 48;
+        if 18446744073709551615 - 10 * n < digit {
+            return none();
+        }
+        n = 10 * n + digit;
         i += 1;
     }
     Start {

@@ -10,7 +10,7 @@ use lib.ListN.{length, length-append}
 use Rattle.mir.proofs.Passing as mir
 use Rattle.text.specs.Text.{ascii, decimalIn, decimal, hexIn, register}
 use Rattle.text.proofs.Short.{name-short}
-use Rattle.reports.specs.Lines.{refusalWords, refusalLine, loweredLine, playedLine, classNames, halfNames, wordName, differenceLine}
+use Rattle.reports.specs.Lines.{refusalWords, refusalLine, loweredLine, playedLine, classNames, halfNames, wordName, wordLine, differenceLine, moreText}
 
 pub either : (b : Bool) (x y : List ℕ) (m : ℕ) → length x ≤ m → length y ≤ m → length (cond b x y) ≤ m
 either true x y m p q = p
@@ -89,3 +89,11 @@ word-short index =
 pub difference-short : (index one other : ℕ) → length (differenceLine index one other) ≤ 80
 unfolding differenceLine
 difference-short index one other = let n = word-short index in simp length-append (omega (arith, n, hex-long 16 one, hex-long 16 other))
+
+pub word-line-short : (index word : ℕ) → length (wordLine index word) ≤ 80
+unfolding wordLine
+word-line-short index word = let n = word-short index in simp length-append (omega (arith, n, hex-long 16 word))
+
+pub more-short : (n : ℕ) → length (moreText n) ≤ 80
+unfolding ascii moreText
+more-short n = let d = number-short n in simp length-append (omega (arith, d))

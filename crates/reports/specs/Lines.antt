@@ -49,7 +49,17 @@ wordName index =
     ++ space (decimal ((index - 66) % 512 / 2))
     ++ space (nameOf halfNames ((index - 66) % 2)))
 
+-- a word of the store by its name, and its bits
+unfoldable pub wordLine : ℕ → ℕ → List ℕ
+unfolding wordName hexIn
+wordLine index word = line (wordName index ++ space (hex word))
+
 -- a word of the store by its name, and what stands there in either store
 unfoldable pub differenceLine : ℕ → ℕ → ℕ → List ℕ
 unfolding wordName hexIn
 differenceLine index one other = line (wordName index ++ space (hex one) ++ space (hex other))
+
+-- how many more there are
+unfoldable pub moreText : ℕ → List ℕ
+unfolding ascii decimalIn
+moreText n = ascii "and" ++ space (decimal n) ++ ascii " more\n"

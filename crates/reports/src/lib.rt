@@ -1,6 +1,6 @@
 // The lines that the commands print, each from its first byte to its line feed.
 ghost use Rattle.text.specs.Line.{Adds, Prints};
-ghost use Rattle.reports.specs.Lines.{refusalLine, loweredLine, playedLine, wordName, differenceLine};
+ghost use Rattle.reports.specs.Lines.{refusalLine, loweredLine, playedLine, wordName, wordLine, differenceLine, moreText};
 use text::line::Line;
 use text::line::empty_line;
 
@@ -63,6 +63,16 @@ fn word_name(line: Line, index: u64) -> Line
         .word_in(b"re/im/", k % 2)
 }
 
+// A word of a store: its name and its bits.
+pub fn word_line(index: u64, word: u64) -> Line
+    ensures { λ r. ⌜ Prints (wordLine index word) r ⌝ }
+{
+    word_name(empty_line(), index)
+        .byte(b' ')
+        .hex(word)
+        .byte(b'\n')
+}
+
 // A word that differs: its name, then the word of either store.
 pub fn difference_line(index: u64, one: u64, other: u64) -> Line
     ensures { λ r. ⌜ Prints (differenceLine index one other) r ⌝ }
@@ -73,4 +83,11 @@ pub fn difference_line(index: u64, one: u64, other: u64) -> Line
         .byte(b' ')
         .hex(other)
         .byte(b'\n')
+}
+
+// How many more there are.
+pub fn more_line(n: u64) -> Line
+    ensures { λ r. ⌜ Prints (moreText n) r ⌝ }
+{
+    empty_line().text(b"and").number(n).text(b" more\n")
 }

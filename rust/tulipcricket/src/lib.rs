@@ -28,7 +28,7 @@ pub enum Why {
     ListingFull = 7,
     WrongSetup = 8,
     StrayJump = 9,
-    /// A label outside 3 to 255 or standing twice, a branch without its label behind it or with one before it, an else above 1.
+    /// A label outside 3 to 255 or standing twice, a branch without its label after it or with one before it, an else above 1.
     MisplacedLabel = 10,
     /// What is recorded as real at a label is not what is at a branch to it.
     UnequalRecords = 11,
@@ -189,6 +189,16 @@ impl Default for Store {
 impl Store {
     pub fn new() -> Store {
         Store { bytes: vec![0; 8 * WORDS] }
+    }
+
+    /// A store of the bytes of a file: `None` unless there are 12,816.
+    pub fn from_bytes(bytes: &[u8]) -> Option<Store> {
+        (bytes.len() == 8 * WORDS).then(|| Store { bytes: bytes.to_vec() })
+    }
+
+    /// The store's 12,816 bytes, as a file keeps them: eight for each word, the lowest first.
+    pub fn bytes(&self) -> &[u8] {
+        &self.bytes
     }
 
     /// The word at an index of the store, below 1,602: registers first, then pairs of Stack, Mem, Param.

@@ -50,6 +50,24 @@ pub enum Bi {
     Complex = 14,
 }
 
+/// Operations on three registers: a * b + c and its like, in the order of mir.rs.
+#[derive(Clone, Copy, Debug)]
+pub enum Fused {
+    MulAdd = 0,
+    MulSub = 1,
+    NegMulAdd = 2,
+    NegMulSub = 3,
+}
+
+/// Operations of a LoadMath and a LoadConstMath.
+#[derive(Clone, Copy, Debug)]
+pub enum Arith {
+    Plus = 0,
+    Minus = 1,
+    Times = 2,
+    Divide = 3,
+}
+
 /// A sheet in the making.
 #[derive(Clone, Debug)]
 pub struct Sheet {
@@ -101,6 +119,10 @@ impl Sheet {
         self.instruction(2, &[op as u8, dst, s1, s2])
     }
 
+    pub fn mov(&mut self, dst: u8, s1: u8) -> &mut Sheet {
+        self.instruction(3, &[dst, s1])
+    }
+
     pub fn load(&mut self, dst: u8, class: Class, index: u8) -> &mut Sheet {
         self.instruction(4, &[dst, class as u8, index, 0])
     }
@@ -114,7 +136,26 @@ impl Sheet {
         self.instruction(6, &[dst, low, high])
     }
 
-    /// Marks where branches to a label, 3 to 255, go on. A label stands once, behind every branch to it.
+    pub fn fused(&mut self, op: Fused, dst: u8, a: u8, b: u8, c: u8) -> &mut Sheet {
+        self.instruction(7, &[op as u8, dst, a, b, c])
+    }
+
+    /// Chooses bit by bit: the bits of `true_val` where the condition's are ones, else those of `false_val`.
+    pub fn if_else(&mut self, dst: u8, true_val: u8, false_val: u8, class: Class, index: u8) -> &mut Sheet {
+        self.instruction(8, &[dst, true_val, false_val, class as u8, index, 0])
+    }
+
+    /// Works with a place. In plain mode a Divide of a real register by a complex place gives a wrong quotient (lib.rs).
+    pub fn load_math(&mut self, op: Arith, dst: u8, s1: u8, class: Class, index: u8) -> &mut Sheet {
+        self.instruction(9, &[op as u8, dst, s1, class as u8, index, 0])
+    }
+
+    pub fn load_const_math(&mut self, op: Arith, dst: u8, s1: u8, constant: u16) -> &mut Sheet {
+        let [low, high] = constant.to_le_bytes();
+        self.instruction(10, &[op as u8, dst, s1, low, high])
+    }
+
+    /// Marks where branches to a label, 3 to 255, go on. A label stands once, after every branch to it.
     pub fn label(&mut self, label: u8) -> &mut Sheet {
         self.instruction(14, &[label])
     }

@@ -1,6 +1,6 @@
 //! The wrapper on document 01's sheet on paper and on short runs: what it accepts, what it refuses, and what it leaves.
 
-use tulipcricket::sheet::{Bi, Sheet, Uni};
+use tulipcricket::sheet::{Arith, Bi, Fused, Sheet, Uni, RET};
 use tulipcricket::{lower, nearest, peak, play, shelf, Class, Lowered, Refused, Shelf, Store, Why, LISTING_LIMIT};
 
 fn paper() -> Vec<u8> {
@@ -172,4 +172,49 @@ fn the_block_is_played_once_for_each_root() {
         let (bytes, constants) = (found.listing.len() as u64, found.constants.len() as u64);
         assert_eq!(shelf(&sheet.bytes()), Ok(Shelf { instructions: 4, bytes, constants, records }));
     }
+}
+
+#[test]
+fn each_builder_gives_its_record() {
+    // the bytes of each record, typed from the paper SHEET: length, kind, fields
+    let mut sheet = Sheet::new(false);
+    sheet.mov(1, RET).fused(Fused::NegMulSub, 1, 2, 3, 4).if_else(5, 6, 7, Class::Stack, 8);
+    sheet.load_math(Arith::Minus, 9, 10, Class::Param, 255).load_const_math(Arith::Divide, 11, 12, 0x102);
+    sheet.label(3).branch(4).branch_if(13, 5, true);
+    let records: [&[u8]; 8] = [
+        &[6, 0, 3, 0, 1, 30],
+        &[9, 0, 7, 0, 3, 1, 2, 3, 4],
+        &[10, 0, 8, 0, 5, 6, 7, 0, 8, 0],
+        &[10, 0, 9, 0, 1, 9, 10, 2, 255, 0],
+        &[9, 0, 10, 0, 3, 11, 12, 2, 1],
+        &[5, 0, 14, 0, 3],
+        &[5, 0, 15, 0, 4],
+        &[7, 0, 17, 0, 13, 5, 1],
+    ];
+    assert_eq!(sheet.bytes()[69..], records.concat());
+}
+
+#[test]
+fn builders_are_lowered_and_played() {
+    // (6 - Param 1) * 2 + 6 at Mem 0, half of it at Mem 2
+    let mut sheet = Sheet::new(true);
+    let (six, two) = (sheet.constant(6.0), sheet.constant(2.0));
+    sheet.real(Class::Param, 1).load_const(0, six).mov(1, 0).load_math(Arith::Minus, 1, 1, Class::Param, 1);
+    sheet.load_const(2, two).fused(Fused::MulAdd, 3, 1, 2, 0).save(3, Class::Mem, 0);
+    sheet.load_const_math(Arith::Divide, 3, 3, two).save(3, Class::Mem, 2);
+    let found = lower(&sheet.bytes(), LISTING_LIMIT).unwrap();
+    let mut store = Store::new();
+    store.set_place(Class::Param, 1, (1.0, 0.0));
+    play(&found.listing, &found.constants, &mut store, 0).unwrap();
+    assert_eq!((store.place(Class::Mem, 0).0, store.place(Class::Mem, 2).0), (16.0, 8.0));
+}
+
+#[test]
+fn a_store_goes_to_bytes_and_back() {
+    let mut store = Store::new();
+    store.set_word(1601, 0x0102_0304_0506_0708);
+    let bytes = store.bytes().to_vec();
+    assert_eq!((bytes.len(), &bytes[12_808..]), (12_816, &[8, 7, 6, 5, 4, 3, 2, 1][..]));
+    assert_eq!(Store::from_bytes(&bytes), Some(store));
+    assert_eq!(Store::from_bytes(&bytes[1..]), None);
 }

@@ -12,11 +12,12 @@ use Rattle.compare_stores.proofs.put_differences.Statement.{statement}
 use Rattle.compare_stores.proofs.put_differences.Tie as tie
 
 abbrev Inv-loop : tie.InvT-loop
-Inv-loop out₀ one other at₀ from₀ left₀ out at from left =
-    (at + 80 * left ≤ length out) × Owes out₀ 0 (differenceLines one other 20 0) out at (differenceLines one other left from)
+Inv-loop out₀ one other most at₀ from₀ left₀ out at from left =
+    (at + 80 * left ≤ length out) × (at + 80 * left ≤ 80 * most)
+    × Owes out₀ 0 (differenceLines one other most 0) out at (differenceLines one other left from)
 
 abbrev μ-loop : tie.MeasureT-loop
-μ-loop out₀ one other at₀ from₀ left₀ out at from left = left
+μ-loop out₀ one other most at₀ from₀ left₀ out at from left = left
 
 pub put-differences-spec : {M : Type 1} → statement M
 put-differences-spec =
@@ -24,12 +25,13 @@ put-differences-spec =
     (tie.spec
     Inv-loop
     μ-loop
-    (λ c. (omega arith, all (omega arith)))
+    (λ c. (omega arith, omega arith, all (omega arith)))
     (λ c κs. search needs) (λ c. search needs)
     (λ c.
     let a = c .before .before .before .before .before .before .before .args in
     let l = c .before .before .before .loop in
-    none (l .inv .1) (line-end (a .one .now) (a .other .now) (l .from) (c .before .next-difference .ensures) (l .left) (c .if1 .taken)))
+    let low = l .inv .1 in
+    (none (l .inv .2) (line-end (a .one .now) (a .other .now) (l .from) (c .before .next-difference .ensures) (l .left) (c .if1 .taken)), omega (arith, low)))
     (λ c. omega arith) (λ c κs. search needs) (λ c. omega arith) (λ c κs. search needs) (λ c κs. search needs) (λ c κs. search needs)
     (λ c. omega arith) (λ c. omega arith) (λ c. omega arith)
     (λ c.
@@ -51,10 +53,12 @@ put-differences-spec =
     let e : l .left ≡ suc (l .left - 1) = omega (arith, more) in
     let on = ap (λ n. differenceLines (a .one .now) (a .other .now) n (l .from)) e
     ∙ line-on (a .one .now) (a .other .now) (l .from) (d .ensures) (l .left - 1) (omega arith) in
-    (omega (arith, n, f, g, k, room, more), less (l .inv .1) on q'))
+    let low = l .inv .1 in
+    (omega (arith, n, f, g, k, room, more), omega (arith, n, f, k, low, more), less (l .inv .2) on q'))
     (λ c. search needs)
     (λ c.
     let a = c .before .before .before .before .before .args in
     let l = c .before .loop in
     let e : l .left ≡ 0 = omega arith in
-    none (l .inv .1) (ap (λ n. differenceLines (a .one .now) (a .other .now) n (l .from)) e ∙ lines-end (a .one .now) (a .other .now) (l .from))))
+    let low = l .inv .1 in
+    (none (l .inv .2) (ap (λ n. differenceLines (a .one .now) (a .other .now) n (l .from)) e ∙ lines-end (a .one .now) (a .other .now) (l .from)), omega (arith, low))))

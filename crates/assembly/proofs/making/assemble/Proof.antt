@@ -1,9 +1,9 @@
 -- `making::assemble` meets its contract.
 use borrow.Author.Needs.{needs}
 use native.Mathlib.Omega.{arith}
-use Prim.Native.Nat.{_≤_}
+use mathlib.Core.Path.{ap, _∙_}
 use lib.ListN.{length}
-use Rattle.assembly.proofs.Writing.{sheet-written, line-written}
+use Rattle.assembly.proofs.Writing.{written-long, written-short}
 use Rattle.assembly.proofs.making.assemble.Statement.{statement}
 use Rattle.assembly.proofs.making.assemble.Tie as tie
 
@@ -11,15 +11,13 @@ pub assemble-spec : {M : Type 1} → statement M
 assemble-spec =
     tie.close
     (tie.spec
-    (λ c. search needs) (λ c κs. search needs)
+    (λ c κs. search needs)
     (λ c.
-    let m = c .before .before .before .make in
-    let h : m .result .len ≤ length (m .last .0) = omega (arith, m .ensures .1, m .kept .0) in
-    sheet-written (m .result) (m .last .0) (m .ensures .0) (c .if1 .taken) h)
-    (λ c κs. search needs) (λ c. search needs) (λ c. search needs) (λ c κs. search needs)
+    let e = written-long (c .before .before .before .args .t .now) (c .before .if1 .taken) in
+    let r = c .too-long .ensures in
+    (r .0 ∙ e, r .1 ∙ ap length e))
+    (λ c κs. search needs)
     (λ c.
-    let l = c .before .before .before .before .before in
-    let m = l .before .before .before .before .make in
-    let h : 80 ≤ length (m .last .0) = search needs in
-    line-written (m .result) (m .last .0) (m .ensures .0) (l .before .if1 .left) (l .refused-line .ensures) h
-    (c .before .put-bytes .ensures)))
+    let e = written-short (c .before .before .before .args .t .now) (c .before .if1 .left) in
+    let r = c .sheet-or-refusal .ensures in
+    (r .0 ∙ e, r .1 ∙ ap length e)))

@@ -44,14 +44,26 @@ start-of-spec =
     (λ c.
     let s = c .before .before .before .before .before .before .before .before .before .args .s .now in
     let l = c .before .before .before .before .before .before .loop in
+    let k = c .before .if4 .taken in
     c .none4 .ensures
-    ∙ sym (large s (l .n) (l .i) (c .before .before .before .before .before .loop-test .taken) (c .before .before .before .if2 .left) (c .before .before .if3 .left) (c .before .if4 .taken))
+    ∙ sym (large s (l .n) (l .i) (c .before .before .before .before .before .loop-test .taken) (c .before .before .before .if2 .left) (c .before .before .if3 .left) (omega (arith, k)))
     ∙ l .inv
     ∙ some-digit s (c .before .before .before .before .before .before .before .if1 .left))
-    (λ c. omega arith) (λ c. omega arith) (λ c. omega arith) (λ c. omega arith) (λ c. omega arith) (λ c. omega arith)
+    (λ c. omega arith) (λ c. omega arith) (λ c. omega arith) (λ c. omega arith) (λ c κs. search needs)
     (λ c.
-    let l = c .before .before .before .before .before .loop in
-    sym (digit (c .before .before .before .before .before .before .before .before .args .s .now) (l .n) (l .i) (c .before .before .before .before .loop-test .taken) (c .before .before .if2 .left) (c .before .if3 .left) (c .if4 .left)) ∙ l .inv)
+    let s = c .before .before .before .before .before .before .before .before .before .before .args .s .now in
+    let l = c .before .before .before .before .before .before .before .loop in
+    let k = c .before .if5 .taken in
+    c .none5 .ensures
+    ∙ sym (large s (l .n) (l .i) (c .before .before .before .before .before .before .loop-test .taken) (c .before .before .before .before .if2 .left) (c .before .before .before .if3 .left) (omega (arith, k)))
+    ∙ l .inv
+    ∙ some-digit s (c .before .before .before .before .before .before .before .before .if1 .left))
+    (λ c. omega arith) (λ c. omega arith) (λ c. omega arith) (λ c. omega arith)
+    (λ c.
+    let l = c .before .before .before .before .before .before .loop in
+    let low = c .before .if4 .left in
+    let k = c .if5 .left in
+    sym (digit (c .before .before .before .before .before .before .before .before .before .args .s .now) (l .n) (l .i) (c .before .before .before .before .before .loop-test .taken) (c .before .before .before .if2 .left) (c .before .before .if3 .left) (omega (arith, low, k))) ∙ l .inv)
     (λ c.
     let s = c .before .before .before .before .args .s .now in
     let l = c .before .loop in
