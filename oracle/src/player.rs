@@ -1,6 +1,8 @@
 //! Document 01's player with document 02's operations, marks and branches, over f64 arithmetic of this machine. Written from their rules
 //! alone.
 
+use std::ops::Range;
+
 use crate::format::*;
 use crate::names::{bi, uni, LISTING_BI, LISTING_UNI};
 
@@ -197,7 +199,7 @@ fn strays(records: &[Record], index: usize) -> bool {
     }
 }
 
-fn is_nan(a: u64) -> bool {
+pub(crate) fn is_nan(a: u64) -> bool {
     a & !SIGN > INFINITY
 }
 
@@ -213,27 +215,27 @@ fn result(value: f64, operands: &[u64]) -> u64 {
     }
 }
 
-fn plus(a: u64, b: u64) -> u64 {
+pub(crate) fn plus(a: u64, b: u64) -> u64 {
     result(f64::from_bits(a) + f64::from_bits(b), &[a, b])
 }
 
-fn minus(a: u64, b: u64) -> u64 {
+pub(crate) fn minus(a: u64, b: u64) -> u64 {
     result(f64::from_bits(a) - f64::from_bits(b), &[a, b])
 }
 
-fn times(a: u64, b: u64) -> u64 {
+pub(crate) fn times(a: u64, b: u64) -> u64 {
     result(f64::from_bits(a) * f64::from_bits(b), &[a, b])
 }
 
-fn divide(a: u64, b: u64) -> u64 {
+pub(crate) fn divide(a: u64, b: u64) -> u64 {
     result(f64::from_bits(a) / f64::from_bits(b), &[a, b])
 }
 
-fn mul_add(a: u64, b: u64, c: u64) -> u64 {
+pub(crate) fn mul_add(a: u64, b: u64, c: u64) -> u64 {
     result(f64::from_bits(a).mul_add(f64::from_bits(b), f64::from_bits(c)), &[a, b, c])
 }
 
-fn mask(holds: bool) -> u64 {
+pub(crate) fn mask(holds: bool) -> u64 {
     if holds {
         u64::MAX
     } else {
@@ -241,7 +243,7 @@ fn mask(holds: bool) -> u64 {
     }
 }
 
-fn unary(op: u8, a: u64) -> u64 {
+pub(crate) fn unary(op: u8, a: u64) -> u64 {
     match op {
         uni::NEG => a ^ SIGN,
         uni::NOT => !a,
@@ -259,7 +261,7 @@ fn unary(op: u8, a: u64) -> u64 {
     }
 }
 
-fn binary(op: u8, a: u64, b: u64) -> u64 {
+pub(crate) fn binary(op: u8, a: u64, b: u64) -> u64 {
     let (x, y) = (f64::from_bits(a), f64::from_bits(b));
     match op {
         bi::PLUS => plus(a, b),
@@ -336,6 +338,28 @@ fn work(record: Record, constants: &[u64], store: &mut [u64]) {
     }
 }
 
+/// Plays the record at `at`: the next one's index, `None` where a Branch 0 ends the play. `back` is where a Call goes on.
+fn step(
+    records: &[Record],
+    constants: &[u64],
+    store: &mut [u64],
+    at: usize,
+    back: &mut Option<usize>,
+) -> Option<usize> {
+    work(records[at], constants, store);
+    let stands = |label: u8| Some(find_label(records, label).expect("accepted"));
+    match records[at] {
+        Record::Branch(0) => back.take(),
+        Record::Branch(label) => stands(label),
+        Record::BranchIf { cond, label, is_else } if (store[cond as usize] == 0) == is_else => stands(label),
+        Record::Call(label) => {
+            *back = Some(at + 1);
+            stands(label)
+        }
+        _ => Some(at + 1),
+    }
+}
+
 /// Plays from `start` and counts the records reached.
 fn run(records: &[Record], constants: &[u64], store: &mut [u64], start: usize) -> u64 {
     let mut at = start;
@@ -343,22 +367,10 @@ fn run(records: &[Record], constants: &[u64], store: &mut [u64], start: usize) -
     let mut played = 0;
     while at < records.len() {
         played += 1;
-        work(records[at], constants, store);
-        at = match records[at] {
-            Record::Branch(0) => match back.take() {
-                Some(index) => index,
-                None => break,
-            },
-            Record::Branch(label) => find_label(records, label).unwrap(),
-            Record::BranchIf { cond, label, is_else } if (store[cond as usize] == 0) == is_else => {
-                find_label(records, label).unwrap()
-            }
-            Record::Call(label) => {
-                back = Some(at + 1);
-                find_label(records, label).unwrap()
-            }
-            _ => at + 1,
-        };
+        match step(records, constants, store, at, &mut back) {
+            Some(next) => at = next,
+            None => break,
+        }
     }
     played
 }
@@ -386,5 +398,31 @@ pub fn play(listing: &[u8], constants: &[u64], store: &mut [u64], start: u64) ->
             let played = run(&records, constants, store, start as usize);
             Played { number: 0, index: records.len() as u64, played }
         }
+    }
+}
+
+/// A play from record 0 that stops where it is told.
+pub struct Watched<'a> {
+    records: Vec<Record>,
+    constants: &'a [u64],
+    pub store: Vec<u64>,
+    at: usize,
+    back: Option<usize>,
+}
+
+impl<'a> Watched<'a> {
+    /// A play that stands at record 0; `None` where `play` refuses it.
+    pub fn new(listing: &[u8], constants: &'a [u64], store: Vec<u64>) -> Option<Watched<'a>> {
+        let records = accept(listing, constants.len(), store.len(), 0).ok()?;
+        Some(Watched { records, constants, store, at: 0, back: None })
+    }
+
+    /// Plays until it stands outside of these records, and not in a block called from them; the index at which it then stands.
+    pub fn leave(&mut self, records: Range<usize>) -> usize {
+        while self.at < self.records.len() && (records.contains(&self.at) || self.back.is_some()) {
+            let next = step(&self.records, self.constants, &mut self.store, self.at, &mut self.back);
+            self.at = next.unwrap_or(self.records.len());
+        }
+        self.at
     }
 }

@@ -86,6 +86,13 @@ pub fn any_word(rng: &mut Rng) -> u64 {
     }
 }
 
+/// A NaN of either sign and any mark, quiet or signalling.
+pub fn any_nan(rng: &mut Rng) -> u64 {
+    let sign_and_51 = rng.bits() & 0x8008_0000_0000_0000;
+    let mark = 1 + (rng.bits() >> (13 + rng.below(51)));
+    0x7ff0_0000_0000_0000 | sign_and_51 | mark
+}
+
 /// A word of which sums, products and quotients stay finite for a while.
 pub fn calm_word(rng: &mut Rng) -> u64 {
     0x3fc0_0000_0000_0000 | rng.bits() & 0x807f_ffff_ffff_ffff

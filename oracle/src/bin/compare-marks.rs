@@ -13,7 +13,7 @@ use oracle::machine::{Machine, Reference};
 use oracle::make;
 use oracle::names::{ARITH, BI, LISTING_BI, LISTING_UNI, UNI};
 use oracle::player::place_word;
-use oracle::random::{any_word, Rng};
+use oracle::random::{any_nan, any_word, Rng};
 
 /// A case: x1, y1, x2, y2.
 type Operands = [u64; 4];
@@ -145,11 +145,7 @@ fn combinations(operands: usize) -> Vec<Operands> {
 /// A word: a NaN of any mark, special, or any.
 fn random_word(rng: &mut Rng) -> u64 {
     match rng.below(4) {
-        0 => {
-            let sign_and_51 = rng.bits() & 0x8008_0000_0000_0000;
-            let mark = 1 + (rng.bits() >> (13 + rng.below(51)));
-            0x7ff0_0000_0000_0000 | sign_and_51 | mark
-        }
+        0 => any_nan(rng),
         1 => rng.pick(&SPECIAL),
         _ => any_word(rng),
     }
