@@ -1,4 +1,4 @@
-//! The Randles circuit of ../randles: its sheet made here, and the rows of its table.
+//! The Randles circuit of ../examples: its sheet made here, and the rows of its table.
 
 use crate::format::{MEM, PARAM, STORE};
 use crate::make;
@@ -44,11 +44,11 @@ pub struct Row {
     pub impedance: (u64, u64),
 }
 
-/// The rows of `randles/table.txt`: lines of five numbers.
+/// The rows of `examples/randles.csv`: lines of five numbers, the last two as bits.
 pub fn rows(table: &str) -> Vec<Row> {
     let mut found = Vec::new();
     for line in table.lines() {
-        let words: Vec<&str> = line.split_whitespace().collect();
+        let words: Vec<&str> = line.split(',').collect();
         let bits = |at: usize| u64::from_str_radix(words[at], 16).ok();
         if let (5, Some(Ok(frequency))) = (words.len(), words.first().map(|w| w.parse::<f64>())) {
             let impedance = (bits(3).expect("bits of Re Z"), bits(4).expect("bits of Im Z"));

@@ -80,7 +80,7 @@ fn any_store(rng: &mut Rng, indices: &[u16]) -> Vec<u64> {
 
 /// The differences on the Randles circuit: the table's rows by the rows alone, and both modes at each point.
 fn compare_randles(met: &mut Met, rng: &mut Rng) -> u64 {
-    let table = include_str!("../../../randles/table.txt");
+    let table = include_str!("../../../examples/randles.csv");
     let sheets = [false, true].map(|stable| lowered(randles::sheet(stable)).expect("an accepted sheet"));
     let (mut rows, mut differences) = (0, 0);
     for row in randles::rows(table) {
