@@ -41,7 +41,7 @@ class Drill(unittest.TestCase):
         """Every vector of the paper."""
         section = self.paper.Section()
         self.assertGreaterEqual(len(section.vectors), 100)
-        self.assertEqual(self.paper.check_vectors(section, exact), [])
+        self.assertEqual(list(self.paper.vector_differences(section, exact)), [])
 
     def test_player(self) -> None:
         """Every operation of the drill's player on random words."""

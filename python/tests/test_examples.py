@@ -21,7 +21,7 @@ def section(title: str) -> List[str]:
     """The indented lines of a section of README.md."""
     text = (ROOT / "README.md").read_text(encoding="utf-8")
     text = text[text.index(f"## {title}\n"):]
-    text = text[: text.index("\n## ", 1)]
+    text = text[: text.index("\n##", 1)]
     return [line[4:] for line in text.splitlines() if line.startswith("    ")]
 
 

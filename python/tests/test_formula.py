@@ -494,7 +494,7 @@ class Near(unittest.TestCase):
                 self.assertLess(abs(answer - exact) / abs(exact), 1e-14, (text, f))
 
     def test_readme(self) -> None:
-        """Z of the sheet that README.md writes by hand, at w = 1000: its words are the doubles nearest to the exact Z."""
+        """Z of the sheet that README.md writes by hand, at w = 1000: the same words in plain mode."""
         formula = Formula("given w\nRs = 20 ; Rct = 250 ; C = 1e-5\nmode plain\nZ = Rs + 1/(1/Rct + j*w*C)\nshow Z")
         run = formula.play({"w": [(word_of(1000.0),)]})
         self.assertEqual(run.bits("Z"), [("404b3dcb08d3dcb1", "c0558d3dcb08d3dd")])

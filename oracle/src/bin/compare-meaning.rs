@@ -1,10 +1,12 @@
 //! What sheets mean by the tables of docs/SHEET.md, 2, beside the plays of the unchanged Rust's listings by the independent player: at
-//! each point every register and place, its type and its words. First the rows of the Randles table by the tables alone, then random
-//! sheets, each on two stores, until so many points were compared. Usage: compare-meaning [POINTS] [SEED].
+//! each point every register and place, its type and its words. First the rows of the Randles table by the tables alone, then sheets of
+//! one instruction in every form, then random sheets, each on two stores, until so many more points were compared. Usage: compare-meaning [POINTS] [SEED].
 
 use std::process::ExitCode;
 
-use oracle::format::{two, RET, TEMP};
+use oracle::format::{two, PARAM, RET, STACK, TEMP};
+use oracle::make;
+use oracle::names::{SHEET_BI, SHEET_UNI};
 use oracle::points::{compared, lowered, Met, FORMS};
 use oracle::randles;
 use oracle::random::{self, Parts, Rng};
@@ -78,6 +80,65 @@ fn any_store(rng: &mut Rng, indices: &[u16]) -> Vec<u64> {
     store
 }
 
+/// The registers of the sheets that have one instruction of every form.
+const FEW: [u8; 4] = [0, 1, RET, TEMP];
+
+/// Every Mov, Uni, Bi, IfElse, LoadMath, LoadConstMath and Fused over these registers; c of a Fused is general. Param 0 is real, Param 4
+/// complex.
+fn every_instruction() -> Vec<Vec<u8>> {
+    let mut found = Vec::new();
+    for (d, a) in FEW.iter().flat_map(|d| FEW.map(|a| (*d, a))) {
+        found.push(make::mov(d, a));
+        found.extend(SHEET_UNI.map(|op| make::uni(op, d, a)));
+        for op in 0..4 {
+            found.push(make::load_const_math(op, d, a, 0));
+            found.extend([0, 4].map(|index| make::load_math(op, d, a, PARAM, index)));
+        }
+        for b in FEW {
+            found.extend(SHEET_BI.map(|op| make::bi(op, d, a, b)));
+            found.push(make::if_else(d, a, b, STACK, 0));
+            found.extend([0, 1, 2, 3].map(|op| make::fused(op, d, a, b, 1)));
+        }
+    }
+    found
+}
+
+/// The sheet in which those registers are real that have a bit in `reals`, and then the instruction stands.
+fn with_record(stable: bool, reals: usize, instruction: &[u8], constant: u64) -> Vec<u8> {
+    let places = make::real_places(&[0, 1, 2, 3].map(|index| (PARAM, index)));
+    let loads = (0..4).filter(|i| reals >> i & 1 == 1).map(|i| make::load(FEW[i], PARAM, i as u16));
+    let row: Vec<Vec<u8>> = loads.chain([instruction.to_vec()]).collect();
+    make::sheet(stable, &places, &[constant], &row)
+}
+
+/// The differences on sheets of one instruction, for every record of its registers, in both modes, each on two stores.
+fn compare_every(met: &mut Met, rng: &mut Rng) -> u64 {
+    let (mut sheets, mut barred, mut differences) = (0, 0, 0);
+    for instruction in every_instruction() {
+        for (stable, reals) in [false, true].iter().flat_map(|stable| (0..16).map(|reals| (*stable, reals))) {
+            let Some(sheet) = lowered(with_record(stable, reals, &instruction, random::calm_word(rng))) else {
+                barred += 1;
+                continue;
+            };
+            sheets += 1;
+            for _ in 0..2 {
+                let store = random::any_store(rng, &[0, 1, 2, 3, 4]);
+                if let Err(text) = compared(&sheet, &store, met) {
+                    differences += 1;
+                    if differences <= SHOWN {
+                        println!("{text}\n  stable {stable}, reals {reals:04b}, instruction {instruction:?}");
+                    }
+                }
+            }
+        }
+    }
+    println!(
+        "meaning: {sheets} sheets of one instruction over registers 0, 1, Ret and Temp with every record of them, {barred} more barred, \
+         {differences} differences"
+    );
+    differences
+}
+
 /// The differences on the Randles circuit: the table's rows by the rows alone, and both modes at each point.
 fn compare_randles(met: &mut Met, rng: &mut Rng) -> u64 {
     let table = include_str!("../../../examples/randles.csv");
@@ -107,7 +168,8 @@ fn main() -> ExitCode {
     let wanted = words.next().unwrap_or(1_000_000);
     let mut rng = Rng(words.next().unwrap_or(1));
     let mut met = Met::default();
-    let mut differences = compare_randles(&mut met, &mut rng);
+    let mut differences = compare_randles(&mut met, &mut rng) + compare_every(&mut met, &mut rng);
+    let (before, mut met) = (met.points, Met::default());
     let (mut sheets, mut refused) = (0u64, 0u64);
     while met.points < wanted && differences < 1000 {
         let bytes = any_sheet(&mut rng);
@@ -128,7 +190,7 @@ fn main() -> ExitCode {
         }
     }
     println!(
-        "meaning: {} points of {sheets} sheets on two stores each ({refused} sheets refused), {} of {FORMS} forms, {} jumps, \
+        "meaning: {before} points of these, and {} points of {sheets} random sheets on two stores each ({refused} sheets refused), {} of {FORMS} forms, {} jumps, \
          {} words lost by a Half, {} points by the rows of the tables alone, {differences} differences",
         met.points,
         met.forms.len(),
