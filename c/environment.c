@@ -196,10 +196,10 @@ typedef struct {
 } Nearest;
 
 static const Nearest rows[] = {
-    {"distances 2 ^ -1072 and 2 ^ -1074", {0, 0}, {0x1e70000000000000, 0, 0x1e60000000000000, 0}, 1},
-    {"distances 1 + 2 ^ -60, rounded to 1, and 1", {0, 0}, {0x3ff0000000000000, 0x3e10000000000000, 0x3ff0000000000000, 0}, 0},
-    {"distances 1 + 2 ^ -52 and what rounds to it", {0, 0},
-     {0x3ff0000000000000, 0x3e50000000000000, 0x3ff0000000000000, 0x3e4c000000000000}, 0},
+    {"distances 2 ^ -1074 and 2 ^ -1072", {0, 0}, {0x1e60000000000000, 0, 0x1e70000000000000, 0}, 0},
+    {"distances 1 and 1 + 2 ^ -60, rounded to 1", {0, 0}, {0x3ff0000000000000, 0, 0x3ff0000000000000, 0x3e10000000000000}, 1},
+    {"a distance that rounds to 1 + 2 ^ -52, and 1 + 2 ^ -52", {0, 0},
+     {0x3ff0000000000000, 0x3e4c000000000000, 0x3ff0000000000000, 0x3e50000000000000}, 1},
     {"a distance that is a NaN, and infinity", {0x7ff0000000000000, 0}, {0x7ff0000000000000, 0, 0, 0}, 1},
 };
 

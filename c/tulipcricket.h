@@ -99,7 +99,7 @@ uint32_t tulipcricket_peak(const uint8_t *run, size_t run_len, uint64_t window, 
  *             16  its index; 0 where there is none
  *
  * A distance is the difference of the real words squared plus that of the imaginary words squared, each of the five operations rounded once.
- * Of equal distances the earliest is nearest; a point whose distance is a NaN is passed over.
+ * Of equal distances the latest is nearest; a point whose distance is a NaN is passed over.
  * Refused by 13: an odd count of words, or more than 1,024. By 8: the points are no whole number of words. The answer is then the number and
  * zeros. Where the answer is not 24 bytes it is as lent, and the number 8. */
 uint32_t tulipcricket_nearest(uint64_t re, uint64_t im, const uint8_t *points, size_t points_len, uint8_t *answer,

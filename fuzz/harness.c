@@ -353,13 +353,13 @@ static double distance(uint64_t re, uint64_t im, const uint8_t *point) {
     return squared + y;
 }
 
-/* The point found has a distance that is a number, and no other is smaller; where none is found all are NaNs. */
+/* The point found has a distance that is a number, no other is smaller, and no later one is equal; where none is found all are NaNs. */
 static void is_nearest(uint64_t re, uint64_t im, const uint8_t *points, size_t length, int found, size_t at) {
     double least_one = found ? distance(re, im, points + 16 * at) : 0;
     HOLDS(least_one == least_one);
     for (size_t i = 0; i < length / 16; i++) {
         double other = distance(re, im, points + 16 * i);
-        HOLDS(found ? !(other < least_one) : other != other);
+        HOLDS(found ? !(other < least_one) && !(i > at && other == least_one) : other != other);
     }
 }
 

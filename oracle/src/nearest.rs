@@ -1,4 +1,4 @@
-//! The nearest reference point, written from document 02, g) alone.
+//! The nearest reference point, written from document 02, g) and j) alone.
 
 /// What comes back: 02's number, and the index of the nearest point where there is one.
 #[derive(Clone, Copy, Debug, PartialEq, Eq)]
@@ -16,7 +16,7 @@ fn distance(answer: [f64; 2], point: [f64; 2]) -> f64 {
     across + up
 }
 
-/// The smallest distance is sought first, then the earliest point that has it.
+/// The smallest distance is sought first, then the latest point that has it.
 pub fn nearest(re: u64, im: u64, words: &[u64]) -> Found {
     if !words.len().is_multiple_of(2) || words.len() > 1024 {
         return Found { number: 13, index: None };
@@ -25,6 +25,6 @@ pub fn nearest(re: u64, im: u64, words: &[u64]) -> Found {
     let point = |p: &[u64]| [f64::from_bits(p[0]), f64::from_bits(p[1])];
     let distances: Vec<f64> = words.chunks(2).map(|p| distance(answer, point(p))).collect();
     let smallest = distances.iter().copied().filter(|d| !d.is_nan()).reduce(f64::min);
-    let index = smallest.and_then(|least| distances.iter().position(|d| *d == least));
+    let index = smallest.and_then(|least| distances.iter().rposition(|d| *d == least));
     Found { number: 0, index }
 }

@@ -102,9 +102,9 @@ class Functions(unittest.TestCase):
             self.assertEqual(caught.exception.number, 12)
 
     def test_nearest(self) -> None:
-        """The earliest of equal distances; none where all are lost; 13 of too many."""
+        """The latest of equal distances; none where all are lost; 13 of too many."""
         points = [(word_of(x), word_of(y)) for x, y in ((5.0, 0.0), (1.5, 0.0), (0.5, 0.0))]
-        self.assertEqual(nearest(word_of(1.0), 0, points), 1)
+        self.assertEqual(nearest(word_of(1.0), 0, points), 2)
         self.assertIsNone(nearest(lost(1), 0, points))
         self.assertIsNone(nearest(0, 0, []))
         with self.assertRaises(Refused) as caught:

@@ -117,7 +117,8 @@ def peak(run: Sequence[int], window: int) -> List[int]:
 
 
 def nearest(re: int, im: int, points: Sequence[Tuple[int, int]]) -> Optional[int]:
-    """tulipcricket_nearest over words: the index of the nearest point, None where there is none. Raises Refused (13)."""
+    """tulipcricket_nearest over words: the index of the nearest point, the latest of equal ones; None where there is none. Raises
+    Refused (13)."""
     flat = [word for point in points for word in point]
     lent = struct.pack(f"<{len(flat)}Q", *flat)
     answer = ctypes.create_string_buffer(NEAREST_ANSWER)

@@ -6,15 +6,15 @@ use mathlib.Core.List.{List, [], _∷_}
 use mathlib.Core.Bool.{Bool, true, false, true≢false, _||_, cond}
 use mathlib.Core.Option.{Option, none, some}
 use lib.Dec.{T}
-use lib.Ieee.{Float, nan, inf, fin, binary64, neg, add, sub, mul, fits, isNan, toBits, lt, ne}
+use lib.Ieee.{Float, nan, inf, fin, binary64, neg, add, sub, mul, fits, isNan, toBits, le, ne}
 use lib.Ieee.Bits.{ofBits-toBits, is-false}
 use lib.Ieee.Fits.{add-fits, sub-fits, mul-fits}
 use Rattle.float.specs.Word.{value, word, minus, times}
 use Rattle.float.proofs.Nan.{only-nan, unequal, equal}
-use Rattle.float.proofs.Order.{below-number, not-below-nan}
 use Rattle.float.proofs.Marks.{number-word, value-word}
-use Rattle.nearest.specs.Nearest.{distance, Candidate, closer, chosen, better}
+use Rattle.nearest.specs.Nearest.{distance, Candidate, notFarther, chosen, better}
 use Rattle.nearest.specs.Apart.{apart}
+use Rattle.nearest.proofs.Ties.{not-above-number, not-above-nan}
 
 -- the square of a result, as a word and as a value
 square : (ws : List ℕ) (s : Float) → T (fits binary64 s) → value (times (word ws s) (word ws s)) ≡ mul binary64 s s
@@ -68,18 +68,18 @@ module _ (re im x y : ℕ) where
 
   -- one that is a NaN is passed over, and of a number the word goes by its value
   pub looked-at : (best : Option Candidate) (i : ℕ)
-      → better closer best (record { index = i; far = toBits binary64 d }) ≡ better closer best (record { index = i; far = distance re im x y })
-  looked-at best i = go (isNan d) refl ∙ ap (λ (v : Float). better closer best (record { index = i; far = word squares v })) (sym in-words)
+      → better notFarther best (record { index = i; far = toBits binary64 d }) ≡ better notFarther best (record { index = i; far = distance re im x y })
+  looked-at best i = go (isNan d) refl ∙ ap (λ (v : Float). better notFarther best (record { index = i; far = word squares v })) (sym in-words)
     where
       held-by : T (fits binary64 d)
       held-by = add-fits binary64 _ _
 
-      nothing : (w : ℕ) → value w ≡ d → isNan d ≡ true → better closer best (record { index = i; far = w }) ≡ best
-      nothing w v e = ap (λ n. cond n best (chosen closer best (record { index = i; far = w }))) (ap isNan v ∙ e)
+      nothing : (w : ℕ) → value w ≡ d → isNan d ≡ true → better notFarther best (record { index = i; far = w }) ≡ best
+      nothing w v e = ap (λ n. cond n best (chosen notFarther best (record { index = i; far = w }))) (ap isNan v ∙ e)
 
-      go : (n : Bool) → isNan d ≡ n → better closer best (record { index = i; far = toBits binary64 d }) ≡ better closer best (record { index = i; far = word squares d })
+      go : (n : Bool) → isNan d ≡ n → better notFarther best (record { index = i; far = toBits binary64 d }) ≡ better notFarther best (record { index = i; far = word squares d })
       go true e = nothing (toBits binary64 d) (ofBits-toBits binary64 d held-by) e ∙ sym (nothing (word squares d) (value-word squares d held-by) e)
-      go false e = ap (λ w. better closer best (record { index = i; far = w })) (number-word squares d e)
+      go false e = ap (λ w. better notFarther best (record { index = i; far = w })) (number-word squares d e)
 
 -- ---- one point further
 
@@ -115,49 +115,49 @@ module _ (index i : ℕ) (least x : Float) (k : T (fits binary64 least)) (h : T 
   old = record { index = index; far = toBits binary64 least }
 
   -- the definition's tests are those of the values
-  tests : (best : Option Candidate) → cond (isNan x) best (chosen closer best new) ≡ better closer best new
-  tests best = ap (λ n. cond n best (chosen closer best new)) (sym (ap isNan (ofBits-toBits binary64 x h)))
+  tests : (best : Option Candidate) → cond (isNan x) best (chosen notFarther best new) ≡ better notFarther best new
+  tests best = ap (λ n. cond n best (chosen notFarther best new)) (sym (ap isNan (ofBits-toBits binary64 x h)))
 
-  less : lt x least ≡ closer (toBits binary64 x) (toBits binary64 least)
-  less = sym (ap₂ lt (ofBits-toBits binary64 x h) (ofBits-toBits binary64 least k))
+  less : le x least ≡ notFarther (toBits binary64 x) (toBits binary64 least)
+  less = sym (ap₂ le (ofBits-toBits binary64 x h) (ofBits-toBits binary64 least k))
 
   -- none before
-  first : isNan least ≡ true → cond (lt x least || ne least least) (held i x) (held index least) ≡ better closer (held index least) new
+  first : isNan least ≡ true → cond (le x least || ne least least) (held i x) (held index least) ≡ better notFarther (held index least) new
   unfolding ne
   first e =
       let n = only-nan least e in
-      ap₂ (λ (v w : Float). cond (lt x v || ne v v) (held i x) (held index w)) n n
-      ∙ ap (λ b. cond (b || true) (held i x) (held index nan)) (not-below-nan x nan (sym (ap isNan n) ∙ e))
+      ap₂ (λ (v w : Float). cond (le x v || ne v v) (held i x) (held index w)) n n
+      ∙ ap (λ b. cond (b || true) (held i x) (held index nan)) (not-above-nan x)
       ∙ tests none
-      ∙ ap (λ n. better closer (cond n none (some old)) new) (sym e)
+      ∙ ap (λ n. better notFarther (cond n none (some old)) new) (sym e)
 
   -- one before
-  either : (n l : Bool) → isNan x ≡ n → lt x least ≡ l → cond l (held i x) (some old) ≡ cond n (some old) (cond l (some new) (some old))
+  either : (n l : Bool) → isNan x ≡ n → le x least ≡ l → cond l (held i x) (some old) ≡ cond n (some old) (cond l (some new) (some old))
   either n true en el =
-      let m = below-number x least el in
+      let m = not-above-number x least el in
       ap (λ b. cond b none (some new)) m ∙ ap (λ b. cond b (some old) (some new)) (sym m ∙ en)
   either true false en el = refl
   either false false en el = refl
 
-  later : isNan least ≡ false → cond (lt x least || ne least least) (held i x) (held index least) ≡ better closer (held index least) new
+  later : isNan least ≡ false → cond (le x least || ne least least) (held i x) (held index least) ≡ better notFarther (held index least) new
   later e =
       let u = number-equal least e in
-      (λ j. cond (lt x least || u j) (held i x) (cond (e j) none (some old)))
-      ∙ ap (λ b. cond b (held i x) (some old)) (or-false (lt x least))
-      ∙ either (isNan x) (lt x least) refl refl
+      (λ j. cond (le x least || u j) (held i x) (cond (e j) none (some old)))
+      ∙ ap (λ b. cond b (held i x) (some old)) (or-false (le x least))
+      ∙ either (isNan x) (le x least) refl refl
       ∙ ap (λ l. cond (isNan x) (some old) (cond l (some new) (some old))) less
       ∙ tests (some old)
-      ∙ ap (λ n. better closer (cond n none (some old)) new) (sym e)
+      ∙ ap (λ n. better notFarther (cond n none (some old)) new) (sym e)
 
   -- the code's test is the definition's
-  pub turn : (n : Bool) → isNan least ≡ n → cond (lt x least || ne least least) (held i x) (held index least) ≡ better closer (held index least) new
+  pub turn : (n : Bool) → isNan least ≡ n → cond (le x least || ne least least) (held i x) (held index least) ≡ better notFarther (held index least) new
   turn true e = first e
   turn false e = later e
 
   -- the best after a turn of the loop, by the way it went: the new point is taken, or the old one stays
-  pub joined : (index' : ℕ) (least' : Float) (won : Bool) → won ≡ lt x least || ne least least
+  pub joined : (index' : ℕ) (least' : Float) (won : Bool) → won ≡ le x least || ne least least
       → ((won ≡ true) × (index' ≡ i) × (least' ≡ x)) ⊎ ((won ≡ false) × (index' ≡ index) × (least' ≡ least))
-      → T (fits binary64 least') × (held index' least' ≡ better closer (held index least) new)
+      → T (fits binary64 least') × (held index' least' ≡ better notFarther (held index least) new)
   joined index' least' won e (inl t) = (
     subst (λ (v : Float). T (fits binary64 v)) (sym (t .2)) h,
     (λ j. held (t .1 j) (t .2 j)) ∙ ap (λ w. cond w (held i x) (held index least)) (sym (t .0) ∙ e) ∙ turn (isNan least) refl,

@@ -1,4 +1,4 @@
--- Document 02's sentences on the nearest point (g), said of the answer and not of the search that finds it (theorem `nearestPoint`).
+-- Document 02's sentences on the nearest point (g and j), said of the answer and not of the search that finds it (theorem `nearestPoint`).
 -- Assumes nothing.
 use Prim.Native.Nat.{ℕ, _+_, _*_, _/_, _%_, _≤_, _<_}
 use mathlib.Core.Path.{_≡_}
@@ -13,9 +13,9 @@ use Rattle.nearest.specs.Nearest.{distance, Values}
 abbrev pub far : ℕ → ℕ → List ℕ → ℕ → Float
 far re im points k = value (distance re im (getD points (2 * k) 0) (getD points (2 * k + 1) 0))
 
--- "of equal ones, the earliest": point k is preferred to point i where it stands earlier
+-- j: "of equal distances the latest is to be chosen": point k is preferred to point i where it stands later
 abbrev pub Preferred : ℕ → ℕ → Type 0
-Preferred k i = k < i
+Preferred k i = i < k
 
 -- of n points with these distances, i is "the index of the point with the smallest"
 pub record IsNearest (distances : ℕ → Float) (n i : ℕ) : Type 0 where

@@ -1,11 +1,11 @@
--- The nearest reference point (document 02, g). Words and their arithmetic are document 01's (`float/specs/Word`).
+-- The nearest reference point (document 02, g and j). Words and their arithmetic are document 01's (`float/specs/Word`).
 use Prim.Native.Nat.{ℕ, suc, _%_}
 use mathlib.Core.Bool.{Bool, not, cond, _||_}
 use mathlib.Core.List.{List, [], _∷_}
 use mathlib.Core.Option.{Option, none, some}
 use lib.ListN.{length}
 use lib.Dec.{eqb, ltb}
-use lib.Ieee.{isNan, lt}
+use lib.Ieee.{isNan, le}
 use Rattle.float.specs.Word.{value, plus, minus, times}
 
 -- "Distance is the difference of real words squared plus that of imaginary words squared, five operations, each rounded once"
@@ -26,9 +26,9 @@ candidates re im i [] = []
 candidates re im i (x ∷ []) = []
 candidates re im i (x ∷ y ∷ points) = record { index = i; far = distance re im x y } ∷ candidates re im (suc i) points
 
--- "of equal ones, the earliest": a later point takes the place of an earlier one only where it is closer
-abbrev pub closer : ℕ → ℕ → Bool
-closer later earlier = lt (value later) (value earlier)
+-- j: "of equal distances the latest is to be chosen": a later point takes the place of an earlier one where it is not farther
+abbrev pub notFarther : ℕ → ℕ → Bool
+notFarther later earlier = le (value later) (value earlier)
 
 -- The best so far, one point further, by a comparison. "Points whose distance is NaN are passed over"
 abbrev pub chosen : (ℕ → ℕ → Bool) → Option Candidate → Candidate → Option Candidate
@@ -63,4 +63,4 @@ unfoldable pub nearest : ℕ → ℕ → List ℕ → Values
 unfolding bestOf
 nearest re im points =
     cond (not (eqb (length points % 2) 0) || ltb 1024 (length points)) (record { number = 13; found = 0; index = 0 })
-    (told (bestOf closer re im points))
+    (told (bestOf notFarther re im points))

@@ -1,9 +1,9 @@
-// The nearest of a row of reference points. Distances are computed in f64, five operations, each rounded once.
+// The nearest of a row of reference points, of equal ones the latest. Distances are computed in f64, five operations, each rounded once.
 ghost use mathlib.Core.Path.{_≡_};
 ghost use mathlib.Core.Bool.{_||_};
-ghost use lib.Ieee.{lt, ne};
+ghost use lib.Ieee.{le, ne};
 ghost use Rattle.float.specs.Word.{value};
-ghost use Rattle.nearest.specs.Nearest.{closer, bestOf, told, nearest};
+ghost use Rattle.nearest.specs.Nearest.{notFarther, bestOf, told, nearest};
 ghost use Rattle.nearest.specs.Apart.{apart};
 ghost use Rattle.nearest.specs.Answer.{asValues};
 
@@ -31,14 +31,14 @@ fn distance(re: f64, im: f64, x: u64, y: u64) -> f64
 
 // Whether a distance takes the place of the least so far, which is a NaN where none was a number.
 fn wins(least: f64, far: f64) -> bool
-    ensures { λ r. ⌜ r ≡ lt far least || ne least least ⌝ }
+    ensures { λ r. ⌜ r ≡ le far least || ne least least ⌝ }
 {
-    far < least || least != least
+    far <= least || least != least
 }
 
 // The nearest of all points.
 fn search(re: u64, im: u64, points: &[u64]) -> Nearest
-    ensures { λ r. ⌜ asValues r ≡ told (bestOf closer re im (now (points .entry))) ⌝ }
+    ensures { λ r. ⌜ asValues r ≡ told (bestOf notFarther re im (now (points .entry))) ⌝ }
 {
     let x = float::read(re);
     let y = float::read(im);

@@ -75,7 +75,7 @@ pub record Theorems : Type 0 where
   pub mulAdd : MulAddLaw (fusedMultiplyAdd binary64)
   -- IfElse chooses bit by bit
   pub ifElse : IfElseLaw ifElse
-  -- "The index of the point with the smallest comes back; of equal ones, the earliest."
+  -- "The index of the point with the smallest comes back"; "of equal distances the latest is to be chosen"
   pub nearestPoint : NearestLaw nearest
   -- "for each position the largest in the window that ends there"
   pub runningPeak : PeakLaw after

@@ -19,7 +19,7 @@ fn plain(re: f64, im: f64, points: &[u8]) -> Option<usize> {
     for (i, p) in points.chunks_exact(16).enumerate() {
         let (a, b) = (re - word(&p[..8]), im - word(&p[8..]));
         let far = a * a + b * b;
-        if !far.is_nan() && best.is_none_or(|(_, least)| far < least) {
+        if !far.is_nan() && best.is_none_or(|(_, least)| far <= least) {
             best = Some((i, far));
         }
     }

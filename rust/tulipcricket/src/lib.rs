@@ -157,7 +157,7 @@ pub fn peak(run: &[u64], window: u64) -> Result<Vec<u64>, Refused> {
     Ok((0..run.len()).map(|i| number(&out, 8 * i)).collect())
 }
 
-/// The index of the point nearest to an answer, the earliest of equal ones; `None` where no distance is a number. At most 512 points.
+/// The index of the point nearest to an answer, the latest of equal ones; `None` where no distance is a number. At most 512 points.
 pub fn nearest(answer: (f64, f64), points: &[(f64, f64)]) -> Result<Option<usize>, Refused> {
     let words: Vec<u64> = points.iter().flat_map(|p| [p.0.to_bits(), p.1.to_bits()]).collect();
     let mut told = [0; 24];

@@ -110,9 +110,10 @@ fn windows_and_runs_out_of_range_are_refused_by_12() {
 }
 
 #[test]
-fn the_nearest_point_is_the_earliest_of_equal_ones() {
-    let points = [(f64::NAN, 0.0), (4.0, 1.0), (2.0, 1.0), (3.0, 0.0)];
-    assert_eq!(nearest((3.0, 1.0), &points), Ok(Some(1)));
+fn the_nearest_point_is_the_latest_of_equal_ones() {
+    let points = [(f64::NAN, 0.0), (4.0, 1.0), (2.0, 1.0), (3.0, 0.0), (f64::NAN, 1.0), (5.0, 1.0)];
+    assert_eq!(nearest((3.0, 1.0), &points), Ok(Some(3)));
+    assert_eq!(nearest((3.0, 1.0), &points[..3]), Ok(Some(2)));
     assert_eq!(nearest((3.0, 1.0), &points[..1]), Ok(None));
     assert_eq!(nearest((3.0, 1.0), &[(0.0, 0.0); 513]), Err(Refused { why: Why::WrongPoints, index: 0 }));
 }

@@ -11,7 +11,7 @@ use lib.Ieee.{Float, binary64, fits, ofBits, toBits, div, isNan}
 use lib.Ieee.Fits.{add-fits}
 use borrow.Author.Needs.{needs}
 use Rattle.float.specs.Word.{value}
-use Rattle.nearest.specs.Nearest.{candidates, closer, better, fold, bestOf, told}
+use Rattle.nearest.specs.Nearest.{candidates, notFarther, better, fold, bestOf, told}
 use Rattle.nearest.specs.Apart.{apart}
 use Rattle.nearest.proofs.Distances.{looked-at, held, joined, nan-differs, number-same}
 use Rattle.nearest.proofs.Points.{next, ended}
@@ -20,7 +20,7 @@ use Rattle.nearest.proofs.search.Tie as tie
 
 abbrev Inv-loop : tie.InvT-loop
 Inv-loop re im points x y count index₀ least₀ i₀ index least i =
-    (i ≤ count) × T (fits binary64 least) × (fold closer (held index least) (candidates re im i (drop (2 * i) points)) ≡ bestOf closer re im points)
+    (i ≤ count) × T (fits binary64 least) × (fold notFarther (held index least) (candidates re im i (drop (2 * i) points)) ≡ bestOf notFarther re im points)
 
 abbrev μ-loop : tie.MeasureT-loop
 μ-loop re im points x y count index₀ least₀ i₀ index least i = count - i
@@ -49,11 +49,11 @@ search-spec =
     (⊎-elim (λ t. inl (t .0 .taken, t .1, t .2)) (λ t. inr (t .0 .left, t .1, t .2)) (c .if1 .came)) in (
       search needs,
       j .0,
-      ap (λ b. fold closer b rest)
+      ap (λ b. fold notFarther b rest)
           (j .1
-          ∙ ap (λ (d : Float). better closer (held (l .index) (l .least)) (record { index = l .i; far = toBits binary64 d })) same
+          ∙ ap (λ (d : Float). better notFarther (held (l .index) (l .least)) (record { index = l .i; far = toBits binary64 d })) same
           ∙ looked-at (a .re) (a .im) (getD (a .points .now) (2 * l .i) 0) (getD (a .points .now) (2 * l .i + 1) 0) (held (l .index) (l .least)) (l .i))
-          ∙ sym (ap (fold closer (held (l .index) (l .least))) (next (a .re) (a .im) (l .i) (a .points .now) (omega arith)))
+          ∙ sym (ap (fold notFarther (held (l .index) (l .least))) (next (a .re) (a .im) (l .i) (a .points .now) (omega arith)))
           ∙ l .inv .2,
     ))
     (λ c.
@@ -61,10 +61,10 @@ search-spec =
     let l = c .before .before .loop in
     ap (λ n. told (cond n none (some (record { index = l .index; far = toBits binary64 (l .least) })))) (sym (nan-differs (l .least) (c .if2 .taken)))
     ∙ ap told
-    (sym (ap (fold closer (held (l .index) (l .least))) (ended (a .re) (a .im) (l .i) (a .points .now) (omega arith))) ∙ l .inv .2))
+    (sym (ap (fold notFarther (held (l .index) (l .least))) (ended (a .re) (a .im) (l .i) (a .points .now) (omega arith))) ∙ l .inv .2))
     (λ c.
     let a = c .before .before .before .before .before .before .args in
     let l = c .before .before .loop in
     ap (λ n. told (cond n none (some (record { index = l .index; far = toBits binary64 (l .least) })))) (sym (number-same (l .least) (c .if2 .left)))
     ∙ ap told
-    (sym (ap (fold closer (held (l .index) (l .least))) (ended (a .re) (a .im) (l .i) (a .points .now) (omega arith))) ∙ l .inv .2)))
+    (sym (ap (fold notFarther (held (l .index) (l .least))) (ended (a .re) (a .im) (l .i) (a .points .now) (omega arith))) ∙ l .inv .2)))
