@@ -1,4 +1,4 @@
-"""Puts the shared library and the commit's name into the package; pyproject.toml has all else."""
+"""Puts the shared library and the commit's name into the package; setup.cfg has all else."""
 
 import shutil
 import subprocess
