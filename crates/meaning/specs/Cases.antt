@@ -1,5 +1,5 @@
--- Worked cases of the table of values, for every operation and every kind of operand. The words are those of the exact fractions beside
--- them, rounded once by hand: nothing of them was computed by these definitions or by the code.
+-- Worked cases of the table of values, for every operation, with real and complex operands. The values are exact fractions, worked out on
+-- paper; Python's own conversion made words of them, which rounds once. Nothing of them was computed by these definitions or by the code.
 use Prim.Native.Nat.{ℕ}
 use mathlib.Core.Path.{_≡_, refl}
 use mathlib.Core.List.{List, [], _∷_, map}
