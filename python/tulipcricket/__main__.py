@@ -1,8 +1,12 @@
-"""python -m tulipcricket."""
+"""python -m tulipcricket; and as a file's name, by which the front calls it, so that nothing of the folder it is called in is imported."""
 
+import os
 import sys
 
-from .command import main
+if not __package__:
+    sys.path[0] = os.path.dirname(os.path.dirname(os.path.abspath(__file__)))
+
+from tulipcricket.command import main  # noqa: E402
 
 if __name__ == "__main__":
     sys.exit(main())

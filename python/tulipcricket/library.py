@@ -8,7 +8,7 @@ import struct
 from dataclasses import dataclass
 from functools import lru_cache
 from pathlib import Path
-from typing import List, NamedTuple, Optional, Sequence, Tuple
+from typing import Any, List, NamedTuple, Optional, Sequence, Tuple
 
 from .errors import LibraryMissing, Refused
 
@@ -21,6 +21,10 @@ PLAY_ANSWER = 24
 POINTS_LIMIT = 8192
 NEAREST_ANSWER = 24
 SHELF_ANSWER = 40
+PAGES_ANSWER = 24
+PAGE = 60 * 73
+"""Bytes of a printed page."""
+PAGES_LIMIT = 223 * PAGE
 
 NAME = "libtulipcricket.so"
 VARIABLE = "TULIPCRICKET_LIBRARY"
@@ -45,17 +49,24 @@ def places() -> List[Path]:
     return [here / NAME, here.parent.parent / "target" / "staticlib" / NAME]
 
 
+def found() -> Optional[Path]:
+    """The library's file; None where it is not there."""
+    return next((path for path in places() if path.is_file()), None)
+
+
 @lru_cache(maxsize=None)
 def library() -> ctypes.CDLL:
     """The shared library, loaded once."""
-    for path in places():
-        if path.is_file():
-            loaded = ctypes.CDLL(str(path))
-            for name, arguments in _ARGUMENTS.items():
-                function = getattr(loaded, "tulipcricket_" + name)
-                function.argtypes = arguments
-                function.restype = ctypes.c_uint32
-            return loaded
+    path = found()
+    if path is not None:
+        loaded = ctypes.CDLL(str(path))
+        for name, arguments in _ARGUMENTS.items():
+            function = getattr(loaded, "tulipcricket_" + name)
+            function.argtypes = arguments
+            function.restype = ctypes.c_uint32
+        loaded.tulipcricket_version.restype = loaded.tulipcricket_word.restype = ctypes.c_char_p
+        loaded.tulipcricket_word.argtypes = [ctypes.c_uint32]
+        return loaded
     tried = ", ".join(str(path) for path in places())
     raise LibraryMissing(f"{NAME} is not there; c/library makes it (looked for: {tried}; {VARIABLE} names another file)")
 
@@ -146,3 +157,21 @@ def shelf(sheet: bytes) -> Shelf:
     if number != 0:
         raise Refused(number, index)
     return Shelf(index, listing, constants, records)
+
+
+def printed(function: Any, listing: bytes, constants: bytes) -> Optional[bytes]:
+    """tulipcricket_pages: the pages of a listing; None where it is refused."""
+    pages, answer = ctypes.create_string_buffer(PAGES_LIMIT), ctypes.create_string_buffer(PAGES_ANSWER)
+    function.argtypes, function.restype = _SLICE * 4, ctypes.c_uint32
+    number = function(listing, len(listing), constants, len(constants), pages, PAGES_LIMIT, answer, PAGES_ANSWER)
+    return pages.raw[: PAGE * struct.unpack("<3Q", answer.raw)[2]] if number == 0 else None
+
+
+def version() -> str:
+    """tulipcricket_version."""
+    return str(library().tulipcricket_version().decode())
+
+
+def word(number: int) -> str:
+    """tulipcricket_word: the words of a number that a function returned."""
+    return str(library().tulipcricket_word(number).decode())
