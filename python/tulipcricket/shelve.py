@@ -16,7 +16,8 @@ from typing import BinaryIO, Callable, Dict, Iterator, List, Optional, Sequence,
 
 from . import kept, library, manifest, texts
 from . import table as tables
-from .errors import Refused, TableError, TulipcricketError
+from .errors import Refused, TableError
+from .files import Unusable
 from .folder import Folder
 from .formula import Formula
 from .points import Answer, Column, Head, Proved, line_of
@@ -31,7 +32,7 @@ MOST_MARKS = 40
 _PARAM, _MEM = 66 + 1024, 66 + 512
 
 
-class NotMade(TulipcricketError):
+class NotMade(Unusable):
     """A folder that could not be made, or exists."""
 
 
