@@ -6,9 +6,10 @@ in the folder is run. Points are read line by line.
 
 from __future__ import annotations
 
+import contextlib
 import csv
 import io
-from typing import Any, Callable, Iterator, List, Optional, Sequence, Tuple
+from typing import Any, BinaryIO, Callable, Iterator, List, Optional, Sequence, Tuple
 
 from . import kept, library, manifest
 from .errors import LibraryMissing, TulipcricketError
@@ -198,27 +199,21 @@ def difference(head: Head, line: bytes, again: str) -> str:
     return "it is written otherwise than a line of points"
 
 
-class Rows:
-    """The rows of a table, read line by line."""
-
-    def __init__(self, folder: Folder, name: str, head: Head) -> None:
-        self._file = io.TextIOWrapper(folder.open(name), "utf-8-sig", newline="\n")
-        self._head = head
-
-    def __iter__(self) -> Iterator[List[str]]:
-        """The cells of each line that is no comment; the first are the names."""
-        for line in iter(lambda: self._file.readline(MOST_LINE), ""):
+def rows(file: BinaryIO, head: Head) -> Iterator[List[str]]:
+    """The rows of a table, read line by line: the cells of each line that is no comment; the first are the names."""
+    with io.TextIOWrapper(file, "utf-8-sig", newline="\n") as text:
+        for line in iter(lambda: text.readline(MOST_LINE), ""):
             for part in line.splitlines():
                 if part.strip() and not part.lstrip().startswith("#"):
-                    yield next(csv.reader([part], delimiter=self._head.separator, strict=True))
+                    yield next(csv.reader([part], delimiter=head.separator, strict=True))
 
 
 class Given(Tally):
     """given.csv: each line has the words put in; `cells` are those of the line that was compared last."""
 
-    def __init__(self, folder: Folder, head: Head) -> None:
+    def __init__(self, file: BinaryIO, head: Head) -> None:
         super().__init__("given.csv", "its {} lines have the words put in")
-        self._head, self._rows = head, iter(Rows(folder, "given.csv", head))
+        self._head, self._rows = head, rows(file, head)
         names = [cell.strip() for cell in next(self._rows, [])]
         for one in head.put:
             if names.count(one.header) != 1:
@@ -246,9 +241,9 @@ class Given(Tally):
 class Shown(Tally):
     """z.csv: each line has the cells put in and the answer's decimals."""
 
-    def __init__(self, folder: Folder, head: Head) -> None:
+    def __init__(self, file: BinaryIO, head: Head) -> None:
         super().__init__("z.csv", "its {} lines have the answers of points")
-        self._head, self._file = head, folder.open("z.csv")
+        self._head, self._file = head, file
         if self._file.readline(MOST_LINE) != csv_line(head.names, head.separator):
             self.differs("its first line has not the names of points")
 
@@ -270,9 +265,9 @@ class Shown(Tally):
 class After(Tally):
     """after: the store of each play, byte for byte."""
 
-    def __init__(self, folder: Folder, player: Any) -> None:
+    def __init__(self, file: BinaryIO, player: Any) -> None:
         super().__init__("after", "{} stores, every byte as played again")
-        self._file, self._player = folder.open("after"), player
+        self._file, self._player = file, player
 
     def take(self, point: int) -> None:
         """The next store is that of the play before."""
@@ -312,32 +307,55 @@ def count_points(folder: Folder, reader: Reader) -> int:
         return sum(block.count(b"\n") for block in iter(lambda: file.read(1 << 20), b"")) - reader.line
 
 
+class Beside:
+    """All that is compared with the points: the players, the tables, the stores."""
+
+    def __init__(self, folder: Folder, head: Head, plays: List[Plays], files: contextlib.ExitStack) -> None:
+        def opened(name: str) -> BinaryIO:
+            return files.enter_context(folder.open(name))
+
+        self.plays = plays
+        self.given = Given(opened("given.csv"), head) if head.table else None
+        self.shown = Shown(opened("z.csv"), head)
+        stores = folder.has("after") and plays and plays[0].only is None
+        self.after = After(opened("after"), plays[0].player) if stores else None
+
+    def tallies(self) -> List[Tally]:
+        """In the order in which they are told."""
+        return [one for one in (*self.plays, self.given, self.shown, self.after) if one is not None]
+
+    def take(self, reader: Reader, point: int, line: bytes) -> None:
+        """One point."""
+        put = reader.put(line)
+        for one in self.plays:
+            one.take(reader, point, line, put)
+        if self.given is not None:
+            self.given.take(reader, point, put)
+        self.shown.take(point, self.given.cells if self.given is not None else [], line)
+        if self.after is not None:
+            self.after.take(point)
+
+    def end(self) -> None:
+        """Nothing is left beside the points."""
+        for table in (self.given, self.shown, self.after):
+            if table is not None:
+                table.end()
+
+
 def check_points(report: Report, folder: Folder, three: bool, progress: Progress) -> None:
     """Every point played again, and the tables beside it."""
-    with folder.open("points") as file:
-        reader = Reader(file)
-        head, count = reader.head, count_points(folder, reader)
-        plays = players(report, head, folder, validated_points(count, False) if three else None)
-        given = Given(folder, head) if head.table else None
-        answers = Shown(folder, head)
-        after = After(folder, plays[0].player) if folder.has("after") and plays and plays[0].only is None else None
-        tallies: List[Tally] = [*plays, *([given] if given else []), answers, *([after] if after else [])]
+    with contextlib.ExitStack() as files:
+        reader = Reader(files.enter_context(folder.open("points")))
+        count = count_points(folder, reader)
+        plays = players(report, reader.head, folder, validated_points(count, False) if three else None)
+        beside = Beside(folder, reader.head, plays, files)
         try:
             for point, line in enumerate(reader):
-                put = reader.put(line)
-                for one in plays:
-                    one.take(reader, point, line, put)
-                if given is not None:
-                    given.take(reader, point, put)
-                answers.take(point, given.cells if given is not None else [], line)
-                if after is not None:
-                    after.take(point)
+                beside.take(reader, point, line)
                 progress(point + 1, count)
-            for table in (given, answers, after):
-                if table is not None:
-                    table.end()
+            beside.end()
         finally:
-            for tally in tallies:
+            for tally in beside.tallies():
                 tally.tell(report)
 
 

@@ -182,9 +182,20 @@ def doubles(given: Mapping[str, List[Value]]) -> Dict[str, List[float]]:
     return {name: [double_of(value[0]) for value in values] for name, values in given.items()}
 
 
+def parsed(top: argparse.ArgumentParser, arguments: Optional[Sequence[str]]) -> argparse.Namespace:
+    """The words of a call; files may stand after options too."""
+    words, rest = top.parse_known_args(arguments)
+    takes = isinstance(getattr(words, "files", None), list)
+    if rest and (not takes or any(one.startswith("-") and one != "-" for one in rest)):
+        top.error(f"unrecognized arguments: {' '.join(rest)}")
+    if takes:
+        words.files += rest
+    return words
+
+
 def main(arguments: Optional[Sequence[str]] = None) -> int:
     """The command; its exit status."""
-    words = parser().parse_args(arguments)
+    words = parsed(parser(), arguments)
     try:
         return words.call(words) or 0
     except FormulaError as refused:
