@@ -38,6 +38,11 @@ _ARGUMENTS = {
     "nearest": _WORD * 2 + _SLICE * 2,
     "shelf": _SLICE * 2,
 }
+_TEXTS = {
+    "version": [],
+    "word": [ctypes.c_uint32],
+}
+"""The functions that give text."""
 
 
 def places() -> List[Path]:
@@ -64,8 +69,10 @@ def library() -> ctypes.CDLL:
             function = getattr(loaded, "tulipcricket_" + name)
             function.argtypes = arguments
             function.restype = ctypes.c_uint32
-        loaded.tulipcricket_version.restype = loaded.tulipcricket_word.restype = ctypes.c_char_p
-        loaded.tulipcricket_word.argtypes = [ctypes.c_uint32]
+        for name, numbers in _TEXTS.items():
+            function = getattr(loaded, "tulipcricket_" + name)
+            function.argtypes = numbers
+            function.restype = ctypes.c_char_p
         return loaded
     tried = ", ".join(str(path) for path in places())
     raise LibraryMissing(f"{NAME} is not there; c/library makes it (looked for: {tried}; {VARIABLE} names another file)")
