@@ -49,7 +49,7 @@ check: built
 	.ci/quick
 
 install: built
-	$(INSTALL) -d "$(bin)" "$(lib)/pkgconfig" "$(libexec)" "$(include)" "$(man)" "$(doc)/examples" "$(package)/kept"
+	$(INSTALL) -d "$(bin)" "$(lib)/pkgconfig" "$(libexec)" "$(include)" "$(man)" "$(doc)/examples" "$(package)/data"
 	$(INSTALL) -m 755 bin/tulipcricket "$(bin)/tulipcricket"
 	$(INSTALL) -m 755 $(BUILT) "$(libexec)"
 	$(INSTALL) -m 644 $(addsuffix .built,$(BUILT)) "$(libexec)"
@@ -64,9 +64,9 @@ install: built
 	$(INSTALL) -m 644 $(PAPERS) "$(doc)"
 	$(INSTALL) -m 644 $(EXAMPLES) "$(doc)/examples"
 	$(INSTALL) -m 644 $(MODULES) "$(package)"
-	$(INSTALL) -m 644 drill/player.py "$(package)/kept/player.py"
-	$(INSTALL) -m 644 docs/SHELF.md "$(package)/kept/SHELF.txt"
-	$(INSTALL) -m 644 docs/SHEET.md "$(package)/kept/SHEET.txt"
+	$(INSTALL) -m 644 drill/player.py "$(package)/data/player.py"
+	$(INSTALL) -m 644 docs/SHELF.md "$(package)/data/SHELF.txt"
+	$(INSTALL) -m 644 docs/SHEET.md "$(package)/data/SHEET.txt"
 	sed -n '1s/^commit \([0-9a-f]*\)\(, .*\)*$$/\1\2/; 1s/, .*/-dirty/; 1s/^no commit$$/unknown/; 1p' $(LIBRARY).built >"$(package)/commit"
 	sed -n 2p $(LIBRARY).built >"$(package)/kit"
 	chmod 644 "$(package)/commit" "$(package)/kit"

@@ -23,7 +23,7 @@ PROGRAMS = "TULIPCRICKET_PROGRAMS"
 
 def path_of(name: str) -> Optional[Path]:
     """Where this program has a file that it puts into folders: in the installed package, or in the repository."""
-    places = (HERE / "kept" / name, ROOT / PLACES[name])
+    places = (HERE / "data" / name, ROOT / PLACES[name])
     return next((path for path in places if path.is_file()), None)
 
 
