@@ -774,44 +774,57 @@ def cells(folder, points, name, headers):
         yield [read_word(row[i].strip(), SIGNS[points.table[1]], points.table[2] == "words" and name == "given.csv") for i in at]
 
 
-def played_line(listing, constants, before, points, put):
-    """A line of points, worked out: words put in, the answer, what came back."""
-    store = list(before)
-    for (index, _), word in zip(points.put, put):
-        store[index] = word
-    answer = play(listing, constants, store, points.start)
-    words = ["%016x" % word for word in put] + ["="] + ["%016x" % store[index] for index, _ in points.answer] + ["="]
-    return " ".join(words + ["%d" % number for number in answer] + ["%08x\n" % checksum(file_of(store))])
+class Plays:
+    """What is played, and the tables beside it, where there are any."""
 
+    def __init__(self, folder, points):
+        self.points = points
+        with opened(folder, "listing") as file:
+            self.listing = file.read(MOST_BYTES + 1)
+        self.constants, self.before = words_of(folder, "constants"), words_of(folder, "before")
+        self.tables = []
+        if points.table != ["none"]:
+            headers = [text.split("=", 1)[1] for _, text in points.put]
+            self.tables = [("given.csv", cells(folder, points, "given.csv", headers)),
+                           ("z.csv", cells(folder, points, "z.csv", [text for _, text in points.answer]))]
 
-def played_again(folder, points, said):
-    """Every line of points, played, and the tables beside it; what differs."""
-    def words_of(name):
-        with opened(folder, name) as file:
-            data = file.read(MOST_BYTES + 1)
-        return [int.from_bytes(data[i:i + 8], "little") for i in range(0, len(data), 8)]
+    def again(self, put):
+        """The words of the answer, and the line of points, worked out."""
+        store = list(self.before)
+        for (index, _), word in zip(self.points.put, put):
+            store[index] = word
+        came_back = play(self.listing, self.constants, store, self.points.start)
+        answer = [store[index] for index, _ in self.points.answer]
+        words = ["%016x" % word for word in put] + ["="] + ["%016x" % word for word in answer] + ["="]
+        return answer, " ".join(words + ["%d" % number for number in came_back] + ["%08x\n" % checksum(file_of(store))])
 
-    with opened(folder, "listing") as file:
-        listing = file.read(MOST_BYTES + 1)
-    constants, before = words_of("constants"), words_of("before")
-    given = shown = None
-    if points.table != ["none"]:
-        given = cells(folder, points, "given.csv", [text.split("=", 1)[1] for _, text in points.put])
-        shown = cells(folder, points, "z.csv", [text for _, text in points.answer])
-    for line in points:
-        put = [int(word, 16) for word in line.split(" = ")[0].split()] if points.put else []
-        if given is not None and next(given, None) != put:
-            yield "given.csv and line %d of points differ" % points.line
-        again = played_line(listing, constants, before, points, put)
+    def differ(self, line):
+        """What differs at one line of points: the play, the tables."""
+        put = [int(word, 16) for word in line.split("=")[0].split()]
+        answer, again = self.again(put)
         if again != line:
-            yield "points: line %d differs; played again it is %s" % (points.line, again.strip())
-        answer = [int(word, 16) for word in again.split(" = ")[-2].split()[-len(points.answer):]] if points.answer else []
-        if shown is not None and not all(a == b or is_nan(a) and is_nan(b) for a, b in zip(next(shown, []) or [None], answer or [None])):
-            yield "z.csv and line %d of points differ" % points.line
-        said["played"] += 1
-    for name, table in (("given.csv", given), ("z.csv", shown)):
-        if table is not None and next(table, None) is not None:
-            yield name + " has more lines than points"
+            yield "points: line %d differs; played again it is %s" % (self.points.line, again.strip())
+        for (name, table), words in zip(self.tables, (put, answer)):
+            there = next(table, [])
+            if len(there) != len(words) or not all(map(as_told, there, words)):
+                yield "%s and line %d of points differ" % (name, self.points.line)
+
+    def left(self):
+        """Tables with more lines than points."""
+        for name, table in self.tables:
+            if next(table, None) is not None:
+                yield name + " has more lines than points"
+
+
+def words_of(folder, name):
+    with opened(folder, name) as file:
+        data = file.read(MOST_BYTES + 1)
+    return [int.from_bytes(data[i:i + 8], "little") for i in range(0, len(data), 8)]
+
+
+def as_told(told, word):
+    """A cell tells a word; of a NaN it tells the mark alone."""
+    return told == word or is_nan(told) and is_nan(word) and (told - word) % NAN_BIT == 0
 
 
 def differences(folder, said):
@@ -820,7 +833,11 @@ def differences(folder, said):
     yield from files_as_listed(folder, listed)
     said["files"] = len(listed)
     with opened(folder, "points") as file:
-        yield from played_again(folder, Points(file), said)
+        plays = Plays(folder, Points(file))
+        for line in plays.points:
+            yield from plays.differ(line)
+            said["played"] += 1
+        yield from plays.left()
 
 
 def main(folder):

@@ -162,6 +162,14 @@ class Folders(Shelves):
         self.assertEqual((self.room / "n" / "z.csv").read_text(), "b\n0.5\n")
         self.assertEqual(standing(self.room / "n"), (0, "n: as it was shelved"))
 
+    def test_checked_before_it_is_named(self) -> None:
+        """A fault of shelve itself: what it wrote does not come out again, and no folder is made."""
+        with mock.patch("tulipcricket.shelve.csv_line", lambda cells, separator: b"1\n"):
+            status, _, err = self.called("shelve", "d.formula", "x.csv", "g")
+        self.assertEqual(status, 2)
+        self.assertIn("g: checked, it differs, and no folder was made: differs: z.csv: ", err)
+        self.assertEqual(sorted(os.listdir(self.room)), ["d.formula", "x.csv"])
+
     def test_full(self) -> None:
         """Where the disk is full at any write, no folder is left, and that is told."""
         real, left = os.fsync, [0]

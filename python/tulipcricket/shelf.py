@@ -104,7 +104,14 @@ def shelve_command(words: argparse.Namespace) -> None:
     target = shelve.target_of(folder)
     scan = scan_of(words, files)
     bar, count = Bar(), sum(1 for _ in scan.rows())
-    shelve.shelve(scan, target, words.stores, lambda done: bar(done, count))
+    shelve.shelve(scan, target, words.stores, lambda done: bar(done, count), differing)
+
+
+def differing(folder: str) -> List[str]:
+    """What check tells as different, player.py playing three points."""
+    lines: List[str] = []
+    check.check(folder, lines.append, True, False, lambda done, count: None)
+    return [line for line in lines if line.startswith("differs: ")]
 
 
 def check_command(words: argparse.Namespace) -> int:
@@ -114,9 +121,9 @@ def check_command(words: argparse.Namespace) -> int:
     try:
         if words.write:
             check.repair(words.folder, words.repair, True, print)
-        differing = check.check(words.folder, print, words.second == "three", words.files, Bar())
+        count = check.check(words.folder, print, words.second == "three", words.files, Bar())
         if words.repair and not words.write:
             check.repair(words.folder, words.repair, False, print)
     except OSError as wrong:
         raise Unusable(f"{wrong.filename or words.folder}: {wrong.strerror}") from None
-    return 1 if differing else 0
+    return 1 if count else 0

@@ -300,14 +300,6 @@ def put_files(scan: Scan, folder: Path, name: str, stores: bool, progress: Calla
         data = manifest.made(opened, name, [one for one, _ in texts.FILES if one in there]).written()
     with new_file(folder / manifest.FILE) as file:
         file.write(data)
-    read_back(folder)
-
-
-def read_back(folder: Path) -> None:
-    """The folder as it now stands is as its manifest says."""
-    with Folder(str(folder)) as opened:
-        for difference in manifest.differences(opened, manifest.read(opened)):
-            raise NotMade(f"read back, {difference}")
 
 
 def legend(scan: Scan, name: str, version: str) -> str:
@@ -332,10 +324,13 @@ def target_of(folder: str) -> Path:
     return target
 
 
-def shelve(scan: Scan, target: Path, stores: bool, progress: Callable[[int], None]) -> None:
-    """Makes the folder."""
+def shelve(scan: Scan, target: Path, stores: bool, progress: Callable[[int], None], checked: Callable[[str], List[str]]) -> None:
+    """Makes the folder; it gets its name only where `checked`, which makes it all again, tells no difference."""
     try:
         with made_beside(target) as beside:
             put_files(scan, beside, target.name, stores, progress)
+            differing = checked(str(beside))
+            if differing:
+                raise NotMade(f"{target}: checked, it differs, and no folder was made: {differing[0]}")
     except OSError as wrong:
         raise NotMade(f"{target}: {wrong.strerror}; no folder was made") from None
