@@ -13,7 +13,7 @@ from pathlib import Path
 from typing import Dict, List, Tuple
 from unittest import mock
 
-from tulipcricket import kept, library, manifest, points, shelve, texts
+from tulipcricket import kept, library, manifest, paper, points, shelve, texts
 from tulipcricket.command import main
 from tulipcricket.errors import WORDS
 from tulipcricket.folder import Folder, Unreadable, shown
@@ -462,6 +462,101 @@ class Points(unittest.TestCase):
         for text in (b"3ff000000000000 = = 0 1 1 00000000\n", b"zff0000000000000 = = 0 1 1 00000000\n"):
             with self.assertRaises(points.NoPoints):
                 reader.put(text)
+
+
+def page_line(index: int, text: str) -> str:
+    """A line of a page, by document 02's columns, of a line as the program `listing` prints it."""
+    name, _, operands = text.partition(" ")
+    return f"{index:>5} {name:<16} {operands:<49}\n"
+
+
+def page_of(constants: List[int], records: List[str]) -> str:
+    """Constants and records on pages."""
+    lines = [page_line(i, f"Constant {word:016x}") for i, word in enumerate(constants)]
+    lines += [page_line(i, text) for i, text in enumerate(records)]
+    return "".join(lines) + (" " * 72 + "\n") * (-len(lines) % 60)
+
+
+class Pages(Shelves):
+    """Printed pages, read back."""
+
+    # docs/SHELF.md, 8: its three listings, typed as text
+    LISTINGS = (
+        ("07 00 06 00 40 00 00 09 00 0b 00 06 07 01 03 00 05 00 10 00 01 05 00 10 00 01 05 00 0f 00 02 05 00 0e 00 01 0b 00"
+         " 0d 00 02 06 07 06 07 06 07 08 00 02 00 0d 40 40 06 05 00 0f 00 00 07 00 01 00 00 40 40 05 00 0e 00 02 09 00 07 00"
+         " 00 41 40 06 07 0a 00 08 00 09 06 07 00 ff 00 09 00 0c 00 09 41 01 ff 00 09 00 0b 00 08 08 01 ff 00 08 00 05 00 40"
+         " 00 02 00",
+         ["LoadConst Ret 0", "LoadComplex G6 G7 Mem 3", "Call 1", "Call 1", "Branch 2", "Label 1", "TimesComplex G6 G7 G6 G7 G6 G7",
+          "Xor Ret Ret G6", "Branch 0", "Neg Ret Ret", "Label 2", "MulAdd Temp Ret G6 G7", "IfElse G9 G6 G7 Stack 255",
+          "SaveComplex G9 Temp Mem 255", "LoadComplex G8 G8 Mem 255", "Save Ret Stack 2"]),
+        ("07 00 11 00 04 03 00 08 00 02 00 00 06 06 06 05 00 0e 00 03 07 00 11 00 05 ff 01 05 00 10 00 01 05 00 0f 00 ff 05"
+         " 00 0e 00 01 08 00 02 00 00 07 07 06 05 00 0f 00 00 05 00 0e 00 ff",
+         ["BranchIf G4 3 0", "Plus G6 G6 G6", "Label 3", "BranchIf G5 255 1", "Call 1", "Branch 255", "Label 1", "Plus G7 G7 G6",
+          "Branch 0", "Label 255"]),
+        ("07 00 01 00 00 0a 14 08 00 02 00 00 0b 15 16 0b 00 0d 00 00 0c 0d 17 18 19 1a 06 00 03 00 0e 1b 08 00 04 00 0f 02"
+         " c8 00 08 00 05 00 1c 01 ff 00 09 00 07 00 00 10 1d 1e 1f",
+         ["Neg G10 G20", "Plus G11 G21 G22", "PlusComplex G12 G13 G23 G24 G25 G26", "Mov G14 G27", "Load G15 Param 200", "Save G28 Mem 255",
+          "MulAdd G16 G29 G30 G31"]))
+
+    def test_read_back(self) -> None:
+        """The listings of docs/SHELF.md, 8; and many records, over two pages."""
+        for data, records in self.LISTINGS:
+            found = paper.read_back(page_of([1 << 62], records).encode())
+            self.assertEqual(found, (bytes.fromhex(data), (1 << 62).to_bytes(8, "little")))
+        self.assertEqual(paper.read_back(page_of([], ["Half G0 Temp"] * 61).encode())[0], bytes.fromhex("07000100 0d0041") * 61)
+        self.assertEqual(paper.read_back(b""), (b"", b""))
+
+    def test_no_pages(self) -> None:
+        """A line that is none, out of its order, cut or between blank ones."""
+        good = page_of([7], ["Mov G0 G1", "Load G2 Mem 3"])
+        lines = good.splitlines(True)
+        for bad in (good[:-1], good + "\n", good.replace("Mov ", "Mow "), good.replace("G1", "G64"), good.replace("G1", "G01"),
+                    good.replace("Mem 3", "Mem  "), good.replace("    1 Load", "    2 Load"), "".join([lines[1], lines[0], *lines[2:]]),
+                    "".join([lines[-1], *lines[:-1]]), good.replace("0007", "000g"), good.replace("Mov ", "Mov\t")):
+            with self.assertRaises(paper.NoPages, msg=bad[:300]):
+                paper.read_back(bad.encode())
+
+    def test_in_a_folder(self) -> None:
+        """Where the library makes pages, a folder has them, and check makes them again and reads them back."""
+        (self.room / "one.formula").write_text("given x\ny = -x\nshow y\n")
+        (self.room / "one.csv").write_text("x\n1\n")
+        self.assertEqual(self.called("shelve", "one.formula", "one.csv", "without"), (0, "", ""))
+        self.assertIn("Not here: pages.txt (not made by this version).", (self.room / "without" / "CHECK.txt").read_text())
+        real = library.library()
+        with mock.patch.object(library, "pages", lambda listing, constants: page_of([], listed(listing)), create=True), \
+                mock.patch.object(library, "library", lambda: HasPages(real)):
+            self.assertEqual(self.called("shelve", "one.formula", "one.csv", "with"), (0, "", ""))
+            status, lines = self.check("with")
+        self.assertEqual(status, 0)
+        self.assertIn("pages.txt: read back it gives listing and constants", lines)
+        self.assertIn("pages.txt: listing and constants give it again", lines)
+        folder = self.room / "with"
+        (folder / "pages.txt").write_text((folder / "pages.txt").read_text().replace("Neg", "Not"))
+        self.assertIn("differs: pages.txt: read back it gives another listing, or other constants", self.check("with")[1])
+
+
+class HasPages:
+    """The library, and a function that it may not have."""
+
+    tulipcricket_pages = None
+
+    def __init__(self, real: object) -> None:
+        self.real = real
+
+    def __getattr__(self, name: str) -> object:
+        return getattr(self.real, name)
+
+
+def listed(listing: bytes) -> List[str]:
+    """A listing of Load, Neg, Xor and SaveComplex as text."""
+    names = {"Load": "Load G{d} {class_} {position}", "Uni": "Neg G{d} G{a}", "Bi": "Xor G{d} G{a} G{b}",
+             "SaveComplex": "SaveComplex G{a} G{a2} {class_} {position}"}
+    found = []
+    for record in kept.second_player().examine_records(listing, 0):
+        class_, position = record.get("place", (0, 0))
+        fields = {**record, "class_": ("Stack", "Mem", "Param")[class_], "position": position}
+        found.append(names[record["kind"]].format(**fields))
+    return found
 
 
 class Words(unittest.TestCase):

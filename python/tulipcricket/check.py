@@ -11,7 +11,7 @@ import csv
 import io
 from typing import Any, BinaryIO, Callable, Iterator, List, Optional, Sequence, Tuple
 
-from . import kept, library, manifest
+from . import kept, library, manifest, paper
 from .errors import LibraryMissing, TulipcricketError
 from .folder import Folder, Unreadable, shown
 from .formula import Formula, validated_points
@@ -131,15 +131,21 @@ def check_sheet(report: Report, folder: Folder) -> None:
 
 
 def check_pages(report: Report, folder: Folder) -> None:
-    """The printed pages are those of listing and constants."""
+    """The printed pages are those of listing and constants, and read back they give both."""
+    listing, constants = folder.read("listing", library.LISTING_LIMIT), folder.read("constants", library.CONSTANTS)
+    pages = folder.read("pages.txt", paper.MOST)
+    if paper.read_back(pages) == (listing, constants):
+        report.say("pages.txt: read back it gives listing and constants")
+    else:
+        report.differs("pages.txt: read back it gives another listing, or other constants")
     try:
-        made = kept.pages(folder.read("listing", library.LISTING_LIMIT), folder.read("constants", library.CONSTANTS))
+        made = kept.pages(listing, constants)
     except LibraryMissing:
         made = None
     if made is None:
-        report.not_repeated("pages.txt: this library does not make pages")
+        report.not_repeated("pages.txt: the library here makes no pages")
     else:
-        report.compare(made, folder.read("pages.txt", MOST_TEXT), "pages.txt", "listing and constants give it again")
+        report.compare(made, pages, "pages.txt", "listing and constants give it again")
 
 
 # points

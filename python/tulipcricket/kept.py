@@ -60,9 +60,9 @@ def sheet_text(sheet: bytes) -> Optional[bytes]:
 
 
 def pages(listing: bytes, constants: bytes) -> Optional[bytes]:
-    """The listing as printed pages (pages.txt), by the library's tulipcricket_pages; None where the library has no such function."""
-    function = getattr(library.library(), "tulipcricket_pages", None)
-    return library.printed(function, listing, constants) if function is not None else None
+    """The listing as printed pages (pages.txt), by the library's tulipcricket_pages; None where there is no such function yet."""
+    printed = getattr(library, "pages", None) if hasattr(library.library(), "tulipcricket_pages") else None
+    return str(printed(listing, constants)).encode() if printed is not None else None
 
 
 def origins(sheet: bytes) -> Optional[bytes]:

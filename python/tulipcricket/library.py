@@ -8,7 +8,7 @@ import struct
 from dataclasses import dataclass
 from functools import lru_cache
 from pathlib import Path
-from typing import Any, List, NamedTuple, Optional, Sequence, Tuple
+from typing import List, NamedTuple, Optional, Sequence, Tuple
 
 from .errors import LibraryMissing, Refused
 
@@ -21,10 +21,6 @@ PLAY_ANSWER = 24
 POINTS_LIMIT = 8192
 NEAREST_ANSWER = 24
 SHELF_ANSWER = 40
-PAGES_ANSWER = 24
-PAGE = 60 * 73
-"""Bytes of a printed page."""
-PAGES_LIMIT = 223 * PAGE
 
 NAME = "libtulipcricket.so"
 VARIABLE = "TULIPCRICKET_LIBRARY"
@@ -164,14 +160,6 @@ def shelf(sheet: bytes) -> Shelf:
     if number != 0:
         raise Refused(number, index)
     return Shelf(index, listing, constants, records)
-
-
-def printed(function: Any, listing: bytes, constants: bytes) -> Optional[bytes]:
-    """tulipcricket_pages: the pages of a listing; None where it is refused."""
-    pages, answer = ctypes.create_string_buffer(PAGES_LIMIT), ctypes.create_string_buffer(PAGES_ANSWER)
-    function.argtypes, function.restype = _SLICE * 4, ctypes.c_uint32
-    number = function(listing, len(listing), constants, len(constants), pages, PAGES_LIMIT, answer, PAGES_ANSWER)
-    return pages.raw[: PAGE * struct.unpack("<3Q", answer.raw)[2]] if number == 0 else None
 
 
 def version() -> str:
