@@ -207,10 +207,10 @@ class Checks(Shelves):
         status, lines = self.check("f")
         self.assertEqual(status, 0)
         for line in ("sheet: the formula, compiled again, gives it", "listing: the sheet, lowered again, gives it",
-                     "constants: the sheet, lowered again, gives them", "given.csv: its 3 lines have the words put in",
+                     "constants: the sheet, lowered again, gives them", "given.csv: 3 lines with the words put in",
                      "points: 3 played again by the proved player, every word and checksum the same",
                      "points: 3 played again by player.py, every word and checksum the same",
-                     "z.csv: its 3 lines have the answers of points", "after: 3 stores, every byte as played again"):
+                     "z.csv: 3 lines with the answers of points", "after: 3 stores, every byte as played again"):
             self.assertIn(line, lines)
         self.assertEqual(lines[-1].split(";")[0], "f: as it was shelved")
         self.assertEqual(standing(self.room / "f"), (0, "f: as it was shelved"))

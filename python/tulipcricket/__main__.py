@@ -4,7 +4,8 @@ import os
 import sys
 
 if not __package__:
-    sys.path[0] = os.path.dirname(os.path.dirname(os.path.abspath(__file__)))
+    HERE = os.path.dirname(os.path.abspath(__file__))
+    sys.path[:] = [os.path.dirname(HERE), *(place for place in sys.path if os.path.abspath(place) != HERE)]
 
 from tulipcricket.command import main  # noqa: E402
 

@@ -173,7 +173,7 @@ class Tally:
         if self.differing > len(self.told):
             report.differs(f"{self.name}: {self.differing - len(self.told)} points more")
         if not self.differing:
-            report.say(f"{self.name}: {self.words.format(self.tried)}")
+            report.say(f"{self.name}: {self.words.format(self.tried, 's' if self.tried != 1 else '')}")
 
 
 class Plays(Tally):
@@ -218,7 +218,7 @@ class Given(Tally):
     """given.csv: each line has the words put in; `cells` are those of the line that was compared last."""
 
     def __init__(self, file: BinaryIO, head: Head) -> None:
-        super().__init__("given.csv", "its {} lines have the words put in")
+        super().__init__("given.csv", "{} line{} with the words put in")
         self._head, self._rows = head, rows(file, head)
         names = [cell.strip() for cell in next(self._rows, [])]
         for one in head.put:
@@ -248,7 +248,7 @@ class Shown(Tally):
     """z.csv: each line has the cells put in and the answer's decimals."""
 
     def __init__(self, file: BinaryIO, head: Head) -> None:
-        super().__init__("z.csv", "its {} lines have the answers of points")
+        super().__init__("z.csv", "{} line{} with the answers of points")
         self._head, self._file = head, file
         if self._file.readline(MOST_LINE) != csv_line(head.names, head.separator):
             self.differs("its first line has not the names of points")
@@ -272,7 +272,7 @@ class After(Tally):
     """after: the store of each play, byte for byte."""
 
     def __init__(self, file: BinaryIO, player: Any) -> None:
-        super().__init__("after", "{} stores, every byte as played again")
+        super().__init__("after", "{} store{}, every byte as played again")
         self._file, self._player = file, player
 
     def take(self, point: int) -> None:

@@ -3,7 +3,9 @@
 from __future__ import annotations
 
 import argparse
+import os
 import signal
+import sys
 from typing import Dict, List, NoReturn, Optional, Tuple
 
 from . import check, shelve
@@ -114,16 +116,27 @@ def differing(folder: str) -> List[str]:
     return [line for line in lines if line.startswith("differs: ")]
 
 
+def say(line: str) -> None:
+    """A line on standard output; what cannot be written is told, and nothing more is tried to be written there."""
+    try:
+        print(line, flush=True)
+    except OSError as wrong:
+        os.dup2(os.open(os.devnull, os.O_WRONLY), sys.stdout.fileno())
+        if isinstance(wrong, BrokenPipeError):
+            raise
+        raise Unusable(f"standard output: {wrong.strerror}") from None
+
+
 def check_command(words: argparse.Namespace) -> int:
     """tulipcricket check."""
     if words.write and not words.repair:
         raise Unusable("--write needs --repair and a copy")
     try:
         if words.write:
-            check.repair(words.folder, words.repair, True, print)
-        count = check.check(words.folder, print, words.second == "three", words.files, Bar())
+            check.repair(words.folder, words.repair, True, say)
+        count = check.check(words.folder, say, words.second == "three", words.files, Bar())
         if words.repair and not words.write:
-            check.repair(words.folder, words.repair, False, print)
+            check.repair(words.folder, words.repair, False, say)
     except OSError as wrong:
         raise Unusable(f"{wrong.filename or words.folder}: {wrong.strerror}") from None
     return 1 if count else 0

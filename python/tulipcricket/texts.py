@@ -129,8 +129,9 @@ MANIFEST has for each file its length in bytes, its Adler-32 (SHELF.txt,
 page 1), its SHA-256 and its name; in its last line its own, of the
 lines above. On a line of points stand the words put in, "=", the words
 of the answer, "=", then number, index, records played, and the checksum
-of the store after; its first lines say which word goes where. Words
-have 16 hexadecimal digits.
+of the store after, each word in 16 hexadecimal digits. Its first lines
+say which word of the store each is: to play a point, put its words into
+a copy of the file before, and play listing with constants from start.
 
 The files:
 """.split("\n")[:-1]
