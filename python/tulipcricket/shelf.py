@@ -137,6 +137,8 @@ def check_command(words: argparse.Namespace) -> int:
         count = check.check(words.folder, say, words.second == "three", words.files, Bar())
         if words.repair and not words.write:
             check.repair(words.folder, words.repair, False, say)
+    except BrokenPipeError:
+        raise
     except OSError as wrong:
         raise Unusable(f"{wrong.filename or words.folder}: {wrong.strerror}") from None
     return 1 if count else 0
