@@ -41,6 +41,12 @@ enum {
     TULIPCRICKET_SHELF_ANSWER = 40
 };
 
+/* The library's version, such as "0.1.0". */
+const char *tulipcricket_version(void);
+
+/* The word of a number that a function returned, such as "torn record" for 1; "unknown number" for one that none returns. */
+const char *tulipcricket_word(uint32_t number);
+
 /* Lowers a sheet to a listing and its constants.
  *
  * sheet      up to 16,384 bytes: header (69 bytes), constants (12 bytes each, at most 251), instructions.
@@ -122,12 +128,6 @@ uint32_t tulipcricket_nearest(uint64_t re, uint64_t im, const uint8_t *points, s
  * Refused: number and index are those of lowering with 65,536 bytes, and the figures 0. Where the answer is not 40 bytes it is as lent, and
  * the number 8. */
 uint32_t tulipcricket_shelf(const uint8_t *sheet, size_t sheet_len, uint8_t *answer, size_t answer_len);
-
-/* The library's version, such as "0.1.0". */
-const char *tulipcricket_version(void);
-
-/* The word of a number that a function returned, such as "torn record" for 1; "unknown number" for one that none returns. */
-const char *tulipcricket_word(uint32_t number);
 
 #ifdef __cplusplus
 }

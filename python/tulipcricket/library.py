@@ -25,6 +25,12 @@ SHELF_ANSWER = 40
 NAME = "libtulipcricket.so"
 VARIABLE = "TULIPCRICKET_LIBRARY"
 
+_TEXTS = {
+    "version": [],
+    "word": [ctypes.c_uint32],
+}
+"""The functions that give text."""
+
 _SLICE = [ctypes.c_char_p, ctypes.c_size_t]
 _WORD = [ctypes.c_uint64]
 _ARGUMENTS = {
@@ -34,11 +40,6 @@ _ARGUMENTS = {
     "nearest": _WORD * 2 + _SLICE * 2,
     "shelf": _SLICE * 2,
 }
-_TEXTS = {
-    "version": [],
-    "word": [ctypes.c_uint32],
-}
-"""The functions that give text."""
 
 
 def places() -> List[Path]:
@@ -72,6 +73,16 @@ def library() -> ctypes.CDLL:
         return loaded
     tried = ", ".join(str(path) for path in places())
     raise LibraryMissing(f"{NAME} is not there; c/library makes it (looked for: {tried}; {VARIABLE} names another file)")
+
+
+def version() -> str:
+    """tulipcricket_version."""
+    return str(library().tulipcricket_version().decode())
+
+
+def word(number: int) -> str:
+    """tulipcricket_word: the words of a number that a function returned."""
+    return str(library().tulipcricket_word(number).decode())
 
 
 @dataclass(frozen=True)
@@ -160,13 +171,3 @@ def shelf(sheet: bytes) -> Shelf:
     if number != 0:
         raise Refused(number, index)
     return Shelf(index, listing, constants, records)
-
-
-def version() -> str:
-    """tulipcricket_version."""
-    return str(library().tulipcricket_version().decode())
-
-
-def word(number: int) -> str:
-    """tulipcricket_word: the words of a number that a function returned."""
-    return str(library().tulipcricket_word(number).decode())
