@@ -722,8 +722,9 @@ def read_word(text, decimal, as_words):
         return Q + int(lost.group(1))
     parts = re.match(r"([+-]?)([0-9]*)\.?([0-9]*)(?:[eE]([+-]?[0-9]+))?\Z", text.replace(decimal, "."))
     s, whole, broken, power = parts.groups()
-    tens = int(power or 0) - len(broken)
     n = int(whole + broken or "x")
+    # beyond 10^400, and below 10^-400, every decimal has the same word
+    tens = max(min(int(power or 0) - len(broken), 400), -400 - len(whole + broken))
     return near(1 if s == "-" else 0, n * 10 ** max(tens, 0), 10 ** max(-tens, 0))
 
 

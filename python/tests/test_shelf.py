@@ -447,7 +447,8 @@ class Points(unittest.TestCase):
             lines = head.written().splitlines()
             self.assertEqual(points.parse_head(lines), head)
         good = points.Head((points.Column(3, "a", "b"),), (points.Answer(4, "e"),)).written().splitlines()
-        for at, line in ((0, "tulipcricket points 2"), (1, "start x"), (1, "start 00"), (2, "table comma"), (2, "table comma point bytes"),
+        for at, line in ((0, "tulipcricket points 2"), (1, "start x"), (1, "start 00"), (1, "start -1"), (1, f"start {1 << 64}"),
+                         (2, "table comma"), (2, "table comma point bytes"),
                          (3, "put 1602 a=b"), (3, "put 3 a"), (3, "put -1 a=b"), (4, "answer x e"), (4, "other 4 e")):
             with self.assertRaises(points.NoPoints, msg=line):
                 points.parse_head([*good[:at], line, *good[at + 1:]])

@@ -112,6 +112,8 @@ def parse_head(lines: Sequence[str]) -> Head:
             index, _, named = text.partition(" ")
             if word == "start":
                 rest["start"] = int(text)
+                if not 0 <= rest["start"] < 1 << 64:
+                    raise ValueError
             elif word == "table":
                 rest.update(_table(text.split(" ")))
             elif word == "put":

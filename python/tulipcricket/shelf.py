@@ -84,6 +84,8 @@ def scan_of(words: argparse.Namespace, files: List[str]) -> shelve.Scan:
         kept["sheet"] = read_file(words.sheet)
         lowered = Sheet(kept["sheet"]).lower()
         listing, constants = lowered.data, lowered.constants
+    if not 0 <= words.start < 1 << 64:
+        raise Unusable(f"{words.start}: no record's index, which is 0 to {(1 << 64) - 1}")
     before = read_file(words.before) if words.before is not None else bytes(STORE)
     if len(before) != STORE:
         raise Unusable(f"{words.before}: {len(before)} bytes, and a store has {STORE}")
