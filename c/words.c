@@ -1,5 +1,5 @@
 /* The version, and the words of the numbers that the functions return. Nothing here is proved: .ci/steps/02-version compares the version with
- * the file VERSION, and python/tests the words with those that the package and the commands have. */
+ * the file VERSION and the words with those that the commands print, python/tests with the package's. */
 #include "tulipcricket.h"
 
 static const char *const words[] = {
