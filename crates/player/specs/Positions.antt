@@ -12,6 +12,8 @@ use Rattle.records.specs.declared.reader.Summary.{Summary}
 use Rattle.records.specs.Record.{recordFrom, records}
 use Rattle.player_machine.specs.Machine.{Store, End, execs, works, isLabel, seek, ticks, play, going}
 use Rattle.player_machine.specs.Jumps.{bit, tally, isJump, isReturn, inBlock, breaks, breach}
+use Rattle.player_machine.specs.Refusal.{refusal}
+use Rattle.player.specs.declared.Verdict.{Verdict}
 use Rattle.player.specs.declared.passes.Examination.{Examination}
 use Rattle.player.specs.declared.run.Progress.{Progress}
 use Rattle.player.specs.Encoded.{jumpEncoded, jumpIn, such}
@@ -63,6 +65,13 @@ pub record Examined (count : ℕ) (s : List ℕ) (x : Examination) : Type 0 wher
   pub index : x .index ≡ length (records count s .items)
   pub jumps : x .jumps ≡ tally isJump (records count s .items)
   pub body : BlockStart count s (x .body)
+
+-- what refuses a play, or the positions where it begins and where its block does
+pub record Judged (s : List ℕ) (constants start words : ℕ) (v : Verdict) : Type 0 where
+  pub same : record { number = v .number; index = v .index } ≡ refusal s constants start words
+  pub refused : (v .number ≡ 0 → ⊥) → (v .body ≡ 0) × (v .from ≡ 0)
+  pub body : v .number ≡ 0 → BlockStart constants s (v .body)
+  pub from : v .number ≡ 0 → Behind s 0 start (v .from)
 
 -- ---- the tables of labels, 256 entries by number
 

@@ -2,6 +2,7 @@
 // jump rules are tried, the start record is found, and the records are played on the store, each from its bytes.
 ghost use mathlib.Core.Path.{_≡_};
 ghost use Rattle.player_machine.specs.Answer.{answer};
+ghost use Rattle.player.specs.Positions.{Judged};
 ghost use Rattle.player.specs.Values.{whole};
 
 mod jumps;
@@ -13,38 +14,40 @@ use passes::examine;
 use passes::skip;
 use run::run;
 
-// What playing gives back: 0 and the count of records with how many were played, or a refusal's number and index.
-pub struct PlayAnswer {
+// What is known before anything is played: the number and index that refuse a play, or 0 and the count of records, with the position
+// behind the first Label 1 and that of the start record. A refusal has no positions: both are 0.
+pub struct Verdict {
     pub number: u8,
     pub index: usize,
-    pub played: usize,
+    pub body: usize,
+    pub from: usize,
 }
 
-fn refuse(number: u8, index: usize) -> PlayAnswer
-    ensures { λ r. ⌜ r ≡ record { number = number; index = index; played = 0 } ⌝ }
+fn refuse(number: u8, index: usize) -> Verdict
+    ensures { λ r. ⌜ r ≡ record { number = number; index = index; body = 0; from = 0 } ⌝ }
 {
-    PlayAnswer {
+    Verdict {
         number: number,
         index: index,
-        played: 0,
+        body: 0,
+        from: 0,
     }
 }
 
-// Plays a listing with its constants from a record on.
-pub fn play(listing: &[u8], constants: &[u64], store: &mut [u64], start: usize) -> PlayAnswer
-    ensures { λ r. ⌜ whole r (now (store .exit)) ≡ answer (now (listing .entry)) (now (constants .entry)) start (now (store .entry)) ⌝ }
+// The player's refusals in its own order, of a listing with so many constants, from a record on, over a store of so many words.
+pub fn judge(listing: &[u8], constants: usize, start: usize, words: usize) -> Verdict
+    ensures { λ r. ⌜ Judged (now (listing .entry)) constants start words r ⌝ }
 {
     if 65536 < listing.len() {
         return refuse(8, 0);
     }
-    if 256 < constants.len() {
+    if 256 < constants {
         return refuse(8, 0);
     }
-    if store.len() != 1602 {
+    if words != 1602 {
         return refuse(8, 0);
     }
-    let count = constants.len();
-    let x = examine(listing, count);
+    let x = examine(listing, constants);
     if x.number != 0 {
         return refuse(x.number, x.index);
     }
@@ -55,11 +58,37 @@ pub fn play(listing: &[u8], constants: &[u64], store: &mut [u64], start: usize) 
     if breach < x.index {
         return refuse(9, breach);
     }
-    let from = skip(listing, 0, start);
-    let played = run(listing, constants, x.body, from, store);
-    PlayAnswer {
+    Verdict {
         number: 0,
         index: x.index,
+        body: x.body,
+        from: skip(listing, 0, start),
+    }
+}
+
+// What playing gives back: 0 and the count of records with how many were played, or a refusal's number and index.
+pub struct PlayAnswer {
+    pub number: u8,
+    pub index: usize,
+    pub played: usize,
+}
+
+// Plays a listing with its constants from a record on.
+pub fn play(listing: &[u8], constants: &[u64], store: &mut [u64], start: usize) -> PlayAnswer
+    ensures { λ r. ⌜ whole r (now (store .exit)) ≡ answer (now (listing .entry)) (now (constants .entry)) start (now (store .entry)) ⌝ }
+{
+    let v = judge(listing, constants.len(), start, store.len());
+    if v.number != 0 {
+        return PlayAnswer {
+            number: v.number,
+            index: v.index,
+            played: 0,
+        };
+    }
+    let played = run(listing, constants, v.body, v.from, store);
+    PlayAnswer {
+        number: 0,
+        index: v.index,
         played: played,
     }
 }

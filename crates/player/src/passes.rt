@@ -10,7 +10,7 @@ ghost use Rattle.player.specs.Positions.{AtLabel, Behind, Examined, Soun
 use mir::fields::byte;
 use mir::fields::u16_at;
 use records::reader::Summary;
-use records::reader::look;
+use records::reader::summarize;
 
 // Whether the record that bytes begin with is a Label of that number.
 pub fn encodes_label(s: &[u8], label: u8) -> bool
@@ -122,7 +122,7 @@ pub fn examine(listing: &[u8], count: usize) -> Examination
     let mut body = end;
     while at < end {
         let s = &listing[at..];
-        let q = look(s, count);
+        let q = summarize(s, count);
         if q.number != 0 {
             return Examination {
                 number: q.number,

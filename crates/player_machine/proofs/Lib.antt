@@ -1,5 +1,6 @@
 pub mod Seeking
 pub mod Bound
 pub mod Drawing
+pub mod Refusing
 pub mod Keeping
 pub mod Stepping

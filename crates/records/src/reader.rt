@@ -262,7 +262,7 @@ fn summarized(number: u8, what: u8, label: u8) -> Summary
 }
 
 // What a pass needs of what was read.
-fn look_at(q: ReadRecord) -> Summary
+fn summarize_read(q: ReadRecord) -> Summary
     ensures { λ r. ⌜ r ≡ summaryOf (asRead q) ⌝ }
 {
     match q {
@@ -282,7 +282,7 @@ fn look_at(q: ReadRecord) -> Summary
 }
 
 // What a pass needs of a kind that sheets share.
-fn look_work(q: ReadInstruction) -> Summary
+fn summarize_work(q: ReadInstruction) -> Summary
     ensures { λ r. ⌜ r ≡ summaryOf (asRecord (Answer.asRead q)) ⌝ }
 {
     match q {
@@ -291,36 +291,36 @@ fn look_work(q: ReadInstruction) -> Summary
     }
 }
 
-// The fields of a kind, looked at.
-fn look_fields(s: &[u8], kind: u16, count: usize) -> Summary
+// The summary of a kind's fields.
+fn summarize_fields(s: &[u8], kind: u16, count: usize) -> Summary
     ensures { λ r. ⌜ r ≡ summaryOf (fieldsFrom count kind (now (s .entry))) ⌝ }
 {
     match kind {
-        1 => look_work(read_uni(s, uni_op(byte(s, 4), true), true)),
-        2 => look_work(read_bi(s, bin_op(byte(s, 4), true), true)),
-        3 => look_work(read_mov(s, true)),
-        4 => look_work(read_load(s, true)),
-        5 => look_work(read_save(s, true)),
-        6 => look_work(read_load_const(s, count, true)),
-        7 => look_work(read_fused(s, fused_op(byte(s, 4), true), true)),
-        8 => look_work(read_if_else(s, true)),
-        11 => look_at(read_load_complex(s)),
-        12 => look_at(read_save_complex(s)),
-        13 => look_at(read_complex_bi(s)),
-        14 => look_at(read_label(s)),
-        15 => look_at(read_branch(s)),
-        16 => look_at(read_call(s)),
-        17 => look_at(read_branch_if(s)),
+        1 => summarize_work(read_uni(s, uni_op(byte(s, 4), true), true)),
+        2 => summarize_work(read_bi(s, bin_op(byte(s, 4), true), true)),
+        3 => summarize_work(read_mov(s, true)),
+        4 => summarize_work(read_load(s, true)),
+        5 => summarize_work(read_save(s, true)),
+        6 => summarize_work(read_load_const(s, count, true)),
+        7 => summarize_work(read_fused(s, fused_op(byte(s, 4), true), true)),
+        8 => summarize_work(read_if_else(s, true)),
+        11 => summarize_read(read_load_complex(s)),
+        12 => summarize_read(read_save_complex(s)),
+        13 => summarize_read(read_complex_bi(s)),
+        14 => summarize_read(read_label(s)),
+        15 => summarize_read(read_branch(s)),
+        16 => summarize_read(read_call(s)),
+        17 => summarize_read(read_branch_if(s)),
         _ => summarized(2, 0, 0),
     }
 }
 
-// The record that bytes begin with, looked at.
-pub fn look(s: &[u8], count: usize) -> Summary
+// The summary of the record that bytes begin with.
+pub fn summarize(s: &[u8], count: usize) -> Summary
     ensures { λ r. ⌜ r ≡ summaryOf (recordFrom count (now (s .entry))) ⌝ }
 {
     match read_head(s, true) {
-        Head::Kind(kind) => look_fields(s, kind, count),
+        Head::Kind(kind) => summarize_fields(s, kind, count),
         Head::Refused(n) => summarized(n, 0, 0),
     }
 }

@@ -37,12 +37,12 @@ examine-spec =
     let a = c .before .before .before .before .before .before .before .args in
     let l = c .before .before .before .before .before .loop in
     examined-end (l .inv .1) (l .inv .2) (l .inv .3) (l .inv .4)
-    (refused-summary (a .count) (a .listing .now) (l .at) (c .before .before .look .result) (c .before .before .look .ensures) (c .if1 .taken) (omega arith)))
+    (refused-summary (a .count) (a .listing .now) (l .at) (c .before .before .summarize .result) (c .before .before .summarize .ensures) (c .if1 .taken) (omega arith)))
     (λ c κs. search needs) (λ c. search needs)
     (λ c.
     let a = c .before .before .before .before .before .before .before .before .args in
     let l = c .before .before .before .before .before .before .loop in
-    let x = summarized (a .count) (a .listing .now) (l .at) (c .before .before .before .look .result) (c .before .before .before .look .ensures) (c .u16-at .ensures) (c .before .if1 .left) in
+    let x = summarized (a .count) (a .listing .now) (l .at) (c .before .before .before .summarize .result) (c .before .before .before .summarize .ensures) (c .u16-at .ensures) (c .before .if1 .left) in
     let h = x .here .inside in
     omega (arith, h))
     (λ c. search needs) (λ c κs. search needs) (λ c κs. search needs)
@@ -51,13 +51,13 @@ examine-spec =
     (λ c.
     let a = c .before .before .before .before .before .before .before .before .before .before .before .before .args in
     let l = c .before .before .before .before .before .before .before .before .before .before .loop in
-    let x = summarized (a .count) (a .listing .now) (l .at) (c .before .before .before .before .before .before .before .look .result) (c .before .before .before .before .before .before .before .look .ensures) (c .before .before .before .before .u16-at .ensures) (c .before .before .before .before .before .if1 .left) in
+    let x = summarized (a .count) (a .listing .now) (l .at) (c .before .before .before .before .before .before .before .summarize .result) (c .before .before .before .before .before .before .before .summarize .ensures) (c .before .before .before .before .u16-at .ensures) (c .before .before .before .before .before .if1 .left) in
     let h = x .here .on in
     omega (arith, h))
     (λ c.
     let a = c .before .before .before .before .before .before .before .before .before .before .before .before .args in
     let l = c .before .before .before .before .before .before .before .before .before .before .loop in
-    let x = summarized (a .count) (a .listing .now) (l .at) (c .before .before .before .before .before .before .before .look .result) (c .before .before .before .before .before .before .before .look .ensures) (c .before .before .before .before .u16-at .ensures) (c .before .before .before .before .before .if1 .left) in
+    let x = summarized (a .count) (a .listing .now) (l .at) (c .before .before .before .before .before .before .before .summarize .result) (c .before .before .before .before .before .before .before .summarize .ensures) (c .before .before .before .before .u16-at .ensures) (c .before .before .before .before .before .if1 .left) in
     let h = x .here in
     let g = h .on in
     let k = ap length (h .same) in

@@ -1,10 +1,10 @@
--- `records::reader::look_work` meets its contract.
+-- `records::reader::summarize_work` meets its contract.
 use borrow.Author.Needs.{needs}
-use Rattle.records.proofs.reader.look_work.Statement.{statement}
-use Rattle.records.proofs.reader.look_work.Tie as tie
+use Rattle.records.proofs.reader.summarize_work.Statement.{statement}
+use Rattle.records.proofs.reader.summarize_work.Tie as tie
 
-pub look-work-spec : {M : Type 1} → statement M
-look-work-spec =
+pub summarize-work-spec : {M : Type 1} → statement M
+summarize-work-spec =
     tie.close
     (tie.spec
     (λ c. search needs) (λ c κs. search needs) (λ c. search needs) (λ c κs. search needs)

@@ -1,10 +1,10 @@
--- `records::reader::look_at` meets its contract.
+-- `records::reader::summarize_read` meets its contract.
 use borrow.Author.Needs.{needs}
-use Rattle.records.proofs.reader.look_at.Statement.{statement}
-use Rattle.records.proofs.reader.look_at.Tie as tie
+use Rattle.records.proofs.reader.summarize_read.Statement.{statement}
+use Rattle.records.proofs.reader.summarize_read.Tie as tie
 
-pub look-at-spec : {M : Type 1} → statement M
-look-at-spec =
+pub summarize-read-spec : {M : Type 1} → statement M
+summarize-read-spec =
     tie.close
     (tie.spec
     (λ c. search needs) (λ c. search needs) (λ c κs. search needs) (λ c. search needs) (λ c κs. search needs) (λ c. search needs)
