@@ -1,0 +1,5 @@
+pub mod Aligned
+pub mod Standing
+pub mod Sizes
+pub mod Fitting
+pub mod Laying

@@ -1,0 +1,5 @@
+pub mod Pages
+pub mod Printed
+pub mod Uncut
+pub mod Standing
+pub mod Values
