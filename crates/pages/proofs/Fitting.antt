@@ -2,9 +2,10 @@
 use Prim.Native.Nat.{ℕ, zero, suc, _+_, _-_, _*_, _/_, _≤_, _<_}
 use mathlib.Core.Path.{_≡_, refl, sym, ap, _∙_, subst}
 use mathlib.Core.List.{List, [], _∷_, _++_, append-assoc}
+use native.Mathlib.Nat.{zero-add, suc-add}
 use native.Mathlib.Omega.{arith}
 use lib.ListN.{length, take, drop, length-append}
-use lib.Seq.{take-append-seam, drop-append-add}
+use lib.Seq.{take-append-seam, drop-append-add, drop-drop}
 use Rattle.mir.specs.declared.records.Record.{Record}
 use Rattle.mir.proofs.Decoding.{Bytes, items}
 use Rattle.mir.proofs.Decoding as Decoding
@@ -12,9 +13,9 @@ use Rattle.records.specs.Record.{recordFrom, records}
 use Rattle.player_machine.proofs.Refusing.{Accepted, accepted}
 use Rattle.text.specs.Text.{decimal, space}
 use Rattle.text.specs.Sized.{SizedRecord}
-use Rattle.pages.specs.Pages.{right, left, Row, rowLine, blankLine, constantRow, recordRow, numbered, rows, lines, pageCount, pagesText}
+use Rattle.pages.specs.Pages.{right, left, Row, rowLine, blankLine, constantRow, recordRow, numbered, rows, lines, pagesFrom, pageCount, pagesText}
 use Rattle.pages.specs.Printed.{fromRecord0, rowsOf}
-use Rattle.pages.specs.Uncut.{Whole, Each, UncutLaw}
+use Rattle.pages.specs.Uncut.{Whole, Each, UncutLaw, Joined}
 use Rattle.pages.proofs.Aligned.{Fits, constant-fits, record-fits, right-long, left-long, row-long, blank-long}
 use Rattle.pages.proofs.Sizes.{all-sized, few}
 
@@ -127,3 +128,28 @@ uncut listing constants b e =
     let f = rows-fit listing constants e b in
     let n = lines-long (60 * pageCount l) l f in
     (all-whole l f, omega (arith, n))
+
+lines-behind-none : (m n : ℕ) → lines n (drop m []) ≡ lines n []
+lines-behind-none zero n = refl
+lines-behind-none (suc m) n = refl
+
+-- lines one behind the other
+lines-both : (m n : ℕ) (l : List Row) → lines (m + n) l ≡ lines m l ++ lines n (drop m l)
+lines-both zero n l = ap (λ k. lines k l) (zero-add n)
+lines-both (suc m) n [] =
+    ap (λ k. lines k []) (suc-add m n)
+    ∙ ap (λ t. blankLine ++ t) (lines-both m n [] ∙ ap (λ t. lines m [] ++ t) (lines-behind-none m n))
+    ∙ sym (append-assoc blankLine (lines m []) (lines n []))
+lines-both (suc m) n (row ∷ l) =
+    ap (λ k. lines k (row ∷ l)) (suc-add m n)
+    ∙ ap (λ t. rowLine row ++ t) (lines-both m n l)
+    ∙ sym (append-assoc (rowLine row) (lines m l) (lines n (drop m l)))
+
+pub joined : Joined pagesFrom
+joined first m n l =
+    let a : 60 * (m + n) ≡ 60 * m + 60 * n = omega arith in
+    let b : 60 * first + 60 * m ≡ 60 * (first + m) = omega arith in
+    ap (λ k. lines k (drop (60 * first) l)) a
+    ∙ lines-both (60 * m) (60 * n) (drop (60 * first) l)
+    ∙ ap (λ d. lines (60 * m) (drop (60 * first) l) ++ lines (60 * n) d)
+    (drop-drop (60 * m) (60 * first) l ∙ ap (λ k. drop k l) b)

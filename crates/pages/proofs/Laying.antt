@@ -129,7 +129,7 @@ least-below a b = by (ltb a b) refl
     by false e = omega arith
 
 -- the text of a part
-abbrev partText : ℕ → ℕ → List Row → List ℕ
+abbrev pub partText : ℕ → ℕ → List Row → List ℕ
 partText first most rows = pagesFrom first (least most (pageCount rows - first)) rows
 
 -- the answers of a part

@@ -3,3 +3,4 @@ pub mod Standing
 pub mod Sizes
 pub mod Fitting
 pub mod Laying
+pub mod Calls

@@ -1,7 +1,7 @@
 -- "No field is ever cut, and this is shown for every accepted listing and every table of up to 256 constants" (theorem `uncut`).
-use Prim.Native.Nat.{ℕ, _*_, _≤_, _<_}
+use Prim.Native.Nat.{ℕ, _+_, _*_, _≤_, _<_}
 use mathlib.Core.Path.{_≡_}
-use mathlib.Core.List.{List, [], _∷_}
+use mathlib.Core.List.{List, [], _∷_, _++_}
 use lib.ListN.{length, take, drop, getD}
 use Rattle.text.specs.Text.{decimal}
 use Rattle.pages.specs.Pages.{right, left, Row, pageCount, pagesText}
@@ -27,3 +27,7 @@ UncutLaw line =
     (listing constants : List ℕ) → ((i : ℕ) → getD listing i 0 < 256) → fromRecord0 listing constants .number ≡ 0
     → Each (λ row. Whole row (line row)) (rowsOf listing constants)
     × (length (pagesText (rowsOf listing constants)) ≡ 60 * 73 * pageCount (rowsOf listing constants))
+
+-- of any way to lay out so many pages from one on: those of two parts, one behind the other, are those that are laid out at once
+abbrev pub Joined : (ℕ → ℕ → List Row → List ℕ) → Type 0
+Joined pages = (first m n : ℕ) (rows : List Row) → pages first (m + n) rows ≡ pages first m rows ++ pages (first + m) n rows

@@ -9,6 +9,7 @@ ghost use Rattle.pages.specs.Pages.{pageCount, pagesFrom};
 ghost use Rattle.pages.specs.Printed.{fromRecord0, rowsOf, least, printed, printedPart};
 ghost use Rattle.pages.specs.Values.{whole};
 
+pub mod call;
 mod columns;
 
 use columns::left_of;
@@ -22,7 +23,7 @@ pub struct PagesAnswer {
     pub pages: usize,
 }
 
-fn refuse(number: u8, index: usize) -> PagesAnswer
+pub(crate) fn refuse(number: u8, index: usize) -> PagesAnswer
     ensures { λ r. ⌜ r ≡ record { number = number; index = index; pages = 0 } ⌝ }
 {
     PagesAnswer {
