@@ -50,17 +50,17 @@ rows constants records = numbered constantRow 0 constants ++ numbered recordRow 
 
 -- so many lines: those of the rows, and blank ones behind them
 abbrev pub lines : ℕ → List Row → List ℕ
-lines zero rows = []
+lines zero l = []
 lines (suc n) [] = blankLine ++ lines n []
-lines (suc n) (row ∷ rows) = rowLine row ++ lines n rows
+lines (suc n) (row ∷ l) = rowLine row ++ lines n l
 
 -- so many pages, from one on
 abbrev pub pagesFrom : ℕ → ℕ → List Row → List ℕ
-pagesFrom first n rows = lines (60 * n) (drop (60 * first) rows)
+pagesFrom first n l = lines (60 * n) (drop (60 * first) l)
 
--- "The last page is filled with blank lines"; "an empty listing without constants is no page"
+-- 60 lines each, the last filled: "The last page is filled with blank lines; an empty listing without constants is no page."
 abbrev pub pageCount : List Row → ℕ
-pageCount rows = (length rows + 59) / 60
+pageCount l = (length l + 59) / 60
 
 abbrev pub pagesText : List Row → List ℕ
-pagesText rows = pagesFrom 0 (pageCount rows) rows
+pagesText l = pagesFrom 0 (pageCount l) l

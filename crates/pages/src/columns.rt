@@ -34,11 +34,11 @@ pub(crate) fn left_of(n: usize, k: usize) -> usize
     if k < n { n - k } else { 0 }
 }
 
-// Spaces up to a column.
-fn to_column(line: Line, column: usize) -> Line
-    ensures { λ r. ⌜ Adds line (spaces (column - line .len)) r ⌝ }
+// Spaces up to a column, and a byte.
+fn fill_to(line: Line, column: usize, b: u8) -> Line
+    ensures { λ r. ⌜ Adds line (spaces (column - line .len) ++ b ∷ []) r ⌝ }
 {
-    spaces(line, left_of(column, line.len))
+    spaces(line, left_of(column, line.len)).byte(b)
 }
 
 // The index in its columns, and a space.
@@ -51,38 +51,26 @@ fn index_line(index: usize) -> Line
         .byte(b' ')
 }
 
-// The name's columns filled, and a space.
-fn after_name(line: Line) -> Line
-    ensures { λ r. ⌜ Adds line (spaces (22 - line .len) ++ 32 ∷ []) r ⌝ }
-{
-    to_column(line, 22).byte(b' ')
-}
-
-// The operands' columns filled, and a line feed.
-fn after_operands(line: Line) -> Line
-    ensures { λ r. ⌜ Adds line (spaces (72 - line .len) ++ 10 ∷ []) r ⌝ }
-{
-    to_column(line, 72).byte(b'\n')
-}
-
 fn blank_line() -> Line
     ensures { λ r. ⌜ Prints blankLine r ⌝ }
 {
-    after_operands(empty_line())
+    fill_to(empty_line(), 72, b'\n')
 }
 
 fn constant_line(index: usize, word: u64) -> Line
     requires { ⌜ index < 100000 ⌝ }
     ensures { λ r. ⌜ Prints (rowLine (constantRow index word)) r ⌝ }
 {
-    after_operands(after_name(index_line(index).text(b"Constant")).hex(word))
+    let line = fill_to(index_line(index).text(b"Constant"), 22, b' ');
+    fill_to(line.hex(word), 72, b'\n')
 }
 
 fn record_line(index: usize, record: Record) -> Line
     requires { ⌜ index < 100000 ⌝ }
     ensures { λ r. ⌜ Prints (rowLine (recordRow index «record»)) r ⌝ }
 {
-    after_operands(after_name(index_line(index).record_name(record)).record_operands(record))
+    let line = fill_to(index_line(index).record_name(record), 22, b' ');
+    fill_to(line.record_operands(record), 72, b'\n')
 }
 
 // A line, and the position of the record behind it.

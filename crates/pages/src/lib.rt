@@ -94,7 +94,7 @@ pub fn part(
     }
 }
 
-// Lays a listing and its constants out on pages. There are at most 256 constants and 65,536 records, so never more pages than that.
+// Lays a listing and its constants out on pages. With at most 65,536 bytes and 256 constants there are fewer than 65,536.
 pub fn pages(listing: &[u8], constants: &[u64], out: &mut [u8]) -> PagesAnswer
     ensures { λ r. ⌜ whole r (now (out .exit)) ≡ printed (now (listing .entry)) (now (constants .entry)) (now (out .entry)) ⌝ }
 {

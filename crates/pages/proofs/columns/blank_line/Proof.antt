@@ -9,4 +9,4 @@ blank-line-spec =
     tie.close
     (tie.spec
     (λ c κs. search needs) (λ c κs. search needs)
-    (λ c. blank (c .before .empty-line .ensures) (c .after-operands .ensures)))
+    (λ c. blank (c .before .empty-line .ensures) (c .fill-to .ensures)))

@@ -17,4 +17,4 @@ constant-line-spec =
     let a = c .before .before .before .before .before .before .args in
     row-line (constantRow (a .index) (a .word)) (constant-fits (a .index) (a .word) (omega arith))
     (c .before .before .before .before .before .index-line .ensures) (c .before .before .before .text .ensures)
-    (c .before .before .after-name .ensures) (c .before .hex .ensures) (c .after-operands .ensures)))
+    (c .before .before .fill-to .ensures) (c .before .hex .ensures) (c .fill-to2 .ensures)))

@@ -16,4 +16,4 @@ record-line-spec =
     let a = c .before .before .before .before .before .args in
     row-line (recordRow (a .index) (a .«record»)) (record-fits (a .index) (a .«record») (omega arith) (c .before .record-operands .ensures .1))
     (c .before .before .before .before .index-line .ensures) (c .before .before .before .record-name .ensures)
-    (c .before .before .after-name .ensures) (c .before .record-operands .ensures .0) (c .after-operands .ensures)))
+    (c .before .before .fill-to .ensures) (c .before .record-operands .ensures .0) (c .fill-to2 .ensures)))
