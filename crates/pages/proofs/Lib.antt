@@ -1,0 +1,6 @@
+pub mod Aligned
+pub mod Standing
+pub mod Sizes
+pub mod Fitting
+pub mod Laying
+pub mod Calls
