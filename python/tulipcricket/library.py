@@ -178,7 +178,7 @@ def shelf(sheet: bytes) -> Shelf:
 
 
 def pages(listing: bytes, constants: bytes) -> str:
-    """tulipcricket_pages: the pages of a listing and its constants, PAGE characters each. Raises Refused with playing's number and index."""
+    """tulipcricket_pages: the pages of a listing with its constants, PAGE characters each. Raises Refused with playing's number, index."""
     text = ctypes.create_string_buffer(PAGES_LIMIT)
     answer = ctypes.create_string_buffer(PAGES_ANSWER)
     number = library().tulipcricket_pages(listing, len(listing), constants, len(constants), text, PAGES_LIMIT, answer, PAGES_ANSWER)
