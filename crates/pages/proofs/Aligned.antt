@@ -12,6 +12,8 @@ use Rattle.text.specs.Text.{ascii, decimal, space}
 use Rattle.text.specs.Sized.{SizedRecord}
 use Rattle.text.proofs.Whole.{prints}
 use Rattle.text.proofs.Short.{digits, number-short, hexIn-length, text-short}
+use Rattle.pages.specs.Uncut.{trimmed}
+use Rattle.pages.proofs.Trimming.{bits-kept, name-of-record, operands-of-record}
 use Rattle.pages.specs.Pages.{spaces, right, left, Row, rowLine, blankLine, constantRow, recordRow}
 
 -- one space more
@@ -30,11 +32,13 @@ more {t} {u} {l} {m} p q h =
     let a : Adds emptyLine t l = record { same = p .same } in
     prints refl (a ▹ q) (rw (length-append t u) h)
 
--- the texts of a row fit their columns
+-- the texts of a row fit their columns, and end with no space
 pub record Fits (row : Row) : Type 0 where
   pub index : length (decimal (row .index)) ≤ 5
   pub name : length (row .name) ≤ 16
   pub operands : length (row .operands) ≤ 49
+  pub name-kept : trimmed (row .name) ≡ row .name
+  pub operands-kept : trimmed (row .operands) ≡ row .operands
 
 five : (index : ℕ) → index < 100000 → length (decimal index) ≤ 5
 five index h = digits 4 19 index h
@@ -99,11 +103,19 @@ pub constant-fits : (index word : ℕ) → index < 100000 → Fits (constantRow 
 unfolding ascii constantRow
 constant-fits index word h =
     let e = hexIn-length 16 word in
-    record { index = five index h; name = lit≤ tt; operands = omega (arith, e) }
+    record { index = five index h; name = lit≤ tt; operands = omega (arith, e); name-kept = refl; operands-kept = bits-kept word }
 
 pub record-fits : (index : ℕ) (r : Record) → index < 100000 → SizedRecord r → Fits (recordRow index r)
 unfolding recordRow
-record-fits index r h z = let t = text-short r z in record { index = five index h; name = t .name; operands = t .operands }
+record-fits index r h z =
+    let t = text-short r z in
+    record {
+      index = five index h;
+      name = t .name;
+      operands = t .operands;
+      name-kept = name-of-record r;
+      operands-kept = operands-of-record r;
+    }
 
 -- every such line has 72 characters and a line feed
 pub row-long : (row : Row) → Fits row → length (rowLine row) ≡ 73

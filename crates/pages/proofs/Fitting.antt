@@ -15,7 +15,8 @@ use Rattle.text.specs.Text.{decimal, space}
 use Rattle.text.specs.Sized.{SizedRecord}
 use Rattle.pages.specs.Pages.{right, left, Row, rowLine, blankLine, constantRow, recordRow, numbered, rows, lines, pagesFrom, pageCount, pagesText}
 use Rattle.pages.specs.Printed.{fromRecord0, rowsOf}
-use Rattle.pages.specs.Uncut.{Whole, Each, UncutLaw, Joined}
+use Rattle.pages.specs.Uncut.{unindented, trimmed, Whole, Each, UncutLaw, Joined}
+use Rattle.pages.proofs.Trimming.{read-left, read-right}
 use Rattle.pages.proofs.Aligned.{Fits, constant-fits, record-fits, right-long, left-long, row-long, blank-long}
 use Rattle.pages.proofs.Sizes.{all-sized, few}
 
@@ -106,16 +107,18 @@ row-whole row f =
     let h = left-long 49 (row .operands) (f .operands) in
     let rest = space (o ++ 10 ∷ []) in
     let p = parts r n o in
+    let i : take 5 (rowLine row) ≡ r = ap (take 5) p ∙ in-columns 5 r (space (n ++ rest)) e in
+    let m : take 16 (drop 6 (rowLine row)) ≡ n
+    = ap (λ l. take 16 (drop 6 l)) p ∙ ap (take 16) (past-columns 5 1 r (space (n ++ rest)) e) ∙ in-columns 16 n rest g in
+    let q : take 49 (drop 23 (rowLine row)) ≡ o
+    = ap (λ l. take 49 (drop 23 l)) p
+    ∙ ap (take 49) (past-columns 5 18 r (space (n ++ rest)) e ∙ past-columns 16 1 n rest g)
+    ∙ in-columns 49 o (10 ∷ []) h in
     record {
       long = row-long row f;
-      index = (f .index, ap (take 5) p ∙ in-columns 5 r (space (n ++ rest)) e);
-      name = (f .name, ap (λ l. take 16 (drop 6 l)) p ∙ ap (take 16) (past-columns 5 1 r (space (n ++ rest)) e) ∙ in-columns 16 n rest g);
-      operands = (
-        f .operands,
-        ap (λ l. take 49 (drop 23 l)) p
-            ∙ ap (take 49) (past-columns 5 18 r (space (n ++ rest)) e ∙ past-columns 16 1 n rest g)
-            ∙ in-columns 49 o (10 ∷ []) h,
-      );
+      index = (f .index, i, ap unindented i ∙ read-right 5 (row .index));
+      name = (f .name, m, ap trimmed m ∙ read-left 16 (row .name) (f .name-kept));
+      operands = (f .operands, q, ap trimmed q ∙ read-left 49 (row .operands) (f .operands-kept));
     }
 
 all-whole : (l : List Row) → Each Fits l → Each (λ row. Whole row (rowLine row)) l

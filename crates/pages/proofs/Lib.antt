@@ -1,3 +1,4 @@
+pub mod Trimming
 pub mod Aligned
 pub mod Standing
 pub mod Sizes

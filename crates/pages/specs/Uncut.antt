@@ -2,18 +2,35 @@
 use Prim.Native.Nat.{ℕ, _+_, _*_, _≤_, _<_}
 use mathlib.Core.Path.{_≡_}
 use mathlib.Core.List.{List, [], _∷_, _++_}
+use mathlib.Core.Bool.{cond}
+use lib.Dec.{eqb}
 use lib.ListN.{length, take, drop, getD}
 use Rattle.text.specs.Text.{decimal}
 use Rattle.pages.specs.Pages.{right, left, Row, pageCount, pagesText}
 use Rattle.pages.specs.Printed.{fromRecord0, rowsOf}
 
--- a line of 72 characters and a line feed, in which an index, a name and operands stand whole: no field is longer than its columns, and
--- these hold the field and spaces alone
+-- a text without the spaces before it, and without those behind it
+abbrev pub unindented : List ℕ → List ℕ
+unindented [] = []
+unindented (b ∷ l) = cond (eqb b 32) (unindented l) (b ∷ l)
+
+abbrev pub onto : ℕ → List ℕ → List ℕ
+onto b [] = cond (eqb b 32) [] (b ∷ [])
+onto b (c ∷ l) = b ∷ c ∷ l
+
+abbrev pub trimmed : List ℕ → List ℕ
+trimmed [] = []
+trimmed (b ∷ l) = onto b (trimmed l)
+
+-- a line of 72 characters and a line feed, in which an index, a name and operands stand whole: no field is longer than its columns, these
+-- hold the field and spaces alone, and without the spaces they are the field
 pub record Whole (row : Row) (line : List ℕ) : Type 0 where
   pub long : length line ≡ 73
   pub index : (length (decimal (row .index)) ≤ 5) × (take 5 line ≡ right 5 (decimal (row .index)))
-  pub name : (length (row .name) ≤ 16) × (take 16 (drop 6 line) ≡ left 16 (row .name))
+      × (unindented (take 5 line) ≡ decimal (row .index))
+  pub name : (length (row .name) ≤ 16) × (take 16 (drop 6 line) ≡ left 16 (row .name)) × (trimmed (take 16 (drop 6 line)) ≡ row .name)
   pub operands : (length (row .operands) ≤ 49) × (take 49 (drop 23 line) ≡ left 49 (row .operands))
+      × (trimmed (take 49 (drop 23 line)) ≡ row .operands)
 
 -- each row of a list
 abbrev pub Each : (Row → Type 0) → List Row → Type 0
