@@ -21,6 +21,7 @@
 #define tulipcricket_nearest tulipcricket_nearest_unguarded
 #define tulipcricket_peak tulipcricket_peak_unguarded
 #define tulipcricket_shelf tulipcricket_shelf_unguarded
+#define tulipcricket_pages tulipcricket_pages_unguarded
 #endif
 
 enum { USUAL = 0x1f80, X87_USUAL = 0x037f, LENT = 0xa5 };
@@ -237,12 +238,35 @@ static void shelf(const Environment *e) {
     holds(e, "the sheet's figures", number == 0 && memcmp(answer, expected, sizeof answer) == 0);
 }
 
+/* The page of document 01's listing. */
+static void pages(const Environment *e) {
+    static const char *const lines[] = {
+        "    0 Constant         4000000000000000", "    0 LoadConst        G4 0",     "    1 LoadComplex      G6 G7 Mem 3",
+        "    2 Times            G5 G4 G7",         "    3 Times            G4 G4 G6", "    4 SaveComplex      G4 G5 Mem 4"};
+    static const uint64_t expected[] = {0, 5, 1}, constant = 0x4000000000000000;
+    uint8_t page[TULIPCRICKET_PAGE + 8], after[TULIPCRICKET_PAGE + 8];
+    uint64_t answer[3];
+    memset(page, LENT, sizeof page);
+    memset(answer, LENT, sizeof answer);
+    memset(after, ' ', TULIPCRICKET_PAGE);
+    memset(after + TULIPCRICKET_PAGE, LENT, 8);
+    for (size_t i = 0; i < 60; i++) after[73 * i + 72] = '\n';
+    for (size_t i = 0; i < sizeof lines / sizeof *lines; i++) memcpy(after + 73 * i, lines[i], strlen(lines[i]));
+    enter(e);
+    uint32_t number = tulipcricket_pages(listed, sizeof listed, (const uint8_t *)&constant, 8, page, sizeof page,
+                                         (uint8_t *)answer, sizeof answer);
+    kept(e, "tulipcricket_pages", leave());
+    holds(e, "the pages' answer", number == 0 && memcmp(answer, expected, sizeof answer) == 0);
+    holds(e, "the listing's page", memcmp(page, after, sizeof page) == 0);
+}
+
 static void in(const Environment *e) {
     for (size_t i = 0; i < sizeof rows / sizeof *rows; i++) nearest(e, rows + i);
     for (size_t i = 0; i < sizeof cases / sizeof *cases; i++) play(e, cases + i);
     lower(e);
     peak(e);
     shelf(e);
+    pages(e);
 }
 
 static void every(void) {
@@ -286,6 +310,9 @@ static void empty(void) {
           tulipcricket_nearest(0, 0, none, 0, end, sizeof played) == 0 && memcmp(played, zeros, sizeof played) == 0);
     holds(&e, "peak of no run", tulipcricket_peak(none, 0, 1, none, 0) == 0 && tulipcricket_peak(none, 0, 0, none, 0) == 12);
     holds(&e, "shelf of nothing at all", tulipcricket_shelf(none, 0, none, 0) == 8);
+    holds(&e, "pages of nothing at all", tulipcricket_pages(none, 0, none, 0, none, 0, none, 0) == 8);
+    holds(&e, "no page of no records",
+          tulipcricket_pages(none, 0, none, 0, none, 0, end, sizeof played) == 0 && memcmp(played, zeros, sizeof played) == 0);
     holds(&e, "shelf of no sheet",
           tulipcricket_shelf(none, 0, answer, TULIPCRICKET_SHELF_ANSWER) == 8 && memcmp(lowered, wrong, TULIPCRICKET_SHELF_ANSWER) == 0);
     holds(&e, "nothing else is written",

@@ -12,7 +12,7 @@
  *   5 missing constant  6 barred operand  7 listing full      8 wrong setup     9 stray jump
  *  10 misplaced label  11 unequal records (labels and branches)
  * Lowering never gives 9; playing never gives 6, 7, 10 or 11. Of document 02 the running peak returns 0, 8 or
- * 12, the nearest point 0, 8 or 13, the shelf figures what lowering returns.
+ * 12, the nearest point 0, 8 or 13, the shelf figures what lowering returns, pages what playing returns or 7.
  *
  * Lowering lists what the Rust lists, faults too. In plain mode a LoadMath Divide of a real register by a complex place gives a wrong
  * quotient: 6 / (1 + i) plays as 6 - 3i. Load the place into a general register and Divide by that. docs/DIFFERENCES.md has more.
@@ -38,7 +38,10 @@ enum {
     TULIPCRICKET_PLAY_ANSWER = 24,
     TULIPCRICKET_POINTS_LIMIT = 8192,    /* bytes of the reference points: 512 of two words */
     TULIPCRICKET_NEAREST_ANSWER = 24,
-    TULIPCRICKET_SHELF_ANSWER = 40
+    TULIPCRICKET_SHELF_ANSWER = 40,
+    TULIPCRICKET_PAGE = 4380,            /* bytes of a page: 60 lines of 72 characters and a line feed */
+    TULIPCRICKET_PAGES_LIMIT = 976740,   /* bytes of the pages of the longest listing with 256 constants: 223 pages */
+    TULIPCRICKET_PAGES_ANSWER = 24
 };
 
 /* The library's version, such as "0.1.0". */
@@ -128,6 +131,24 @@ uint32_t tulipcricket_nearest(uint64_t re, uint64_t im, const uint8_t *points, s
  * Refused: number and index are those of lowering with 65,536 bytes, and the figures 0. Where the answer is not 40 bytes it is as lent, and
  * the number 8. */
 uint32_t tulipcricket_shelf(const uint8_t *sheet, size_t sheet_len, uint8_t *answer, size_t answer_len);
+
+/* Lays a listing out on pages of text: a line for each constant, then one for each record.
+ *
+ * listing, constants  as for playing.
+ * pages      the room for the pages, 4,380 bytes each; bytes past them are as lent.
+ * answer     24 bytes:
+ *              0  number
+ *              8  index: of the refused record; accepted, the count of records
+ *             16  pages written
+ *
+ * A page has 60 lines of 72 characters (ASCII) and a line feed: the index right-aligned in 5, a space, the operation's name, or Constant,
+ * left-aligned in 16, a space, the operands as the program `listing` prints them, or the constant's 16 hexadecimal digits, left-aligned in 49.
+ * Blank lines fill the last page. An empty listing without constants has no page.
+ * Refused: number and index are those of playing from record 0, on a store of the right length; by 7 with index 0 where there is too little
+ * room, which is tested last; by 8 also where the constants are no whole number of words. Then no page is written and 0 is their count. Where
+ * the answer is not 24 bytes all is as lent, and the number 8. */
+uint32_t tulipcricket_pages(const uint8_t *listing, size_t listing_len, const uint8_t *constants, size_t constants_len,
+                            uint8_t *pages, size_t pages_len, uint8_t *answer, size_t answer_len);
 
 #ifdef __cplusplus
 }

@@ -269,6 +269,71 @@ static void is_played(const Lowering *l) {
     HOLDS(check_play(slices, lengths, 0) == (open ? 9 : 0));
 }
 
+/* Pages */
+
+enum { LINE = TULIPCRICKET_PAGE / 60 };
+
+/* Index, name and operands stand in their columns, each with no space before it but those that align the index, and all else is spaces. */
+static void is_line(const char *line, size_t index, int constant) {
+    char number[8];
+    snprintf(number, sizeof number, "%5zu", index);
+    HOLDS(memcmp(line, number, 5) == 0 && line[5] == ' ' && line[22] == ' ' && line[LINE - 1] == '\n');
+    HOLDS(constant ? memcmp(line + 6, "Constant        ", 16) == 0 : line[6] >= 'A' && line[6] <= 'Z');
+    HOLDS(line[23] != ' ' && (!constant || line[38] != ' ') && line[LINE - 2] == ' ');
+    for (int i = 0; i < LINE - 1; i++) HOLDS(line[i] >= ' ' && line[i] <= 'z');
+}
+
+/* The lines of the constants, those of the records, blank ones, and what was lent behind them. */
+static void are_pages(const Lent *pages, size_t constants, size_t records, size_t written) {
+    const char *line = (const char *)pages->at;
+    for (size_t i = 0; i < written / LINE; i++, line += LINE) {
+        if (i < constants + records) {
+            is_line(line, i < constants ? i : i - constants, i < constants);
+        } else {
+            HOLDS(filled((const uint8_t *)line, LINE - 1, ' ') && line[LINE - 1] == '\n');
+        }
+    }
+    HOLDS(filled(pages->at + written, pages->length - written, 0xa5));
+}
+
+/* The slices of a play, which from record 0 has the same number and index unless it is 7; `less`: how much the room is short of what is needed,
+ * from -1 on. */
+static void check_pages(const uint8_t *slices[3], const size_t lengths[4], int less, size_t answer_length) {
+    static Lent listing, constants, pages, answer;
+    static Play played;
+    size_t for_play[4] = {lengths[0], lengths[1], TULIPCRICKET_STORE, TULIPCRICKET_PLAY_ANSWER};
+    size_t words = lengths[1] / 8, records = records_from(slices[0], lengths[0], 0);
+    size_t needed = (words + records + 59) / 60 * TULIPCRICKET_PAGE;
+    size_t room = less < 0 ? needed + 1 : needed - least(needed, (size_t)less);
+    lend_copy(&listing, slices[0], lengths[0], 0xa5);
+    lend_copy(&constants, slices[1], lengths[1], 0xa5);
+    lend(&pages, room, 0xa5);
+    lend(&answer, answer_length, 0xa5);
+    uint32_t number = tulipcricket_pages(listing.at, listing.length, constants.at, constants.length, pages.at, pages.length,
+                                         answer.at, answer.length);
+    take_back(&listing, 0xa5);
+    take_back(&constants, 0xa5);
+    take_back(&pages, 0xa5);
+    take_back(&answer, 0xa5);
+    HOLDS(same(&listing, slices[0]) && same(&constants, slices[1]));
+    if (number != 0) HOLDS(filled(pages.at, pages.length, 0xa5));
+    if (answer_length != TULIPCRICKET_PAGES_ANSWER) {
+        HOLDS(number == 8 && filled(answer.at, answer.length, 0xa5));
+        return;
+    }
+    HOLDS(word_at(answer.at) == number && (number == 0 || word_at(answer.at + 16) == 0));
+    play(&played, slices, for_play, 0, 0x5a);
+    if (played.number != 0 || pages.length >= needed) {
+        HOLDS(number == played.number && memcmp(answer.at, played.answer.at, 16) == 0);
+    } else {
+        HOLDS(number == 7 && word_at(answer.at + 8) == 0);
+    }
+    if (number == 0) {
+        HOLDS(word_at(answer.at + 16) * TULIPCRICKET_PAGE == needed);
+        are_pages(&pages, words, records, needed);
+    }
+}
+
 /* Cutting an input */
 
 /* A length that is right but for one byte in 16. */
@@ -446,6 +511,7 @@ static void fuzz_play(const uint8_t *data, size_t size) {
     if (lengths[1] > sizeof constants) lengths[1] = 0;
     fill_store(store, data + 9, rest + 8 * words + listed, left - 8 * words - listed);
     check_play(slices, lengths, start);
+    check_pages(slices, lengths, (int)(start % 3) - 1, lent_length(data[1], 1, TULIPCRICKET_PAGES_ANSWER, 8));
 }
 
 int LLVMFuzzerTestOneInput(const uint8_t *data, size_t size) {

@@ -17,6 +17,7 @@ pub mod make;
 pub mod meaning;
 pub mod names;
 pub mod nearest;
+pub mod pages;
 pub mod peak;
 pub mod player;
 pub mod points;

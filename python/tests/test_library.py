@@ -82,6 +82,23 @@ class Functions(unittest.TestCase):
             Listing(LISTING, b"").play(Store())
         self.assertEqual((caught.exception.number, caught.exception.index), (5, 0))
 
+    def test_pages(self) -> None:
+        """One page of the C example; no page of nothing; the most that a listing can have; refused as playing is."""
+        page = Sheet(SHEET).lower().pages()
+        lines = page.split("\n")
+        self.assertEqual((len(page), len(lines), lines[60]), (library.PAGE, 61, ""))
+        self.assertEqual([line.rstrip() for line in lines[:6]], [
+            "    0 Constant         4000000000000000", "    0 LoadConst        G4 0", "    1 LoadComplex      G6 G7 Mem 3",
+            "    2 Times            G5 G4 G7", "    3 Times            G4 G4 G6", "    4 SaveComplex      G4 G5 Mem 4"])
+        self.assertTrue(all(len(line) == 72 for line in lines[:60]))
+        self.assertTrue(all(line == 72 * " " for line in lines[6:60]))
+        self.assertEqual(Listing(b"", b"").pages(), "")
+        longest = Listing(13107 * bytes.fromhex("05000f0000"), bytes(2048)).pages()
+        self.assertEqual((len(longest), longest[13362 * 73:][:24]), (library.PAGES_LIMIT, "13106 Branch           0"))
+        with self.assertRaises(Refused) as caught:
+            Listing(LISTING, b"").pages()
+        self.assertEqual((caught.exception.number, caught.exception.index), (5, 0))
+
     def test_shelf(self) -> None:
         """What lowering and playing report."""
         self.assertEqual(Sheet(SHEET).shelf(), (4, 41, 1, 5))

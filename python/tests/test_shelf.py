@@ -518,46 +518,18 @@ class Pages(Shelves):
                 paper.read_back(bad.encode())
 
     def test_in_a_folder(self) -> None:
-        """Where the library makes pages, a folder has them, and check makes them again and reads them back."""
+        """A folder has the pages, and check makes them again and reads them back."""
         (self.room / "one.formula").write_text("given x\ny = -x\nshow y\n")
         (self.room / "one.csv").write_text("x\n1\n")
-        self.assertEqual(self.called("shelve", "one.formula", "one.csv", "without"), (0, "", ""))
-        self.assertIn("Not here: pages.txt (not made by this version).", (self.room / "without" / "CHECK.txt").read_text())
-        real = library.library()
-        with mock.patch.object(library, "pages", lambda listing, constants: page_of([], listed(listing)), create=True), \
-                mock.patch.object(library, "library", lambda: HasPages(real)):
-            self.assertEqual(self.called("shelve", "one.formula", "one.csv", "with"), (0, "", ""))
-            status, lines = self.check("with")
+        self.assertEqual(self.called("shelve", "one.formula", "one.csv", "with"), (0, "", ""))
+        folder = self.room / "with"
+        self.assertIn("    1 Neg              G", (folder / "pages.txt").read_text())
+        status, lines = self.check("with")
         self.assertEqual(status, 0)
         self.assertIn("pages.txt: read back it gives listing and constants", lines)
         self.assertIn("pages.txt: listing and constants give it again", lines)
-        folder = self.room / "with"
         (folder / "pages.txt").write_text((folder / "pages.txt").read_text().replace("Neg", "Not"))
         self.assertIn("differs: pages.txt: read back it gives another listing, or other constants", self.check("with")[1])
-
-
-class HasPages:
-    """The library, and a function that it may not have."""
-
-    tulipcricket_pages = None
-
-    def __init__(self, real: object) -> None:
-        self.real = real
-
-    def __getattr__(self, name: str) -> object:
-        return getattr(self.real, name)
-
-
-def listed(listing: bytes) -> List[str]:
-    """A listing of Load, Neg, Xor and SaveComplex as text."""
-    names = {"Load": "Load G{d} {class_} {position}", "Uni": "Neg G{d} G{a}", "Bi": "Xor G{d} G{a} G{b}",
-             "SaveComplex": "SaveComplex G{a} G{a2} {class_} {position}"}
-    found = []
-    for record in kept.second_player().examine_records(listing, 0):
-        class_, position = record.get("place", (0, 0))
-        fields = {**record, "class_": ("Stack", "Mem", "Param")[class_], "position": position}
-        found.append(names[record["kind"]].format(**fields))
-    return found
 
 
 class Words(unittest.TestCase):

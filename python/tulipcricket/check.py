@@ -139,13 +139,9 @@ def check_pages(report: Report, folder: Folder) -> None:
     else:
         report.differs("pages.txt: read back it gives another listing, or other constants")
     try:
-        made = kept.pages(listing, constants)
+        report.compare(kept.pages(listing, constants), pages, "pages.txt", "listing and constants give it again")
     except LibraryMissing:
-        made = None
-    if made is None:
-        report.not_repeated("pages.txt: the library here makes no pages")
-    else:
-        report.compare(made, pages, "pages.txt", "listing and constants give it again")
+        report.not_repeated("pages.txt: the proved library is not here to print the listing")
 
 
 # points

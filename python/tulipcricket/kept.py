@@ -59,10 +59,9 @@ def sheet_text(sheet: bytes) -> Optional[bytes]:
     return None if said.startswith(b"refused") else said
 
 
-def pages(listing: bytes, constants: bytes) -> Optional[bytes]:
-    """The listing as printed pages (pages.txt), by the library's tulipcricket_pages; None where there is no such function yet."""
-    printed = getattr(library, "pages", None) if hasattr(library.library(), "tulipcricket_pages") else None
-    return str(printed(listing, constants)).encode() if printed is not None else None
+def pages(listing: bytes, constants: bytes) -> bytes:
+    """The listing as printed pages (pages.txt), by the library."""
+    return library.pages(listing, constants).encode()
 
 
 def origins(sheet: bytes) -> Optional[bytes]:

@@ -21,6 +21,9 @@ PLAY_ANSWER = 24
 POINTS_LIMIT = 8192
 NEAREST_ANSWER = 24
 SHELF_ANSWER = 40
+PAGE = 4380
+PAGES_LIMIT = 976740
+PAGES_ANSWER = 24
 
 NAME = "libtulipcricket.so"
 VARIABLE = "TULIPCRICKET_LIBRARY"
@@ -39,6 +42,7 @@ _ARGUMENTS = {
     "peak": _SLICE + _WORD + _SLICE,
     "nearest": _WORD * 2 + _SLICE * 2,
     "shelf": _SLICE * 2,
+    "pages": _SLICE * 4,
 }
 
 
@@ -171,3 +175,14 @@ def shelf(sheet: bytes) -> Shelf:
     if number != 0:
         raise Refused(number, index)
     return Shelf(index, listing, constants, records)
+
+
+def pages(listing: bytes, constants: bytes) -> str:
+    """tulipcricket_pages: the pages of a listing with its constants, PAGE characters each. Raises Refused with playing's number, index."""
+    text = ctypes.create_string_buffer(PAGES_LIMIT)
+    answer = ctypes.create_string_buffer(PAGES_ANSWER)
+    number = library().tulipcricket_pages(listing, len(listing), constants, len(constants), text, PAGES_LIMIT, answer, PAGES_ANSWER)
+    _, index, count = struct.unpack("<3Q", answer.raw)
+    if number != 0:
+        raise Refused(number, index)
+    return text.raw[: PAGE * count].decode("ascii")

@@ -107,6 +107,10 @@ class Listing:
         after.played = answer.played
         return after
 
+    def pages(self) -> str:
+        """The listing and its constants as pages of 60 lines, 72 characters and a line feed each. Raises Refused."""
+        return library.pages(self.data, self.constants)
+
 
 class Sheet:
     """A sheet's bytes; where a formula made it, the line of each instruction, so that a refusal names it."""

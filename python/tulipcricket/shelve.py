@@ -263,17 +263,16 @@ def write_plays(scan: Scan, folder: Path, stores: bool, progress: Callable[[int]
 
 def made_texts(scan: Scan) -> Tuple[Dict[str, bytes], List[Tuple[str, str]]]:
     """What is made of sheet and listing for people, and what is not here, with the reason."""
-    made: Dict[str, bytes] = {}
+    made: Dict[str, bytes] = {"pages.txt": kept.pages(scan.listing, scan.constants)}
     not_here: List[Tuple[str, str]] = []
     sheet = scan.files.get("sheet")
     for name, data, why in (
         ("sheet.txt", kept.sheet_text(sheet) if sheet is not None else None, "the program sheet_text was not at hand"),
         ("origins", kept.origins(sheet) if sheet is not None else None, "not made by this version"),
-        ("pages.txt", kept.pages(scan.listing, scan.constants), "not made by this version"),
     ):
         if data is not None:
             made[name] = data
-        elif sheet is not None or name == "pages.txt":
+        elif sheet is not None:
             not_here.append((name, why))
     return made, not_here
 

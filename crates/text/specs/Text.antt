@@ -97,7 +97,7 @@ abbrev pub registers : List ℕ → List ℕ
 registers [] = []
 registers (r ∷ rs) = space (register r) ++ registers rs
 
--- "prints its name": a kind with operations that of the operation alone
+-- a record's name: "a kind with operations prints the operation alone, a ComplexBi with Complex added", another kind its own
 unfoldable pub workName : Work → List ℕ
 unfolding ascii uniName binName fusedName complexName
 workName (Work.Uni op dst s1) = uniName op

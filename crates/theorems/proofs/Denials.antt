@@ -21,6 +21,7 @@ use Rattle.float.specs.Laws.{IfElseLaw}
 use Rattle.player_machine.specs.Machine.{Write, _≔_, writes, execs, works, seek, isLabel, block, ticks, play}
 use Rattle.player_machine.specs.Jumps.{breach}
 use Rattle.player_machine.specs.Answer.{answer}
+use Rattle.player_machine.specs.Refusal as Player
 use Rattle.player_machine.specs.Count.{Bounds}
 use Rattle.player_machine.specs.Step.{follows, written, step, steps, PlaysBySteps}
 use Rattle.player_machine.specs.Draws.{draws, fills, done, Confined}
@@ -36,6 +37,8 @@ use Rattle.entries.proofs.Demand.{entries-demand-3}
 use Rattle.entries.proofs.Examples.{needed, met}
 use Rattle.figures.specs.Shelf.{refusal}
 use Rattle.figures.specs.Told.{FiguresReported}
+use Rattle.pages.specs.Pages.{rowLine, constantRow}
+use Rattle.pages.specs.Uncut.{UncutLaw}
 
 -- ---- demand 3
 
@@ -134,4 +137,14 @@ figures-of-no-sheet law =
     differ (sym a ∙ law header listing (replicate 256 0) long (length-replicate {A = ℕ} 256 0) .number)
   where
     differ : _≡_ {A = ℕ} 0 8 → ⊥
+    differ e = omega arith
+
+-- ---- the printed page
+
+-- a constant alone, its line cut behind 72 characters
+pub line-feed-lost : UncutLaw (λ row. take 72 (rowLine row)) → ⊥
+unfolding Player.refusal breach decoded rowLine constantRow
+line-feed-lost law = differ (law [] (0 ∷ []) (λ i. lit< tt) refl .0 .0 .long)
+  where
+    differ : _≡_ {A = ℕ} 72 73 → ⊥
     differ e = omega arith

@@ -29,6 +29,8 @@ use Rattle.nearest.specs.Nearest.{nearest}
 use Rattle.nearest.specs.Laws.{NearestLaw}
 use Rattle.peak.specs.Peak.{after}
 use Rattle.peak.specs.Laws.{PeakLaw}
+use Rattle.pages.specs.Pages.{rowLine, pagesFrom}
+use Rattle.pages.specs.Uncut.{UncutLaw, Joined}
 
 -- all of it, one theorem a field
 pub record Theorems : Type 0 where
@@ -79,3 +81,7 @@ pub record Theorems : Type 0 where
   pub nearestPoint : NearestLaw nearest
   -- "for each position the largest in the window that ends there"
   pub runningPeak : PeakLaw after
+  -- "No field is ever cut, and this is shown for every accepted listing and every table of up to 256 constants."
+  pub uncut : UncutLaw rowLine
+  -- pages laid out in two parts are those laid out at once
+  pub joined : Joined pagesFrom

@@ -1,5 +1,5 @@
-//! Tulipcricket from Rust: `lower` a sheet to a listing, `play` the listing on a store, the `shelf` figures of a sheet, the running `peak` of
-//! answers, the reference point `nearest` to one. The C functions that do the work are proved; this wrapper, which lends them slices of the
+//! Tulipcricket from Rust: `lower` a sheet to a listing, `play` the listing on a store, lay it out on `pages`, the `shelf` figures of a sheet,
+//! the running `peak` of answers, the reference point `nearest` to one. The C functions that do the work are proved; this wrapper, which lends them slices of the
 //! right lengths, is not.
 //!
 //! The library is `libtulipcricket.a`, which `c/library` makes; see build.rs for where it is looked for. Its answers do not depend on the
@@ -13,6 +13,10 @@ pub mod sheet;
 
 /// Bytes of the longest listing; the room to ask for where it does not matter.
 pub const LISTING_LIMIT: usize = 65_536;
+/// Bytes of a printed page: 60 lines of 72 characters and a line feed.
+pub const PAGE: usize = 4_380;
+const LINES: usize = 60;
+const SHORTEST_RECORD: usize = 5;
 const TABLE: usize = 256;
 const WORDS: usize = 1_602;
 
@@ -147,6 +151,17 @@ pub fn play(listing: &[u8], constants: &[u64], store: &mut Store, start: u64) ->
     let refusal = c::play(listing, &to_bytes(constants), &mut store.bytes, start, &mut answer);
     accepted(refusal, number(&answer, 8))?;
     Ok(Played { records: number(&answer, 8), played: number(&answer, 16) })
+}
+
+/// A listing and its constants as pages of text, `PAGE` bytes each: first a line for each constant, then one for each record. The refusals are
+/// those of `play` from record 0.
+pub fn pages(listing: &[u8], constants: &[u64]) -> Result<String, Refused> {
+    let lines = constants.len() + listing.len() / SHORTEST_RECORD;
+    let (mut text, mut answer) = (vec![0; lines.div_ceil(LINES) * PAGE], [0; 24]);
+    let refusal = c::pages(listing, &to_bytes(constants), &mut text, &mut answer);
+    accepted(refusal, number(&answer, 8))?;
+    text.truncate(number(&answer, 16) as usize * PAGE);
+    Ok(String::from_utf8(text).expect("pages are ASCII"))
 }
 
 /// For each position of a run of f64 words, the largest of the `window` words that end there, fewer at the start. Of equal ones, zeros of both

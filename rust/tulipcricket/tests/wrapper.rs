@@ -1,7 +1,9 @@
 //! The wrapper on document 01's sheet on paper and on short runs: what it accepts, what it refuses, and what it leaves.
 
 use tulipcricket::sheet::{Arith, Bi, Fused, Sheet, Uni, RET};
-use tulipcricket::{lower, nearest, peak, play, shelf, Class, Lowered, Refused, Shelf, Store, Why, LISTING_LIMIT};
+use tulipcricket::{
+    lower, nearest, pages, peak, play, shelf, Class, Lowered, Refused, Shelf, Store, Why, LISTING_LIMIT, PAGE,
+};
 
 fn paper() -> Vec<u8> {
     let mut sheet = Sheet::new(false);
@@ -71,6 +73,35 @@ fn a_refused_play_leaves_the_store() {
     assert_eq!(play(&found.listing, &[], &mut store, 0), Err(Refused { why: Why::MissingConstant, index: 0 }));
     assert!(store == before);
     assert_eq!(stray.to_string(), "refused 9 6 (StrayJump)");
+}
+
+#[test]
+fn the_paper_is_printed_on_one_page() {
+    let found = lowered();
+    let page = pages(&found.listing, &found.constants).unwrap();
+    let lines: Vec<&str> = page.split_terminator('\n').collect();
+    assert_eq!((page.len(), lines.len()), (PAGE, 60));
+    let expected = [
+        "    0 Constant         4000000000000000                                 ",
+        "    0 LoadConst        G4 0                                             ",
+        "    1 LoadComplex      G6 G7 Mem 3                                      ",
+        "    2 Times            G5 G4 G7                                         ",
+        "    3 Times            G4 G4 G6                                         ",
+        "    4 SaveComplex      G4 G5 Mem 4                                      ",
+    ];
+    assert_eq!(lines[..6], expected);
+    assert!(lines[6..].iter().all(|line| *line == " ".repeat(72)));
+}
+
+#[test]
+fn pages_come_by_sixty_lines() {
+    let record = [6, 0, 3, 0, 1, 2];
+    let count = |records: usize, constants: usize| {
+        pages(&record.repeat(records), &vec![0; constants]).map(|text| text.len() / PAGE)
+    };
+    assert_eq!((count(0, 0), count(1, 0), count(59, 1), count(60, 1)), (Ok(0), Ok(1), Ok(1), Ok(2)));
+    assert_eq!(count(0, 257), Err(Refused { why: Why::WrongSetup, index: 0 }));
+    assert_eq!(pages(&lowered().listing, &[]), Err(Refused { why: Why::MissingConstant, index: 0 }));
 }
 
 /// 6 / (1 + i), by instructions that divide register 0, recorded as real, by Mem 3 into register 2.

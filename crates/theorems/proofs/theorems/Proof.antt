@@ -19,6 +19,7 @@ use Rattle.figures.proofs.Theorem.{figures}
 use Rattle.assembly.proofs.Theorem.{round-trip}
 use Rattle.nearest.proofs.Law.{nearest-law}
 use Rattle.peak.proofs.Law.{peak-law}
+use Rattle.pages.proofs.Fitting.{uncut, joined}
 use Rattle.theorems.proofs.theorems.Statement.{statement}
 use Rattle.theorems.proofs.theorems.Tie as tie
 
@@ -51,6 +52,8 @@ returns c =
       ifElse = if-else-bit;
       nearestPoint = nearest-law;
       runningPeak = peak-law;
+      uncut = uncut;
+      joined = joined;
     }
 
 pub theorems-spec : {M : Type 1} → statement M

@@ -1,0 +1,7 @@
+pub mod Pages
+pub mod Printed
+pub mod Uncut
+pub mod Paper
+pub mod Call
+pub mod Standing
+pub mod Values
