@@ -1,10 +1,9 @@
 //! Times lowering and the shelf figures on sheets that are too long: 10 MiB of records beside a tenth of them. Looking ahead is one pass, so
 //! ten times the bytes take about ten times as long; more than 12 times fails. Usage: speed-long [ROUNDS]. A figure is that of the fastest
-//! round; the rounds of all sheets alternate.
+//! round by the process's own clock; the rounds of both sheets alternate.
 
 use std::hint::black_box;
 use std::process::ExitCode;
-use std::time::Instant;
 
 use oracle::format::*;
 use oracle::{ffi, make};
@@ -27,14 +26,34 @@ fn shelved(sheet: &[u8]) -> u32 {
     ffi::shelf(black_box(sheet), &mut [0; 40])
 }
 
+#[repr(C)]
+struct Time {
+    seconds: i64,
+    nanoseconds: i64,
+}
+
+extern "C" {
+    fn clock_gettime(clock: i32, time: *mut Time) -> i32;
+}
+
+/// CLOCK_PROCESS_CPUTIME_ID of Linux: what the process has computed, which other work on the machine does not lengthen.
+const COMPUTED: i32 = 2;
+
+fn now() -> f64 {
+    let mut time = Time { seconds: 0, nanoseconds: 0 };
+    // SAFETY: `time` is a timespec of 64-bit Linux.
+    assert_eq!(unsafe { clock_gettime(COMPUTED, &mut time) }, 0);
+    time.seconds as f64 + time.nanoseconds as f64 / 1e9
+}
+
 /// Seconds of the fastest round of each sheet.
 fn fastest(rounds: u64, work: fn(&[u8]) -> u32, sheets: &[Vec<u8>; 2]) -> [f64; 2] {
     let mut least = [f64::INFINITY; 2];
     for _ in 0..rounds {
         for (sheet, least) in sheets.iter().zip(&mut least) {
-            let start = Instant::now();
+            let start = now();
             assert_eq!(work(sheet), LONG);
-            *least = least.min(start.elapsed().as_secs_f64());
+            *least = least.min(now() - start);
         }
     }
     least
