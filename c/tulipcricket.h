@@ -10,8 +10,8 @@
  * Lowering and playing return the number of documents 01 and 02, which is also the first number of the answer:
  *   0 accepted          1 torn record     2 unknown work      3 bad register    4 bad place
  *   5 missing constant  6 barred operand  7 listing full      8 wrong setup     9 stray jump
- *  10 misplaced label  11 unequal records (labels and branches)
- * Lowering never gives 9; playing never gives 6, 7, 10 or 11. Of document 02 the running peak returns 0, 8 or
+ *  10 misplaced label  11 unequal records (labels and branches)  14 sheet too long
+ * Lowering never gives 9; playing never gives 6, 7, 10, 11 or 14. Of document 02 the running peak returns 0, 8 or
  * 12, the nearest point 0, 8 or 13, the shelf figures what lowering returns, pages what playing returns or 7.
  *
  * Lowering lists what the Rust lists, faults too. In plain mode a LoadMath Divide of a real register by a complex place gives a wrong
@@ -30,7 +30,7 @@ extern "C" {
 #define TULIPCRICKET_VERSION "0.1.0" /* of this header; of the library: tulipcricket_version() */
 
 enum {
-    TULIPCRICKET_SHEET_LIMIT = 16384,    /* bytes of a sheet */
+    TULIPCRICKET_INSTRUCTIONS_LIMIT = 612,  /* instructions of a sheet, which then has at most 9,201 bytes */
     TULIPCRICKET_LISTING_LIMIT = 65536,  /* bytes of a listing */
     TULIPCRICKET_CONSTANTS = 2048,       /* bytes of the constants: 256 words */
     TULIPCRICKET_STORE = 12816,          /* bytes of a store: 1,602 words */
@@ -52,7 +52,8 @@ const char *tulipcricket_word(uint32_t number);
 
 /* Lowers a sheet to a listing and its constants.
  *
- * sheet      up to 16,384 bytes: header (69 bytes), constants (12 bytes each, at most 251), instructions.
+ * sheet      header (69 bytes), constants (12 bytes each, at most 251), instructions, at most 612: any byte behind these is 14 at index
+ *            612, whatever it is. Labels are looked for past them, so that a sheet takes time in proportion to its bytes.
  * listing    the room for the listing, up to 65,536 bytes.
  * constants  2,048 bytes.
  * answer     128 bytes:
@@ -63,7 +64,7 @@ const char *tulipcricket_word(uint32_t number);
  *             32  32 bytes, 1 where the sheet's register of that number (30 Ret, 31 Temp) is recorded as real, else 0
  *             64  64 bytes of the places recorded as real, as in a header: bit i mod 8 of byte i div 8 for Stack i, then Param
  *
- * Refused by 1 to 7, 10 or 11: the listing and the constants of the instructions before the refused one are written, and the answer is
+ * Refused by 1 to 7, 10, 11 or 14: the listing and the constants of the instructions before the refused one are written, and the answer is
  * theirs. Such a listing is played only if it has the label of each of its branches.
  * Bytes of the listing past those written, and constants past those counted, are always as lent.
  * Refused by 8: listing and constants are as lent, and the answer is 8 and zeros; but where the answer is not 128 bytes, it is as lent

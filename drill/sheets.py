@@ -20,6 +20,7 @@ from run import MOST_LINES, Reader
 RET, TEMP = 30, 31
 STACK, MEM, PARAM = 0, 1, 2
 LISTING_FULL = 7
+MOST_INSTRUCTIONS, SHEET_TOO_LONG = 612, 14
 
 # 2. INSTRUCTIONS: kind: name, fields, length
 KINDS = {
@@ -136,7 +137,7 @@ class Record:
 
 def setup(sheet, room, table):
     """1, and 8 of 3: mode, places, count of constants, where instructions begin; or None."""
-    if len(sheet) > 16384 or len(sheet) < 69 or room > 65536 or table != 256:
+    if len(sheet) < 69 or room > 65536 or table != 256:
         return None
     if two(sheet, 0) != 69 or two(sheet, 2) != 32 or sheet[4] > 1:
         return None
@@ -242,6 +243,8 @@ def lower(sheet, room, table, full_at):
     record, index = Record(places), 0
     standing, at_branches = labels(sheet, at), []
     while at < len(sheet):
+        if index == MOST_INSTRUCTIONS:
+            return SHEET_TOO_LONG, index, record
         got = read(sheet, at)
         if isinstance(got, int):
             return got, index, record

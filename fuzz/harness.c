@@ -80,13 +80,13 @@ static void lower(Lowering *l, const uint8_t *sheet, const size_t lengths[4], ui
     take_back(&l->listing, fill);
     take_back(&l->constants, fill);
     take_back(&l->answer, fill);
-    HOLDS(l->number <= 11 && l->number != 9);
+    HOLDS((l->number <= 11 && l->number != 9) || l->number == 14);
     HOLDS(same(&l->sheet, sheet));
 }
 
 /* The sheet's own constants, or -1 where its header or its constants are refused by 8. */
 static int own_constants(const uint8_t *sheet, size_t length) {
-    if (length > TULIPCRICKET_SHEET_LIMIT || length < HEADER_LENGTH) return -1;
+    if (length < HEADER_LENGTH) return -1;
     if (two(sheet) != HEADER_LENGTH || two(sheet + 2) != HEADER || sheet[4] > 1) return -1;
     size_t at = HEADER_LENGTH;
     int count = 0;
@@ -122,6 +122,9 @@ static void answered(const Lowering *l, int own, uint8_t fill) {
     size_t readable_ones = records_from(sheet, l->sheet.length, start);
     HOLDS(l->number != 8 && word_at(answer) == l->number);
     HOLDS(l->number == 0 ? word_at(answer + 8) == readable_ones : word_at(answer + 8) <= readable_ones);
+    HOLDS(word_at(answer + 8) <= TULIPCRICKET_INSTRUCTIONS_LIMIT);
+    HOLDS(l->number == 14 ? word_at(answer + 8) == TULIPCRICKET_INSTRUCTIONS_LIMIT
+                          : l->number == 0 || word_at(answer + 8) < TULIPCRICKET_INSTRUCTIONS_LIMIT);
     HOLDS(written <= l->listing.length && count >= (uint64_t)own && count <= (uint64_t)own + 5);
     HOLDS(sheet[4] == 1 || count == (uint64_t)own);
     HOLDS(filled(l->listing.at + written, l->listing.length - written, fill));
@@ -459,7 +462,7 @@ static size_t room(size_t number) { return number == 0xffff ? 65536 : number == 
 
 static void fuzz_lower(const uint8_t *data, size_t size) {
     static Lowering small, whole;
-    size_t lengths[4] = {least(size - LOWER_HEAD, TULIPCRICKET_SHEET_LIMIT + 1), room(two(data + 2)),
+    size_t lengths[4] = {size - LOWER_HEAD, room(two(data + 2)),
                          lent_length(data[1], 0, TULIPCRICKET_CONSTANTS, 8),
                          lent_length(data[1], 1, TULIPCRICKET_LOWER_ANSWER, 8)};
     lower(&small, data + LOWER_HEAD, lengths, 0xa5);

@@ -1,4 +1,4 @@
-//! Sheets and listings at every limit of document 01.
+//! Sheets and listings at every limit of document 01, and of the 612 instructions of document 02.
 
 use crate::format::*;
 use crate::make;
@@ -153,6 +153,71 @@ fn filled(first: Vec<u8>, nops: usize) -> ToLower {
     whole([make::header(false, &NONE), first, make::nop().repeat(nops)].concat())
 }
 
+/// The longest sheet that is accepted: 251 constants, 612 instructions of ten bytes.
+fn longest_sheet() -> ToLower {
+    let row = vec![make::if_else(1, 2, 3, STACK, 2); INSTRUCTIONS];
+    let sheet = make::sheet(false, &NONE, &(0..SHEET_CONSTANTS as u64).collect::<Vec<_>>(), &row);
+    assert_eq!(sheet.len(), LONGEST_SHEET);
+    whole(sheet)
+}
+
+/// Sheets of 611, 612 and 613 instructions, with each kind in each of them, or as the first or the last of Nops.
+fn of_each_kind() -> Vec<ToLower> {
+    let mut found = Vec::new();
+    let labels = [make::label(3), make::branch(3), make::branch_if(1, 3, 0)];
+    for (record, count) in sheet_records().iter().chain(&labels).flat_map(|r| [611, 612, 613].map(|n| (r, n))) {
+        let nops = vec![make::nop(); count - 1];
+        let first = std::slice::from_ref(record);
+        for row in [vec![record.clone(); count], [first, &nops].concat(), [&nops, first].concat()] {
+            found.extend([false, true].map(|stable| whole(make::sheet(stable, &NONE, &[TWO], &row))));
+        }
+    }
+    found
+}
+
+/// What may stand at index 612: stray bytes, torn records, and whatever earns each other number, or none.
+fn at_the_limit() -> Vec<Vec<u8>> {
+    let mut found: Vec<Vec<u8>> = (1..4).map(|count| vec![0; count]).collect();
+    found.extend([vec![3, 0, 0, 0], vec![5, 0, 0, 0, 0], vec![255; 5], make::uni(0, 1, 2)[..6].to_vec()]);
+    found.extend([make::raw(CALL, &[1]), make::raw(256, &[]), make::constant(7), make::uni(255, 1, 2)]);
+    found.extend([make::mov(32, 1), make::load(1, 3, 0), make::save(1, PARAM, 0), make::load_const(1, 9)]);
+    found.extend([make::fused(0, 1, 2, 3, RET), make::uni(uni::ABS, 1, RET), make::uni(uni::ROOT, 1, 2)]);
+    found.extend([make::label(2), make::label(3), make::branch(3), make::branch(4), make::branch_if(1, 3, 2)]);
+    found
+}
+
+/// Those behind 612 instructions, which are Nops, or a Branch 3 and Nops, or a Label 3 and Nops; with a Label 3 behind them, or none; in
+/// all room, or none.
+fn beyond() -> Vec<ToLower> {
+    let mut found = Vec::new();
+    for first in [make::nop(), make::branch(3), make::label(3), make::mov(1, 2), make::load_const(1, 0)] {
+        for (last, behind) in at_the_limit().iter().flat_map(|r| [(r, Vec::new()), (r, make::label(3))]) {
+            let nops = make::nop().repeat(INSTRUCTIONS - 1);
+            let sheet = [make::sheet(false, &NONE, &[TWO], &[]), first.clone(), nops, last.clone(), behind].concat();
+            found.extend([0, LISTING_LIMIT].map(|room| ToLower { sheet: sheet.clone(), room, table: TABLE }));
+        }
+    }
+    found
+}
+
+/// A Branch 3 as the first instruction, its Label at each of these indices; a record in between, if there is one.
+fn labels_at(indices: &[usize]) -> Vec<ToLower> {
+    let mut found = Vec::new();
+    for index in indices.iter().copied() {
+        let torn = vec![5, 0, 0, 0, 0];
+        for (at, record) in [(1, make::nop()), (612, torn.clone()), (613, torn), (612, make::raw(CALL, &[1]))] {
+            let mut row = vec![make::nop(); index + 1];
+            row[0] = make::branch(3);
+            row[index] = make::label(3);
+            if at < index {
+                row[at] = record;
+            }
+            found.push(whole(make::sheet(false, &NONE, &[], &row)));
+        }
+    }
+    found
+}
+
 /// A sheet of every operation on one and on two registers, of complex registers and of a real one.
 fn every_operation(stable: bool) -> ToLower {
     let mut row = Vec::new();
@@ -165,10 +230,11 @@ fn every_operation(stable: bool) -> ToLower {
     whole(make::sheet(stable, &NONE, &[TWO], &row))
 }
 
-/// What every list of sheets has: every operation, and the longest sheet, the most room, the words of the constants slice, and their
-/// neighbours.
+/// What every list of sheets has: every operation, and the most instructions, the longest sheet, the most room, the words of the constants
+/// slice, and their neighbours.
 pub fn kept_sheets() -> Vec<ToLower> {
-    let mut found = vec![filled(make::uni(0, 1, 2), 4077), filled(make::bi(0, 1, 2, 3), 4077)];
+    let mut found: Vec<ToLower> = [610, 611, 612].map(|nops| filled(make::uni(0, 1, 2), nops)).to_vec();
+    found.push(longest_sheet());
     found.extend([false, true].map(every_operation));
     for room in [65_535, 65_536, 65_537] {
         found.push(ToLower { sheet: paper(), room, table: TABLE });
@@ -181,12 +247,9 @@ pub fn kept_sheets() -> Vec<ToLower> {
 
 fn limits() -> Vec<ToLower> {
     let mut found = kept_sheets();
-    found.extend([filled(make::mov(1, 2), 4077), filled(make::nop(), 4078)]);
-    for stable in [false, true] {
-        let row = vec![make::uni(uni::ABS, 1, 2); 2330];
-        found.push(whole(make::sheet(stable, &NONE, &[], &row)));
-        let row = vec![make::uni(uni::ROOT, 1, 2); 2330];
-        found.push(whole(make::sheet(stable, &NONE, &[], &row)));
+    for (op, count) in [(uni::ABS, 612), (uni::ROOT, 612), (uni::RECIP, 407), (uni::RECIP, 408), (uni::RECIP, 613)] {
+        let row = vec![make::uni(op, 1, 2); count];
+        found.extend([false, true].map(|stable| whole(make::sheet(stable, &NONE, &[], &row))));
     }
     for room in 0..=42 {
         found.push(ToLower { sheet: paper(), room, table: TABLE });
@@ -238,6 +301,11 @@ fn barred_sheets() -> Vec<ToLower> {
     found
 }
 
+/// Sheets of many more bytes than one that is accepted can have.
+pub fn far_sheets() -> Vec<ToLower> {
+    labels_at(&[5_000, 60_000])
+}
+
 /// Every limit of a sheet.
 pub fn sheets() -> Vec<ToLower> {
     let mut found: Vec<ToLower> = headers().into_iter().chain(constants()).map(whole).collect();
@@ -251,6 +319,9 @@ pub fn sheets() -> Vec<ToLower> {
         }
     }
     found.extend(limits());
+    found.extend(of_each_kind());
+    found.extend(beyond());
+    found.extend(labels_at(&[610, 611, 612, 613, 614]));
     found.extend(rooms());
     found.extend(barred_sheets());
     found

@@ -15,7 +15,9 @@ pub const CONSTANT: u16 = 33;
 pub const HEADER_LENGTH: usize = 69;
 pub const CONSTANT_LENGTH: usize = 12;
 
-pub const SHEET_LIMIT: usize = 16_384;
+/// The most instructions of a sheet, and the bytes of the longest one: 251 constants, and instructions of ten bytes.
+pub const INSTRUCTIONS: usize = 612;
+pub const LONGEST_SHEET: usize = HEADER_LENGTH + SHEET_CONSTANTS * CONSTANT_LENGTH + 10 * INSTRUCTIONS;
 pub const LISTING_LIMIT: usize = 65_536;
 pub const SHEET_CONSTANTS: usize = 251;
 pub const TABLE: usize = 256;
@@ -43,6 +45,7 @@ pub const SETUP: u32 = 8;
 pub const STRAY: u32 = 9;
 pub const MISPLACED: u32 = 10;
 pub const UNEQUAL: u32 = 11;
+pub const LONG: u32 = 14;
 
 /// The two bytes at `at`, as a number.
 pub fn two(bytes: &[u8], at: usize) -> u16 {

@@ -6,6 +6,8 @@ use crate::random::{ToLower, ToPlay};
 const LOWER_HEAD: usize = 4;
 const PLAY_HEAD: usize = 17;
 const WORD_SET: usize = 10;
+/// The most bytes that the harness lends.
+const LENT: usize = 65_544;
 
 /// The two bytes of a number; 0xffff and 0xfffe stand for numbers that two bytes cannot hold.
 fn shown(number: u64, highest: u64, next: u64) -> [u8; 2] {
@@ -80,7 +82,7 @@ fn lowering(input: &[u8]) -> ToLower {
         number => number as usize,
     };
     let sheet = &input[LOWER_HEAD..];
-    ToLower { sheet: sheet[..sheet.len().min(SHEET_LIMIT + 1)].to_vec(), room, table: TABLE }
+    ToLower { sheet: sheet[..sheet.len().min(LENT)].to_vec(), room, table: TABLE }
 }
 
 fn play(input: &[u8]) -> ToPlay {

@@ -210,7 +210,7 @@ impl Parts {
     }
 }
 
-/// A sheet of `length` well-formed instructions, as far as the limit allows.
+/// A sheet of `length` well-formed instructions; lowering takes at most 612.
 pub fn parts(rng: &mut Rng, length: usize) -> Parts {
     let stable = rng.once_in(2);
     let constants = match rng.below(12) {
@@ -223,16 +223,7 @@ pub fn parts(rng: &mut Rng, length: usize) -> Parts {
     for _ in 0..constants {
         head.extend(make::constant(any_word(rng)));
     }
-    let mut instructions = Vec::new();
-    let mut bytes = head.len();
-    for _ in 0..length {
-        let record = instruction(rng, &p);
-        bytes += record.len();
-        if bytes > SHEET_LIMIT {
-            break;
-        }
-        instructions.push(record);
-    }
+    let instructions = (0..length).map(|_| instruction(rng, &p)).collect();
     Parts { head, instructions }
 }
 
@@ -343,7 +334,7 @@ fn with_fault(rng: &mut Rng, row: &mut Vec<Vec<u8>>) {
 
 fn any_length(rng: &mut Rng) -> usize {
     match rng.below(200) {
-        0 => 4096,
+        0 => INSTRUCTIONS - 12 + rng.below(24),
         1..=9 => rng.below(300),
         _ => rng.below(14),
     }

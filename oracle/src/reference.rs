@@ -1,4 +1,4 @@
-//! Document 01's lowering with document 02's branches: the wrapper written from their rules, around the Rust's own `complexify`.
+//! Document 01's lowering with document 02's branches and its limit of 612 instructions: the wrapper written from their rules, around the Rust's own `complexify`.
 
 use std::cell::Cell;
 use std::collections::HashSet;
@@ -89,7 +89,7 @@ struct Sheet<'a> {
 
 /// The header and the constants; `None` is refusal 8.
 fn open(sheet: &[u8]) -> Option<Sheet<'_>> {
-    if sheet.len() > SHEET_LIMIT || sheet.len() < HEADER_LENGTH {
+    if sheet.len() < HEADER_LENGTH {
         return None;
     }
     if two(sheet, 0) as usize != HEADER_LENGTH || two(sheet, 2) != HEADER || sheet[4] > 1 {
@@ -487,6 +487,10 @@ pub fn lower_with_points(sheet: &[u8], listing: &mut [u8], constants: &mut [u64]
     let mut rest = opened.instructions;
     let mut number = 0;
     while !rest.is_empty() {
+        if work.finished.len() == INSTRUCTIONS {
+            number = LONG;
+            break;
+        }
         let outcome = decode(rest, opened.constants.len()).and_then(|(instruction, length)| {
             if misplaced(&instruction, work.finished.len(), &standings) {
                 return Err(MISPLACED);

@@ -53,12 +53,39 @@ fn slices_of_other_lengths() {
     }
 }
 
+/// 14 comes before any other number; what stands before it is finished.
 #[test]
-fn a_sheet_of_16_384_bytes() {
-    let filled = |first: Vec<u8>| [make::header(false, &NONE), first, make::nop().repeat(4077)].concat();
-    assert_eq!(filled(make::uni(0, 1, 2)).len(), SHEET_LIMIT);
-    assert_eq!(refusal(&filled(make::uni(0, 1, 2))), (0, 4078));
-    assert_eq!(refusal(&filled(make::bi(0, 1, 2, 3))), (SETUP, 0));
+fn the_instruction_at_index_612() {
+    let nops = |count: usize, then: &[u8]| [&make::header(false, &NONE)[..], &make::nop().repeat(count), then].concat();
+    assert_eq!(refusal(&nops(611, &[])), (0, 611));
+    assert_eq!(refusal(&nops(612, &[])), (0, 612));
+    assert_eq!(refusal(&nops(613, &[])), (LONG, 612));
+    assert_eq!(refusal(&nops(611, &[0])), (TORN, 611));
+    assert_eq!(refusal(&nops(612, &[0])), (LONG, 612));
+    assert_eq!(refusal(&nops(612, &make::mov(32, 1))), (LONG, 612));
+    assert_eq!(refusal(&nops(612, &make::branch(3))), (LONG, 612));
+    let (answer, listing, _) = lowered(&nops(611, &[make::mov(1, 2), make::mov(1, 2)].concat()), 100);
+    assert_eq!((answer.number, answer.index, answer.written), (LONG, 612, 12));
+    assert_eq!(listing[12..], [9; 88]);
+}
+
+/// A sheet of a Branch 3, Nops, and a Label 3 at an index, with more behind it or not.
+#[test]
+fn looking_ahead_goes_past_index_612() {
+    let far = |label: usize, torn: usize| {
+        let mut row = vec![make::nop(); label + 1];
+        row[0] = make::branch(3);
+        row[label] = make::label(3);
+        if torn < label {
+            row[torn] = vec![5, 0, 0, 0, 0];
+        }
+        refusal(&make::sheet(false, &NONE, &[], &row))
+    };
+    assert_eq!(far(611, 9999), (0, 612));
+    for label in [612, 613, 60_000] {
+        assert_eq!(far(label, 99_999), (LONG, 612));
+    }
+    assert_eq!(far(613, 612), (MISPLACED, 0));
 }
 
 #[test]

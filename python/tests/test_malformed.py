@@ -134,10 +134,10 @@ class Limits(unittest.TestCase):
         self.assertEqual(self.why(f"{givens}\nb = 1\nshow b")[::2], (257, "more than 256 given columns"))
 
     def test_instructions(self) -> None:
-        """A sheet has 16,384 bytes; the operation that does not fit is named."""
+        """A sheet has 612 instructions, here a load, 305 loads with sums, and a save; the operation that does not fit is named."""
+        self.assertEqual(len(Formula(f"Z = 1{' + 1' * 305}\nshow Z").compiled.instructions), 612)
         line, column, why = self.why(f"Z = 1{' + 1' * 1100}\nshow Z")
-        room = (16384 - 69 - 12 - 7) // 15
-        self.assertEqual((line, column), (1, len("Z = 1") + 4 * room + 4))
+        self.assertEqual((line, column), (1, len("Z = 1") + 4 * 305 + 2))
         self.assertIn("too many instructions", why)
 
     def test_depth(self) -> None:
@@ -147,7 +147,7 @@ class Limits(unittest.TestCase):
 
     def test_listing_full(self) -> None:
         """A refusal of lowering names the formula's line and column: here 7 (listing full), by Recips, which list the most."""
-        lines = [f"c{i} = {'1/(' * 20}a{')' * 20}" for i in range(80)]
+        lines = [f"c{i} = {'1/(' * 20}a{')' * 20}" for i in range(21)]
         text = "\n".join(["given f", "a = j*f", *lines, "show a"])
         formula = Formula(text, "cell.formula")
         with self.assertRaises(Refused) as caught:

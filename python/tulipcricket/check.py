@@ -97,7 +97,7 @@ def check_formula(report: Report, folder: Folder, head: Optional[Head]) -> None:
     except (TulipcricketError, RecursionError) as wrong:
         report.differs(f"formula: it is refused: {shown(str(wrong))}")
         return
-    report.compare(sheet, folder.read("sheet", library.SHEET_LIMIT), "sheet", "the formula, compiled again, gives it")
+    report.compare(sheet, folder.read("sheet", library.LONGEST_SHEET), "sheet", "the formula, compiled again, gives it")
     put, answer = formula_head(formula)
     if head is not None and ([(one.word, one.name) for one in head.put], list(head.answer)) != (put, answer):
         report.differs("points: its head has other words than the formula is given and shows")
@@ -105,7 +105,7 @@ def check_formula(report: Report, folder: Folder, head: Optional[Head]) -> None:
 
 def check_sheet(report: Report, folder: Folder) -> None:
     """The sheet, lowered again, gives listing and constants; and its text."""
-    sheet = folder.read("sheet", library.SHEET_LIMIT)
+    sheet = folder.read("sheet", library.LONGEST_SHEET)
     if folder.has("sheet.txt"):
         text = kept.sheet_text(sheet)
         if text is None:

@@ -11,7 +11,7 @@ from fractions import Fraction
 from typing import Dict, List, NamedTuple, Tuple
 
 from .errors import FormulaError
-from .library import SHEET_LIMIT
+from .library import INSTRUCTIONS_LIMIT
 from .syntax import At, Binary, Call, Choice, Inverse, J, Name, Negative, Node, Number, Pi, Power, Program, spine
 from .words import word_of
 
@@ -73,7 +73,6 @@ class Compiler:
     def __init__(self, program: Program) -> None:
         self.program = program
         self.instructions: List[Instruction] = []
-        self.size = 69
         self.constants: List[int] = []
         self.masks = FIRST_MASK
         self.params = {given.name: i for i, given in enumerate(program.givens)}
@@ -88,9 +87,8 @@ class Compiler:
 
     def add(self, at: At, text: str, data: bytes) -> None:
         """One more instruction."""
-        self.size += len(data)
-        if self.size > SHEET_LIMIT:
-            raise self.fail(at, f"too many instructions: a sheet has {SHEET_LIMIT:,} bytes, and they are full here")
+        if len(self.instructions) == INSTRUCTIONS_LIMIT:
+            raise self.fail(at, f"too many instructions: a sheet has at most {INSTRUCTIONS_LIMIT}, and here is one more")
         self.instructions.append(Instruction(text, data, at))
 
     def register(self, at: At, r: int) -> int:
@@ -121,7 +119,6 @@ class Compiler:
             if len(self.constants) == CONSTANTS:
                 raise self.fail(at, f"more than {CONSTANTS} different constants")
             self.constants.append(word)
-            self.size += 12
         index = self.constants.index(word)
         self.add(at, f"LoadConst G{d} {index}", record(6, d, index, 0))
         return True

@@ -19,6 +19,7 @@ WORDS = {
     11: "unequal records",
     12: "wrong window",
     13: "wrong points",
+    14: "sheet too long",
 }
 
 

@@ -12,7 +12,9 @@ from typing import List, NamedTuple, Optional, Sequence, Tuple
 
 from .errors import LibraryMissing, Refused
 
-SHEET_LIMIT = 16384
+INSTRUCTIONS_LIMIT = 612
+LONGEST_SHEET = 9201
+"""Bytes of the longest sheet that is accepted."""
 LISTING_LIMIT = 65536
 CONSTANTS = 2048
 STORE = 12816

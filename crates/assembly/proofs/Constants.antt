@@ -45,10 +45,10 @@ pub record Reached (s : List ℕ) (i n stage : ℕ) : Type 0 where
   pub far : ℕ
   pub some : 1 ≤ far
   pub early : far ≤ 2
-  pub way : Onward (record { bytes = take (69 + 12 * i) s; count = i; stage = stage }) (constantLines (constantsFromOn s n i))
-      (record { bytes = take (69 + 12 * (i + n)) s; count = i + n; stage = far })
+  pub way : Onward (record { bytes = take (69 + 12 * i) s; count = i; instructions = 0; stage = stage }) (constantLines (constantsFromOn s n i))
+      (record { bytes = take (69 + 12 * (i + n)) s; count = i + n; instructions = 0; stage = far })
 
-module _ (s : List ℕ) (long : length s ≤ 16384) (least : 69 ≤ length s) (bytes : Bytes s) where
+module _ (s : List ℕ) (least : 69 ≤ length s) (bytes : Bytes s) where
   none : (i stage n : ℕ) → 1 ≤ stage → stage ≤ 2 → 0 ≡ n → Reached s i n stage
   unfolding constantLines
   none i stage n h k e =
@@ -58,13 +58,13 @@ module _ (s : List ℕ) (long : length s ≤ 16384) (least : 69 ≤ length s) (b
         far = stage;
         some = h;
         early = k;
-        way = onward-as refl (ap (λ m. record { bytes = take (69 + 12 * m) s; count = m; stage = stage }) z) stay;
+        way = onward-as refl (ap (λ m. record { bytes = take (69 + 12 * m) s; count = m; instructions = 0; stage = stage }) z) stay;
       })
 
   one : (i stage : ℕ) → i < 251 → 1 ≤ stage → stage ≤ 2 → isConstant (drop (69 + 12 * i) s) ≡ true → isBroken (drop (69 + 12 * i) s) ≡ false
-      → Onward (record { bytes = take (69 + 12 * i) s; count = i; stage = stage }) (constantLine (constantAt s i))
-      (record { bytes = take (69 + 12 * suc i) s; count = suc i; stage = 2 })
-  unfolding withLine grown constantAt Words.wordAt
+      → Onward (record { bytes = take (69 + 12 * i) s; count = i; instructions = 0; stage = stage }) (constantLine (constantAt s i))
+      (record { bytes = take (69 + 12 * suc i) s; count = suc i; instructions = 0; stage = 2 })
+  unfolding withLine constantAt Words.wordAt
   one i stage h k l e f =
       let at = 69 + 12 * i in
       let u = drop at s in
@@ -78,12 +78,10 @@ module _ (s : List ℕ) (long : length s ≤ 16384) (least : 69 ≤ length s) (b
       let b : at + 12 ≡ 69 + 12 * suc i = omega arith in
       let c = retold (ap (λ x. constantLine (number (take 8 x))) (drop-drop 4 at s ∙ ap (λ n. drop n s) (sym a))) refl
       (said u full (λ j. subst (λ x. x < 256) (sym (getD-drop at s j 0)) (bytes (at + j))) w v) in
-      let m : ltb 16384 (length (take at s) + length (take 12 u)) ≡ false = le-ltb 16384 (length (take at s) + length (take 12 u)) (omega (arith, p, q, d, full, long, least)) in
       by-line c k
-      (ap (λ t. refuse t 3 (refuse (leb 251 i) 2 (refuse (ltb 16384 (length (take at s) + length (take 12 u))) 2 (got (record { bytes = take at s ++ take 12 u; count = suc i; stage = 2 }))))) (le-ltb 2 stage l)
-      ∙ ap (λ t. refuse t 2 (refuse (ltb 16384 (length (take at s) + length (take 12 u))) 2 (got (record { bytes = take at s ++ take 12 u; count = suc i; stage = 2 })))) (lt-leb 251 i h)
-      ∙ ap (λ t. refuse t 2 (got (record { bytes = take at s ++ take 12 u; count = suc i; stage = 2 }))) m
-      ∙ ap (λ b. got (record { bytes = b; count = suc i; stage = 2 })) (sym (take-add at 12 s) ∙ ap (λ n. take n s) b))
+      (ap (λ t. refuse t 3 (refuse (leb 251 i) 2 (got (record { bytes = take at s ++ take 12 u; count = suc i; instructions = 0; stage = 2 })))) (le-ltb 2 stage l)
+      ∙ ap (λ t. refuse t 2 (got (record { bytes = take at s ++ take 12 u; count = suc i; instructions = 0; stage = 2 }))) (lt-leb 251 i h)
+      ∙ ap (λ b. got (record { bytes = b; count = suc i; instructions = 0; stage = 2 })) (sym (take-add at 12 s) ∙ ap (λ n. take n s) b))
 
   -- one more, where some follow
   more : (i stage n : ℕ) (x : Read ℕ) → i < 251 → 1 ≤ stage → stage ≤ 2 → isConstant (drop (69 + 12 * i) s) ≡ true → isBroken (drop (69 + 12 * i) s) ≡ false
@@ -99,7 +97,7 @@ module _ (s : List ℕ) (long : length s ≤ 16384) (least : 69 ≤ length s) (b
         far = r .far;
         some = r .some;
         early = r .early;
-        way = onward-as refl (ap (λ m. record { bytes = take (69 + 12 * m) s; count = m; stage = r .far }) z) (one i stage h k l e f ▹ r .way);
+        way = onward-as refl (ap (λ m. record { bytes = take (69 + 12 * m) s; count = m; instructions = 0; stage = r .far }) z) (one i stage h k l e f ▹ r .way);
       })
   more i stage n (refused m) h k l e f g rest = absurd (clash m n g)
 

@@ -4,7 +4,7 @@ use mathlib.Core.Path.{_≡_, refl, sym, ap, _∙_, subst}
 use mathlib.Core.Bool.{Bool, true, false, not, cond}
 use mathlib.Core.List.{List, [], _∷_, _++_}
 use native.Mathlib.Omega.{arith}
-use borrow.Author.Tests.{ltb-true, ltb-false, le-ltb, eq-eqb, eqb-true}
+use borrow.Author.Tests.{ltb-true, ltb-false, le-ltb, lt-leb, eq-eqb, eqb-true}
 use lib.Dec.{ltb, eqb}
 use lib.ListN.{length, getD, take, drop, length-drop, drop-of-length-le}
 use lib.Seq.{length-take-le, getD-take, getD-drop, take-all, take-add, drop-drop}
@@ -22,7 +22,7 @@ use Rattle.sheet.specs.Instruction.{fieldsFrom, instructionFrom, loadMathFrom, 
 use Rattle.sheet.proofs.Reading.{whole}
 use Rattle.assembly.specs.Lines.{instructionLine}
 use Rattle.assembly.specs.SheetText.{instructionLines}
-use Rattle.assembly.specs.Assembled.{instruction, Draft, grown, isGot, withLine}
+use Rattle.assembly.specs.Assembled.{instruction, Draft, isGot, withLine}
 use Rattle.assembly.proofs.Saying.{Says, Onward, stay, _▹_, onward-as, by-line}
 use Rattle.assembly.proofs.Spelling.{SaysInstruction, Reads, Kind, nop, uni, bi, mov, load, save, load-const, fused, if-else, load-math, load-const-math, label, branch, branch-if}
 
@@ -97,72 +97,75 @@ good count s most bytes =
       sized = z;
     }) (told-so (r .outcome)))
 
--- where the lines of the instructions from a position on lead
-pub record Reached (s : List ℕ) (count at stage : ℕ) (text : List ℕ) : Type 0 where
+-- where the lines of the instructions from a position on lead, of which the first has an index
+pub record Reached (s : List ℕ) (count at index stage : ℕ) (text : List ℕ) : Type 0 where
   pub far : ℕ
   pub some : 1 ≤ far
-  pub way : Onward (record { bytes = take at s; count = count; stage = stage }) text (record { bytes = s; count = count; stage = far })
+  pub instructions : ℕ
+  pub way : Onward (record { bytes = take at s; count = count; instructions = index; stage = stage }) text
+      (record { bytes = s; count = count; instructions = instructions; stage = far })
 
-module _ (s : List ℕ) (count : ℕ) (most : count ≤ 251) (long : length s ≤ 16384) (bytes : Bytes s) where
+module _ (s : List ℕ) (count : ℕ) (most : count ≤ 251) (bytes : Bytes s) where
   abbrev reader : List ℕ → Read Instruction
   reader = instructionFrom count
 
-  at-end : (at stage : ℕ) → length s ≤ at → 1 ≤ stage → Reached s count at stage (instructionLines (items reader (drop at s)))
+  at-end : (at index stage : ℕ) → length s ≤ at → 1 ≤ stage → Reached s count at index stage (instructionLines (items reader (drop at s)))
   unfolding instructionLines
-  at-end at stage h k =
+  at-end at index stage h k =
       let e : items reader (drop at s) ≡ [] = ap (λ l. items reader l) (drop-of-length-le s h) ∙ ap (λ d. d .items) (decoded-none reader) in
       record {
         far = stage;
         some = k;
-        way = onward-as (ap instructionLines (sym e)) (ap (λ b. record { bytes = b; count = count; stage = stage }) (take-all at s h)) stay;
+        instructions = index;
+        way = onward-as (ap instructionLines (sym e)) (ap (λ b. record { bytes = b; count = count; instructions = index; stage = stage }) (take-all at s h)) stay;
       }
 
-  one : (at stage : ℕ) (i : Instruction) → at ≤ length s → 1 ≤ stage → Good count (drop at s) i
-      → Onward (record { bytes = take at s; count = count; stage = stage }) (instructionLine i)
-      (record { bytes = take (at + u16At (drop at s) 0) s; count = count; stage = 3 })
-  unfolding withLine grown
-  one at stage i h k g =
+  one : (at index stage : ℕ) (i : Instruction) → index < 612 → 1 ≤ stage → Good count (drop at s) i
+      → Onward (record { bytes = take at s; count = count; instructions = index; stage = stage }) (instructionLine i)
+      (record { bytes = take (at + u16At (drop at s) 0) s; count = count; instructions = suc index; stage = 3 })
+  unfolding withLine
+  one at index stage i h k g =
       let u = drop at s in
       let n = u16At u 0 in
-      let d = length-drop at s in
-      let z = g .sized in
-      let p = length-take-le at s h in
-      let q = length-take-le n u (z .inside) in
-      let f : ltb 16384 (length (take at s) + length (take n u)) ≡ false = le-ltb 16384 (length (take at s) + length (take n u)) (omega (arith, p, q, d, z .inside, long)) in
+      let larger : Draft = record { bytes = take at s ++ take n u; count = count; instructions = suc index; stage = 3 } in
       by-line (g .spelled) k
-      (ap (λ x. refuse (not (isGot x)) 3 (refuse (ltb 16384 (length (take at s) + length (take n u))) 2 (got (record { bytes = take at s ++ take n u; count = count; stage = 3 })))) (g .again)
-      ∙ ap (λ t. refuse t 2 (got (record { bytes = take at s ++ take n u; count = count; stage = 3 }))) f
-      ∙ ap (λ b. got (record { bytes = b; count = count; stage = 3 })) (sym (take-add at n s)))
+      (ap (λ t. refuse t 4 (refuse (not (isGot (instructionFrom count (take n u)))) 3 (got larger))) (lt-leb 612 index h)
+      ∙ ap (λ x. refuse (not (isGot x)) 3 (got larger)) (g .again)
+      ∙ ap (λ b. got (record { bytes = b; count = count; instructions = suc index; stage = 3 })) (sym (take-add at n s)))
 
   -- the instruction at a position, and those behind it
-  next : (at stage : ℕ) → at < length s → 1 ≤ stage → fault reader (drop at s) ≡ 0
-      → ((m : ℕ) → at < m → m ≤ length s → fault reader (drop m s) ≡ 0 → Reached s count m 3 (instructionLines (items reader (drop m s))))
+  next : (at index stage : ℕ) → at < length s → 1 ≤ stage → fault reader (drop at s) ≡ 0 → index + length (items reader (drop at s)) ≤ 612
+      → ((m : ℕ) → at < m → m ≤ length s → fault reader (drop m s) ≡ 0 → suc index + length (items reader (drop m s)) ≤ 612
+      → Reached s count m (suc index) 3 (instructionLines (items reader (drop m s))))
       → (x : Read Instruction) → reader (drop at s) ≡ x → IfRead (Good count (drop at s)) x
-      → Reached s count at stage (instructionLines (items reader (drop at s)))
+      → Reached s count at index stage (instructionLines (items reader (drop at s)))
   unfolding instructionLines
-  next at stage h k e more (got i) f (read g) =
+  next at index stage h k e b more (got i) f (read g) =
       let n = u16At (drop at s) 0 in
       let d = length-drop at s in
       let z = g .sized in
       let q = decoded-got reader (whole count) (drop at s) i f ∙ ap (λ l. ahead i (decoded reader l)) (drop-drop n at s) in
-      let r = more (at + n) (omega (arith, z .least)) (omega (arith, z .inside, z .least, d)) (sym (ap (λ d. d .fault) q) ∙ e) in
+      let l = ap (λ d. length (d .items)) q in
+      let r = more (at + n) (omega (arith, z .least)) (omega (arith, z .inside, z .least, d)) (sym (ap (λ d. d .fault) q) ∙ e) (omega (arith, b, l)) in
       record {
         far = r .far;
         some = r .some;
-        way = onward-as (ap instructionLines (sym (ap (λ d. d .items) q))) refl (one at stage i (omega arith) k g ▹ r .way);
+        instructions = r .instructions;
+        way = onward-as (ap instructionLines (sym (ap (λ d. d .items) q))) refl (one at index stage i (omega (arith, b, l)) k g ▹ r .way);
       }
-  next at stage h k e more (refused (suc m)) f told =
+  next at index stage h k e b more (refused (suc m)) f told =
       let d = length-drop at s in
       let q = decoded-torn reader (drop at s) (suc m) f (omega (arith, h, d)) in
       let z : suc m ≡ 0 = sym (ap (λ d. d .fault) q) ∙ e in
       absurd (omega (arith, z))
 
-  pub all : (fuel at stage : ℕ) → length s ≤ fuel + at → at ≤ length s → 1 ≤ stage → fault reader (drop at s) ≡ 0
-      → Reached s count at stage (instructionLines (items reader (drop at s)))
-  all zero at stage h l k e = at-end at stage (omega arith) k
-  all (suc fuel) at stage h l k e =
+  pub all : (fuel at index stage : ℕ) → length s ≤ fuel + at → at ≤ length s → 1 ≤ stage → fault reader (drop at s) ≡ 0
+      → index + length (items reader (drop at s)) ≤ 612
+      → Reached s count at index stage (instructionLines (items reader (drop at s)))
+  all zero at index stage h l k e b = at-end at index stage (omega arith) k
+  all (suc fuel) at index stage h l k e b =
       either (ltb at (length s))
       (λ t.
-      next at stage (ltb-true at (length s) t) k e (λ m a b f. all fuel m 3 (omega arith) b (omega arith) f) (reader (drop at s)) refl
+      next at index stage (ltb-true at (length s) t) k e b (λ m a b f c. all fuel m (suc index) 3 (omega arith) b (omega arith) f c) (reader (drop at s)) refl
       (good count (drop at s) most (λ i. subst (λ x. x < 256) (sym (getD-drop at s i 0)) (bytes (at + i)))))
-      (λ t. at-end at stage (ltb-false at (length s) t) k)
+      (λ t. at-end at index stage (ltb-false at (length s) t) k)

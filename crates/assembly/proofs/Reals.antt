@@ -172,7 +172,7 @@ read-place p h = place-back (class p ∷ index p ∷ 0 ∷ []) 0 p refl (omega a
 module _ (a b c d e : ℕ) (ps : List ℕ) (bytes : Bytes ps) (size : length ps ≡ 64) where
   -- the header with the first i bits
   abbrev header : ℕ → Draft
-  header i = record { bytes = a ∷ b ∷ c ∷ d ∷ e ∷ upTo i ps; count = 0; stage = 1 }
+  header i = record { bytes = a ∷ b ∷ c ∷ d ∷ e ∷ upTo i ps; count = 0; instructions = 0; stage = 1 }
 
   one : (i : ℕ) → i < 512 → bitAt ps i ≡ true → Onward (header i) (realLine i) (header (suc i))
   unfolding withLine
@@ -186,13 +186,13 @@ module _ (a b c d e : ℕ) (ps : List ℕ) (bytes : Bytes ps) (size : length ps 
       ∙ ap (λ x. a ∷ b ∷ c ∷ d ∷ e ∷ x) (set-bit (i % 8) k (i / 8) ps l (eqb-true (getD ps (i / 8) 0 / 2 ^ (i % 8) % 2) 1 t) ∙ next i ps bytes) in
       by-line (said i h) (omega arith)
       (ap (withPlace (header i)) (read-place p (q .low))
-      ∙ ap (λ x. andThen x (λ i'. got (record { bytes = marked (a ∷ b ∷ c ∷ d ∷ e ∷ upTo i ps) i'; count = 0; stage = 1 }))) (q .same)
-      ∙ ap (λ x. got (record { bytes = x; count = 0; stage = 1 })) m)
+      ∙ ap (λ x. andThen x (λ i'. got (record { bytes = marked (a ∷ b ∷ c ∷ d ∷ e ∷ upTo i ps) i'; count = 0; instructions = 0; stage = 1 }))) (q .same)
+      ∙ ap (λ x. got (record { bytes = x; count = 0; instructions = 0; stage = 1 })) m)
 
   off : (i : ℕ) → bitAt ps i ≡ false → header i ≡ header (suc i)
   off i t =
       let k : i % 8 < 8 = omega arith in
-      ap (λ x. record { bytes = a ∷ b ∷ c ∷ d ∷ e ∷ x; count = 0; stage = 1 })
+      ap (λ x. record { bytes = a ∷ b ∷ c ∷ d ∷ e ∷ x; count = 0; instructions = 0; stage = 1 })
       (keep-bit (i % 8) k (i / 8) ps (λ f. let z : _≡_ {A = ℕ} 0 1 = cc (eq-eqb (getD ps (i / 8) 0 / 2 ^ (i % 8) % 2) 1 f, t) in omega arith) ∙ next i ps bytes)
 
   step : (i : ℕ) → i < 512 → Onward (header i) (cond (bitAt ps i) (realLine i) []) (header (suc i))
@@ -207,10 +207,10 @@ module _ (a b c d e : ℕ) (ps : List ℕ) (bytes : Bytes ps) (size : length ps 
   from (suc n) i h = step i (omega arith) ▹ from n (suc i) (omega arith)
 
   -- from no real place to all of them
-  pub all : Onward (record { bytes = a ∷ b ∷ c ∷ d ∷ e ∷ replicate 64 0; count = 0; stage = 1 }) (realLines ps 512 0)
-      (record { bytes = a ∷ b ∷ c ∷ d ∷ e ∷ ps; count = 0; stage = 1 })
+  pub all : Onward (record { bytes = a ∷ b ∷ c ∷ d ∷ e ∷ replicate 64 0; count = 0; instructions = 0; stage = 1 }) (realLines ps 512 0)
+      (record { bytes = a ∷ b ∷ c ∷ d ∷ e ∷ ps; count = 0; instructions = 0; stage = 1 })
   all =
       let x : replicate 64 0 ≡ upTo 0 ps = ap (λ n. replicate n 0) (sym size) ∙ none-yet ps in
       let y : upTo 512 ps ≡ ps = ap (λ n. part n 0 ps) (sym size) ∙ all-of ps in
-      subst (λ l. Onward (record { bytes = a ∷ b ∷ c ∷ d ∷ e ∷ l; count = 0; stage = 1 }) (realLines ps 512 0) (record { bytes = a ∷ b ∷ c ∷ d ∷ e ∷ ps; count = 0; stage = 1 })) (sym x)
-      (onward-as refl (ap (λ l. record { bytes = a ∷ b ∷ c ∷ d ∷ e ∷ l; count = 0; stage = 1 }) y) (from 512 0 refl))
+      subst (λ l. Onward (record { bytes = a ∷ b ∷ c ∷ d ∷ e ∷ l; count = 0; instructions = 0; stage = 1 }) (realLines ps 512 0) (record { bytes = a ∷ b ∷ c ∷ d ∷ e ∷ ps; count = 0; instructions = 0; stage = 1 })) (sym x)
+      (onward-as refl (ap (λ l. record { bytes = a ∷ b ∷ c ∷ d ∷ e ∷ l; count = 0; instructions = 0; stage = 1 }) y) (from 512 0 refl))

@@ -66,5 +66,5 @@ pub refused-short : (number reason : ℕ) → length (refusedText number reason)
 unfolding ascii refusedText
 refused-short number reason =
     let d = number-short number in
-    let w = name-short 12 reasons tt reason in
+    let w = name-short 14 reasons tt reason in
     simp length-append (omega (arith, d, w))

@@ -19,7 +19,7 @@ use Rattle.assembly.specs.Reading.{before}
 use Rattle.assembly.specs.declared.reading.LineRead.{LineRead}
 use Rattle.assembly.specs.declared.making.Made.{Made}
 use Rattle.assembly.specs.declared.making.MakeAnswer.{MakeAnswer}
-use Rattle.assembly.specs.Making.{partOf, sheetOf, asSheet, refusal, Room, Makes, withRead, asAssembled}
+use Rattle.assembly.specs.Making.{partOf, sheetOf, asSheet, refusal, Low, Room, Makes, withRead, asAssembled}
 use Rattle.assembly.proofs.Cutting.{cutting, ends-within}
 use Rattle.assembly.proofs.Growing.{makes-as}
 use Rattle.assembly.proofs.Heard.{Heard}
@@ -61,11 +61,6 @@ going-either : (t : Bool) (a b : Read Draft) → Going a → Going b → Going (
 going-either true a b h k = h
 going-either false a b h k = k
 
-going-grown : (s : Draft) (count stage : ℕ) (b : List ℕ) → 0 < stage → Going (grown s count stage b)
-unfolding grown
-going-grown s count stage b h =
-    going-test (ltb 16384 (length (s .bytes) + length b)) 2 (got (record { bytes = s .bytes ++ b; count = count; stage = stage })) h
-
 going-place : (s : Draft) (p : Read Loc) → Going (withPlace s p)
 going-place s (got (Loc.Stack i)) = omega arith
 going-place s (got (Loc.Mem i)) = tt
@@ -77,10 +72,12 @@ unfolding withLine
 going-line s mode b = tt
 going-line s real b = going-test (ltb 1 (s .stage)) 3 (withPlace s (placeAt b 0)) (going-place s (placeAt b 0))
 going-line s constantLine b =
-    going-test (ltb 2 (s .stage)) 3 (refuse (leb 251 (s .count)) 2 (grown s (suc (s .count)) 2 b))
-    (going-test (leb 251 (s .count)) 2 (grown s (suc (s .count)) 2 b) (going-grown s (suc (s .count)) 2 b (omega arith)))
+    let r = got (grown s (suc (s .count)) (s .instructions) 2 b) in
+    going-test (ltb 2 (s .stage)) 3 (refuse (leb 251 (s .count)) 2 r) (going-test (leb 251 (s .count)) 2 r (omega arith))
 going-line s instruction b =
-    going-test (not (isGot (instructionFrom (s .count) b))) 3 (grown s (s .count) 3 b) (going-grown s (s .count) 3 b (omega arith))
+    let r = got (grown s (s .count) (suc (s .instructions)) 3 b) in
+    let t = not (isGot (instructionFrom (s .count) b)) in
+    going-test (leb 612 (s .instructions)) 4 (refuse t 3 r) (going-test t 3 r (omega arith))
 
 going-opened : (p : LineKind) (b : List ℕ) → Going (opened p b)
 going-opened mode b = omega arith
@@ -109,12 +106,12 @@ pub record MadeSoFar (t : List ℕ) (s : Made) (out : List ℕ) (at k : ℕ) : T
   pub fresh : s .stage ≡ 0 → k ≡ 0
   pub same : assembledFrom (suc k) (sheetOf s out) (pieces 10 (drop at t)) ≡ assembled t
 
-pub at-start : (t out : List ℕ) {s : Made} → s ≡ refusal 0 → 16384 ≤ length out → MadeSoFar t s out 0 0
+pub at-start : (t out : List ℕ) {s : Made} → s ≡ refusal 0 → 69184 ≤ length out → MadeSoFar t s out 0 0
 unfolding assembled
 at-start t out e h =
     record {
       near = omega arith;
-      room = (h, subst (λ s. s .len ≤ 16384) (sym e) (omega arith));
+      room = (h, subst Low (sym e) (record { constants = omega arith; instructions = omega arith; bytes = omega arith }));
       fresh = λ z. refl;
       same = ap (λ s. assembledFrom 1 (sheetOf s out) (pieces 10 t)) e;
     }
@@ -169,7 +166,7 @@ module _ (t : List ℕ) (s : Made) (out : List ℕ) (at k e : ℕ) (kept : MadeS
         let some : 0 < m .stage = subst Going (sym (made .same) ∙ x) (going (sheetOf s out) (take (e - at) (drop at t))) in
         record {
           near = omega (arith, far, near);
-          room = (subst (λ n. 16384 ≤ n) (sym w) (kept .room .0), made .low);
+          room = (subst (λ n. 69184 ≤ n) (sym w) (kept .room .0), made .low);
           fresh = λ z. absurd (omega (arith, some, z));
           same =
               ap (λ j. assembledFrom (suc j) (sheetOf m o) (pieces 10 (drop n t))) (add-one k)

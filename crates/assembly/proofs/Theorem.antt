@@ -10,11 +10,14 @@ use lib.ListN.{length, getD, take, drop, replicate, length-drop}
 use lib.Seq.{length-take-le, getD-drop, getD-take}
 use Rattle.mir.specs.Read.{Read, got, refused, andThen}
 use Rattle.mir.specs.Field.{byteAt, u16At}
+use Rattle.mir.specs.Decode.{decoded}
 use Rattle.mir.proofs.Passing.{either, passed, clash}
 use Rattle.mir.proofs.Decoding.{Bytes}
 use Rattle.sheet.specs.declared.setup.Mode.{Mode}
 use Rattle.sheet.specs.declared.setup.Setup.{Setup}
 use Rattle.sheet.specs.Setup.{modeFrom, isStable, headerFrom, constantsFrom, constantsOf, setupWith, setupFrom, setup}
+use Rattle.sheet.specs.Instruction.{instructionFrom, cut}
+use Rattle.sheet.proofs.Limit.{cut-whole, length-cut}
 use Rattle.sheet.proofs.Setting.{Right, right}
 use Rattle.text.specs.Text.{ascii}
 use Rattle.assembly.specs.Lines.{modeLine}
@@ -78,8 +81,7 @@ record Headed (s : List ℕ) (m : Mode) : Type 0 where
 headed : (s : List ℕ) (m : Mode) → headerFrom s ≡ got m → Headed s m
 unfolding headerFrom
 headed s m e =
-    let a = passed (ltb 16384 (length s)) 8 _ m e in
-    let b = passed (ltb (length s) 69) 8 _ m (a .rest) in
+    let b = passed (ltb (length s) 69) 8 _ m e in
     let c = passed (not (eqb (u16At s 0) 69)) 8 _ m (b .rest) in
     let d = passed (not (eqb (u16At s 2) 32)) 8 _ m (c .rest) in
     record {
@@ -111,7 +113,7 @@ known s z = by-header (headerFrom s) refl (constantsFrom 251 (drop 69 s)) refl z
 abbrev Opening : Mode → List ℕ → Type 0
 Opening m s =
     Bytes s → Headed s m → 64 ≤ length (drop 5 s)
-    → Onward noSheet (modeLine (isStable m) ++ realLines (take 64 (drop 5 s)) 512 0) (record { bytes = take 69 s; count = 0; stage = 1 })
+    → Onward noSheet (modeLine (isStable m) ++ realLines (take 64 (drop 5 s)) 512 0) (record { bytes = take 69 s; count = 0; instructions = 0; stage = 1 })
 
 opening : (m : Mode) (s : List ℕ) → 5 ≤ length s → Opening m s
 unfolding u16At
@@ -122,7 +124,7 @@ opening m =
     let f = start 69 32 (modeByte m ∷ take 64 ps) (bytes 0) (bytes 2) (omega arith) (omega arith) (h .size) (h .kind)
     ∙ ap (λ x. a ∷ b ∷ c ∷ d ∷ x ∷ take 64 ps) (sym (h .mode)) in
     by-first (mode-said m) refl refl
-    ▹ onward-as refl (ap (λ l. record { bytes = l; count = 0; stage = 1 }) f) (Reals.all 69 0 32 0 (modeByte m) (take 64 ps) low (length-take-le 64 ps l)))
+    ▹ onward-as refl (ap (λ l. record { bytes = l; count = 0; instructions = 0; stage = 1 }) f) (Reals.all 69 0 32 0 (modeByte m) (take 64 ps) low (length-take-le 64 ps l)))
   where
     below : (ps : List ℕ) (i : ℕ) → Bytes ps → getD (take 64 ps) i 0 < 256
     below ps i h =
@@ -149,12 +151,16 @@ round-trip s bytes r =
         let g : ofSetup s (record { number = 0; mode = k .mode; places = take 64 (drop 5 s); count = n; start = 69 + 12 * n }) .fault ≡ 0 =
         subst (λ u. ofSetup s u .fault ≡ 0) (k .whole) f in
         let a = opening (k .mode) s (omega (arith, in')) bytes (headed s (k .mode) (k .header)) (omega (arith, in', d)) in
-        let b = Constants.all s (q .most) (omega (arith, in')) bytes 251 0 1 n refl (omega arith) (omega arith) (k .constants) in
-        let c = Instructing.all s n few (q .most) bytes (length s) (69 + 12 * n) (b .far) (omega arith) in' (b .some) g in
+        let b = Constants.all s (omega (arith, in')) bytes 251 0 1 n refl (omega arith) (omega arith) (k .constants) in
+        let held = decoded (instructionFrom n) (drop (69 + 12 * n) s) in
+        let all : cut 612 held ≡ held = cut-whole 612 held g in
+        let bound : length (held .items) ≤ 612 = subst (λ d. length (d .items) ≤ 612) all (length-cut 612 held) in
+        let c = Instructing.all s n few bytes (length s) (69 + 12 * n) 0 (b .far) (omega arith) in' (b .some) (sym (ap (λ d. d .fault) all) ∙ g) (omega (arith, bound)) in
         let o : 0 + n ≡ n = omega arith in
         let way : Onward noSheet (linesOf s (record { number = 0; mode = k .mode; places = take 64 (drop 5 s); count = n; start = 69 + 12 * n }))
-        (record { bytes = s; count = n; stage = c .far }) =
-        a ▹ onward-as refl (ap (λ m. record { bytes = take (69 + 12 * m) s; count = m; stage = b .far }) o) (b .way) ▹ c .way in
+        (record { bytes = s; count = n; instructions = c .instructions; stage = c .far }) =
+        a ▹ onward-as refl (ap (λ m. record { bytes = take (69 + 12 * m) s; count = m; instructions = 0; stage = b .far }) o) (b .way)
+        ▹ onward-as (ap (λ d. instructionLines (d .items)) (sym all)) refl (c .way) in
         let e : eqb (c .far) 0 ≡ false = ne-eqb (c .far) 0 (λ x. omega (arith, x, c .some)) in
         ap (λ u. assembledFrom 1 noSheet (pieces 10 (linesOf s u))) (k .whole)
         ∙ ap (λ l. assembledFrom 1 noSheet (pieces 10 l)) (sym (append-nil (linesOf s (record { number = 0; mode = k .mode; places = take 64 (drop 5 s); count = n; start = 69 + 12 * n }))))

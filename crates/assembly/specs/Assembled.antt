@@ -179,11 +179,12 @@ lineOf (w ∷ ws) =
     andThen (numberFrom 0 (map (λ h. h .word) heads) w)
     (λ n. andThen (takingAll (getD heads n nothing .sorts) (got (begun (getD heads n nothing) ws))) (λ r. noMore r (r .words)))
 
--- a sheet that is being made: its bytes, its constants, and how far it is (0: no mode yet, 1: real places may follow, 2: constants,
--- 3: instructions)
+-- a sheet that is being made: its bytes, how many constants and how many instructions it has, and how far it is (0: no mode yet, 1: real
+-- places may follow, 2: constants, 3: instructions)
 pub record Draft : Type 0 where
   pub bytes : List ℕ
   pub count : ℕ
+  pub instructions : ℕ
   pub stage : ℕ
 
 -- the header's bit of a place that may be real: "Mem is always complex"
@@ -198,32 +199,34 @@ marked s i =
     let b = getD s (5 + i / 8) 0 in
     set s (5 + i / 8) (cond (eqb (b / 2 ^ (i % 8) % 2) 1) b (b + 2 ^ (i % 8)))
 
--- bytes behind those of a sheet: at most 16,384
-unfoldable pub grown : Draft → ℕ → ℕ → List ℕ → Read Draft
-grown s count stage b =
-    refuse (ltb 16384 (length (s .bytes) + length b)) 2 (got (record { bytes = s .bytes ++ b; count = count; stage = stage }))
+-- bytes behind those of a sheet
+abbrev pub grown : Draft → ℕ → ℕ → ℕ → List ℕ → Draft
+grown s count instructions stage b = record { bytes = s .bytes ++ b; count = count; instructions = instructions; stage = stage }
 
 -- whether a sheet with so many constants takes an instruction's bytes
 abbrev pub isGot : Read Instruction → Bool
 isGot (got i) = true
 isGot (refused n) = false
 
--- one line more: real places first, then constants, at most 251, then instructions
+-- one line more: real places first, then constants, at most 251, then instructions, at most 612: the one behind them is refused whatever it
+-- is
 abbrev pub withPlace : Draft → Read Loc → Read Draft
-withPlace s (got p) = andThen (bitOf p) (λ i. got (record { bytes = marked (s .bytes) i; count = 0; stage = 1 }))
+withPlace s (got p) = andThen (bitOf p) (λ i. got (record { bytes = marked (s .bytes) i; count = s .count; instructions = s .instructions; stage = 1 }))
 withPlace s (refused n) = refused 3
 
 unfoldable pub withLine : Draft → LineKind → List ℕ → Read Draft
-unfolding marked grown
+unfolding marked
 withLine s mode b = refused 3
 withLine s real b = refuse (ltb 1 (s .stage)) 3 (withPlace s (placeAt b 0))
 withLine s constantLine b =
-    refuse (ltb 2 (s .stage)) 3 (refuse (leb 251 (s .count)) 2 (grown s (suc (s .count)) 2 b))
-withLine s instruction b = refuse (not (isGot (instructionFrom (s .count) b))) 3 (grown s (s .count) 3 b)
+    refuse (ltb 2 (s .stage)) 3 (refuse (leb 251 (s .count)) 2 (got (grown s (suc (s .count)) (s .instructions) 2 b)))
+withLine s instruction b =
+    refuse (leb 612 (s .instructions)) 4
+    (refuse (not (isGot (instructionFrom (s .count) b))) 3 (got (grown s (s .count) (suc (s .instructions)) 3 b)))
 
 -- the first line: the mode, no place real
 abbrev pub opened : LineKind → List ℕ → Read Draft
-opened mode b = got (record { bytes = b ++ replicate 64 0; count = 0; stage = 1 })
+opened mode b = got (record { bytes = b ++ replicate 64 0; count = 0; instructions = 0; stage = 1 })
 opened real b = refused 1
 opened constantLine b = refused 1
 opened instruction b = refused 1
@@ -237,7 +240,8 @@ unfolding pieces lineOf withLine
 stepped s l =
     cond (eqb (s .stage) 0) (firstLine (lineOf (pieces 32 l))) (andThen (lineOf (pieces 32 l)) (λ r. withLine s (r .part) (r .bytes)))
 
--- a sheet's bytes, or the number of the first line that is refused, and why (1: no mode, 2: sheet full, 3: no such line)
+-- a sheet's bytes, or the number of the first line that is refused, and why (1: no mode, 2: sheet full, with 251 constants, 3: no
+-- such line, 4: sheet too long)
 pub data Assembled : Type 0 where
   accepted : List ℕ → Assembled
   refusedAt : ℕ → ℕ → Assembled
@@ -256,7 +260,7 @@ assembledFrom n s [] = ended n s
 assembledFrom n s (l ∷ ls) = afterLine n (stepped s l) (λ s. assembledFrom (suc n) s ls)
 
 abbrev pub noSheet : Draft
-noSheet = record { bytes = []; count = 0; stage = 0 }
+noSheet = record { bytes = []; count = 0; instructions = 0; stage = 0 }
 
 unfoldable pub assembled : List ℕ → Assembled
 unfolding pieces assembledFrom

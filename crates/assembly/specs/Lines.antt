@@ -60,9 +60,9 @@ instructionLine (Instruction.Label l) = recordLine (Record.Label l)
 instructionLine (Instruction.Branch l) = recordLine (Record.Branch l)
 instructionLine (Instruction.BranchIf c l e) = recordLine (Record.BranchIf (named c) l e)
 
--- why a text is refused, by number: 1, 2 or 3
+-- why a text is refused, by number: 1, 2, 3 or 4
 abbrev pub reasons : List String
-reasons = "" ∷ "no mode" ∷ "sheet full" ∷ "no such line" ∷ []
+reasons = "" ∷ "no mode" ∷ "sheet full" ∷ "no such line" ∷ "sheet too long" ∷ []
 
 -- a text that is no sheet's, by its first line that is not
 unfoldable pub refusedText : ℕ → ℕ → List ℕ

@@ -1,5 +1,5 @@
 -- How the program makes a sheet: in lent bytes, at whose front the sheet's stand. What the code keeps, as the definitions' own.
-use Prim.Native.Nat.{ℕ, _+_, _/_, _%_, _≤_}
+use Prim.Native.Nat.{ℕ, _+_, _*_, _/_, _%_, _≤_}
 use mathlib.Core.Path.{_≡_}
 use mathlib.Core.Bool.{cond}
 use mathlib.Core.List.{List}
@@ -46,7 +46,7 @@ withBit b p = cond (eqb (b / p % 2) 1) b (b + p)
 
 -- the sheet whose bytes stand at the front of others
 abbrev pub sheetOf : Made → List ℕ → Draft
-sheetOf m out = record { bytes = take (m .len) out; count = m .count; stage = m .stage }
+sheetOf m out = record { bytes = take (m .len) out; count = m .count; instructions = m .instructions; stage = m .stage }
 
 -- the sheet, or why its last line is refused
 abbrev pub asSheet : Made → List ℕ → Read Draft
@@ -54,16 +54,28 @@ asSheet m out = cond (eqb (m .why) 0) (got (sheetOf m out)) (refused (m .why))
 
 -- no sheet, for a reason
 abbrev pub refusal : ℕ → Made
-refusal why = record { len = 0; count = 0; stage = 0; why = why }
+refusal why = record { len = 0; count = 0; instructions = 0; stage = 0; why = why }
+
+-- no more constants and instructions than a sheet may have, and a line's bytes are at most 80
+pub record Low (m : Made) : Type 0 where
+  pub constants : m .count ≤ 251
+  pub instructions : m .instructions ≤ 612
+  pub bytes : m .len ≤ 144 + 80 * (m .count + m .instructions)
 
 -- there is room for any sheet
 abbrev pub Room : Made → List ℕ → Type 0
-Room m out = (16384 ≤ length out) × (m .len ≤ 16384)
+Room m out = (69184 ≤ length out) × Low m
+
+-- one constant or one instruction more, within the limits
+pub record Grows (m : Made) (count instructions : ℕ) : Type 0 where
+  pub more : m .count + m .instructions + 1 ≤ count + instructions
+  pub constants : count ≤ 251
+  pub limit : instructions ≤ 612
 
 -- the answer stands in the bytes
 pub record Makes (answer : Read Draft) (m : Made) (out : List ℕ) : Type 0 where
   pub same : asSheet m out ≡ answer
-  pub low : m .len ≤ 16384
+  pub low : Low m
 
 -- a line that was read, put: the first is the mode
 abbrev pub withRead : Draft → LineKind → List ℕ → Read Draft

@@ -160,7 +160,10 @@ pub fn refused_line(number: u64, why: u8) -> Line
         .text(b"refused line")
         .number(number)
         .byte(b' ')
-        .word_in(b"/no mode/sheet full/no such line/", why as u64)
+        .word_in(
+            b"/no mode/sheet full/no such line/sheet too long/",
+            why as u64,
+        )
         .byte(b'\n')
 }
 

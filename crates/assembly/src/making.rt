@@ -2,12 +2,13 @@
 ghost use Prim.Native.Nat.{_^_, _%_, _≤_};
 ghost use mathlib.Core.Path.{_≡_};
 ghost use lib.ListN.{length, take};
+ghost use Rattle.mir.specs.Read.{got};
 ghost use Rattle.mir.specs.Field.{placeAt};
 ghost use Rattle.assembly.specs.Assembled.{real, constantLine, instruction, marked, grown, withLine, opened, stepped};
 ghost use Rattle.assembly.specs.Assembled.{assembled, outcome, written};
 ghost use Rattle.assembly.specs.Lines.{longText};
 ghost use Rattle.assembly.specs.Reading.{asNumber};
-ghost use Rattle.assembly.specs.Making.{partOf, placeBit, withBit, sheetOf, refusal, Room, Makes, withRead, asAssembled};
+ghost use Rattle.assembly.specs.Making.{partOf, placeBit, withBit, sheetOf, refusal, Room, Grows, Makes, withRead, asAssembled};
 use super::lines::long_line;
 use super::lines::refused_line;
 use super::reading::Number;
@@ -17,14 +18,16 @@ use super::reading::read_line;
 use lowering::realness::power_of;
 use mir::fields::byte;
 use mir::fields::u16_at;
+use sheet::reader::LONGEST;
 use sheet::reader::NextInstruction;
 use sheet::reader::read_instruction;
 use words::put_bytes;
 
-// A sheet that is being made: its bytes, its constants, how far it is, and why its last line is refused (0: it is not).
+// A sheet that is being made: its bytes, its constants, its instructions, how far it is, and why its last line is refused (0: it is not).
 pub(crate) struct Made {
     pub(crate) len: usize,
     pub(crate) count: usize,
+    pub(crate) instructions: usize,
     pub(crate) stage: u8,
     pub(crate) why: u8,
 }
@@ -35,6 +38,7 @@ fn refuse(why: u8) -> Made
     Made {
         len: 0,
         count: 0,
+        instructions: 0,
         stage: 0,
         why: why,
     }
@@ -95,28 +99,25 @@ fn with_real(out: &mut [u8], s: Made, b: &[u8]) -> Made
     mark(out, i);
     Made {
         len: s.len,
-        count: 0,
+        count: s.count,
+        instructions: s.instructions,
         stage: 1,
         why: 0,
     }
 }
 
-// Bytes behind those of a sheet: at most 16,384.
-fn grow(out: &mut [u8], s: Made, count: usize, stage: u8, b: &[u8]) -> Made
-    requires { ⌜ Room s (now out) ⌝ }
-    ensures { λ r. ⌜ Makes (grown (sheetOf s (now (out .entry))) count stage (now (b .entry))) r (now (out .exit)) ⌝ }
+// Bytes behind those of a sheet, a constant's or an instruction's.
+fn grow(out: &mut [u8], s: Made, count: usize, instructions: usize, stage: u8, b: &[u8]) -> Made
+    requires { ⌜ Room s (now out) × (length (now b) ≤ 80) ⌝ }
+    requires { ⌜ Grows s count instructions ⌝ }
+    ensures { λ r. ⌜ Makes (got (grown (sheetOf s (now (out .entry))) count instructions stage (now (b .entry)))) r (now (out .exit)) ⌝ }
 {
     let len = s.len;
-    if 16384 < b.len() {
-        return refuse(2);
-    }
-    if 16384 - b.len() < len {
-        return refuse(2);
-    }
     put_bytes(out, len, b);
     Made {
         len: len + b.len(),
         count: count,
+        instructions: instructions,
         stage: stage,
         why: 0,
     }
@@ -124,7 +125,7 @@ fn grow(out: &mut [u8], s: Made, count: usize, stage: u8, b: &[u8]) -> Made
 
 // A constant more.
 fn with_constant(out: &mut [u8], s: Made, b: &[u8]) -> Made
-    requires { ⌜ Room s (now out) ⌝ }
+    requires { ⌜ Room s (now out) × (length (now b) ≤ 80) ⌝ }
     ensures { λ r. ⌜ Makes (withLine (sheetOf s (now (out .entry))) constantLine (now (b .entry))) r (now (out .exit)) ⌝ }
 {
     if 2 < s.stage {
@@ -134,24 +135,28 @@ fn with_constant(out: &mut [u8], s: Made, b: &[u8]) -> Made
     if 251 <= count {
         return refuse(2);
     }
-    grow(out, s, count + 1, 2, b)
+    grow(out, s, count + 1, s.instructions, 2, b)
 }
 
-// An instruction more.
+// An instruction more, but not one too many.
 fn with_instruction(out: &mut [u8], s: Made, b: &[u8]) -> Made
-    requires { ⌜ Room s (now out) ⌝ }
+    requires { ⌜ Room s (now out) × (length (now b) ≤ 80) ⌝ }
     ensures { λ r. ⌜ Makes (withLine (sheetOf s (now (out .entry))) instruction (now (b .entry))) r (now (out .exit)) ⌝ }
 {
+    let instructions = s.instructions;
+    if LONGEST <= instructions {
+        return refuse(4);
+    }
     let count = s.count;
     let NextInstruction::Got(_, _) = read_instruction(b, 0, count) else {
         return refuse(3);
     };
-    grow(out, s, count, 3, b)
+    grow(out, s, count, instructions + 1, 3, b)
 }
 
 // A line more, by the number of its first word.
 fn with_line(out: &mut [u8], s: Made, head: usize, b: &[u8]) -> Made
-    requires { ⌜ Room s (now out) ⌝ }
+    requires { ⌜ Room s (now out) × (length (now b) ≤ 80) ⌝ }
     ensures { λ r. ⌜ Makes (withLine (sheetOf s (now (out .entry))) (partOf head) (now (b .entry))) r (now (out .exit)) ⌝ }
 {
     if head == 0 {
@@ -168,7 +173,7 @@ fn with_line(out: &mut [u8], s: Made, head: usize, b: &[u8]) -> Made
 
 // The first line: the mode, no place real.
 fn open(out: &mut [u8], head: usize, b: &[u8]) -> Made
-    requires { ⌜ (16384 ≤ length (now out)) × (length (now b) ≤ 80) ⌝ }
+    requires { ⌜ (69184 ≤ length (now out)) × (length (now b) ≤ 80) ⌝ }
     ensures { λ r. ⌜ Makes (opened (partOf head) (now (b .entry))) r (now (out .exit)) ⌝ }
 {
     if head != 0 {
@@ -180,6 +185,7 @@ fn open(out: &mut [u8], head: usize, b: &[u8]) -> Made
     Made {
         len: b.len() + 64,
         count: 0,
+        instructions: 0,
         stage: 1,
         why: 0,
     }
@@ -233,8 +239,8 @@ pub(crate) struct MakeAnswer {
 
 // The lines of a text, one after the other.
 fn make(out: &mut [u8], t: &[u8]) -> MakeAnswer
-    requires { ⌜ 16384 ≤ length (now out) ⌝ }
-    ensures { λ r. ⌜ (asAssembled r (now (out .exit)) ≡ assembled (now (t .entry))) × (r .len ≤ 16384) ⌝ }
+    requires { ⌜ 69184 ≤ length (now out) ⌝ }
+    ensures { λ r. ⌜ (asAssembled r (now (out .exit)) ≡ assembled (now (t .entry))) × (r .len ≤ 69184) ⌝ }
 {
     let mut s = refuse(0);
     let mut at: usize = 0;
@@ -266,9 +272,9 @@ fn make(out: &mut [u8], t: &[u8]) -> MakeAnswer
     }
 }
 
-// What the program `assemble` writes.
+// What the program `assemble` writes: there is room for 144 bytes and 80 for each constant and each instruction.
 pub struct Written {
-    pub bytes: [u8; 16384],
+    pub bytes: [u8; 69184],
     pub len: usize,
 }
 
@@ -277,7 +283,7 @@ fn sheet_or_refusal(t: &[u8]) -> Written
     ensures { λ r. ⌜ take (r .len) (r .bytes) ≡ outcome (assembled (now (t .entry))) ⌝ }
     ensures { λ r. ⌜ r .len ≡ length (outcome (assembled (now (t .entry)))) ⌝ }
 {
-    let mut out = [0u8; 16384];
+    let mut out = [0u8; 69184];
     let e = make(&mut out, t);
     if e.why == 0 {
         return Written {
@@ -299,7 +305,7 @@ fn too_long() -> Written
     ensures { λ r. ⌜ take (r .len) (r .bytes) ≡ longText ⌝ }
     ensures { λ r. ⌜ r .len ≡ length longText ⌝ }
 {
-    let mut out = [0u8; 16384];
+    let mut out = [0u8; 69184];
     let line = long_line();
     let bytes = line.bytes;
     put_bytes(&mut out, 0, &bytes);

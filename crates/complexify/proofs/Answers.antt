@@ -44,7 +44,7 @@ module _ (sheet listing constants : List ℕ) (x : Setup) (e : x ≡ setup sheet
   wrong-constants n l c h = refusing (simp (← e, eq-eqb _ _ n, le-ltb _ _ l, ne-eqb _ _ c)) h
 
   module _ (n : x .number ≡ 0) (l : length listing ≤ 65536) (c : length constants ≡ 256) where
-    pub known : Right sheet (setup sheet)
+    known : Right sheet (setup sheet)
     known = right sheet (ap (λ x. x .number) (sym e) ∙ n)
 
     pub own-few : x .count ≤ 251

@@ -14,11 +14,12 @@ use Rattle.mir.proofs.Passing.{either}
 use Rattle.mir.proofs.Decoding.{Here, Done}
 use Rattle.mir.specs.Read.{Read, got, refused, andThen}
 use Rattle.mir.specs.Field.{u16At}
-use Rattle.mir.specs.Decode.{readAt, Decoded, decoded}
+use Rattle.mir.specs.Decode.{readAt, Decoded}
 use Rattle.sheet.specs.declared.setup.Mode.{Mode}
 use Rattle.sheet.specs.declared.reader.NextInstruction.{NextInstruction}
 use Rattle.sheet.specs.Setup.{isStable}
-use Rattle.sheet.specs.Instruction.{instructionFrom, instructionAt, asNext}
+use Rattle.sheet.specs.Instruction.{instructionFrom, instructionAt, instructionsOn, asNext}
+use Rattle.sheet.proofs.Limit.{nothing, on-here, on-done, on-end, on-full}
 use Rattle.sheet.proofs.Reading.{here-instruction, past-instruction, torn-instruction}
 use Rattle.lowering.specs.declared.realness.Realness.{Realness}
 use Rattle.lowering.specs.Complexifier.{State}
@@ -250,15 +251,16 @@ pub cond-right : {A : Type 0} (b : Bool) (x y z : A) → (b ≡ false → y ≡ 
 cond-right true x y z f = refl
 cond-right false x y z f = f refl
 
--- where no instruction stands, or one that is refused, nothing is left
-stopped : (mode : Mode) (room own : ℕ) (sheet : List ℕ) (b : Standing) (listing constants : List ℕ) (p : Cursor) (k : ℕ) → Done (instructionFrom own) sheet (p .at) k
+-- the instructions from a position on, of which the first has an index
+abbrev pub decodedAt : ℕ → List ℕ → ℕ → ℕ → Decoded Instruction
+decodedAt own sheet index at = instructionsOn index own (drop at sheet)
+
+-- where none stands, or one that is refused, nothing is left
+stopped : (mode : Mode) (room own : ℕ) (sheet : List ℕ) (b : Standing) (listing constants : List ℕ) (p : Cursor) (k : ℕ)
+    → decodedAt own sheet (p .index) (p .at) ≡ nothing k
     → left mode room own sheet b listing constants p ≡ endedAt k listing constants p
 stopped mode room own sheet b listing constants p k h =
-    let rest = drop (p .at) sheet in
-    let d = decoded (instructionFrom own) rest in
-    ap (λ is. goesOn mode room is (d .fault) rest b listing constants p) (h .same)
-    ∙ ap (λ f. goesOn mode room [] f rest b listing constants p) (h .why)
-    ∙ lower-end mode room k _ _ _ _ _
+    ap (λ d. goesOn mode room (d .items) (d .fault) (drop (p .at) sheet) b listing constants p) h ∙ lower-end mode room k _ _ _ _ _
 
 -- what looking ahead sees first
 pub seen : (own : ℕ) (rest : List ℕ) (i : Instruction) → instructionFrom own rest ≡ got i → SeenFirst (role i) rest
@@ -270,18 +272,15 @@ seen own rest i e l = seen-first own l rest i e ∙ ap (λ (q : Bool). q || late
     by (Labels.branches m) = refl
 
 -- an instruction that stands at a position
-abbrev pub decodedAt : ℕ → List ℕ → ℕ → Decoded Instruction
-decodedAt own sheet at = decoded (instructionFrom own) (drop at sheet)
-
-stands-here : (mode : Mode) (own : ℕ) (sheet : List ℕ) (b : Standing) (listing constants : List ℕ) (p : Cursor) {i : Instruction} {next : ℕ}
+stands-here : (mode : Mode) (own : ℕ) (sheet : List ℕ) (b : Standing) (listing constants : List ℕ) (p : Cursor) {i : Instruction} {next : ℕ} → p .index < 612
     → Here (instructionFrom own) sheet (p .at) i next
-    → left mode (length listing) own sheet b listing constants p
-    ≡ goesOn mode (length listing) (i ∷ decodedAt own sheet next .items) (decodedAt own sheet next .fault) (drop (p .at) sheet) b listing constants p
-stands-here mode own sheet b listing constants p {i} {next} h =
-    ap (λ is. goesOn mode (length listing) is (decodedAt own sheet (p .at) .fault) (drop (p .at) sheet) b listing constants p) (h .same)
-    ∙ ap (λ f. goesOn mode (length listing) (i ∷ decodedAt own sheet next .items) f (drop (p .at) sheet) b listing constants p) (h .sound)
+    → let d = decodedAt own sheet (suc (p .index)) next in
+    left mode (length listing) own sheet b listing constants p
+    ≡ goesOn mode (length listing) (i ∷ d .items) (d .fault) (drop (p .at) sheet) b listing constants p
+stands-here mode own sheet b listing constants p {i} {next} l h =
+    ap (λ d. goesOn mode (length listing) (d .items) (d .fault) (drop (p .at) sheet) b listing constants p) (on-here own sheet (p .at) l h)
 
-module _ {mode : Mode} {own : ℕ} {sheet listing constants marks rows : List ℕ} {p : Cursor} where
+module _ {mode : Mode} {own : ℕ} {sheet listing constants marks rows : List ℕ} {p : Cursor} (few : p .index < 612) where
   module _ {i : Instruction} {next : ℕ} {marks' rows' : List ℕ} {n : ℕ} (h : Here (instructionFrom own) sheet (p .at) i next)
       (e : instructionFrom own (drop (p .at) sheet) ≡ got i) (w : Follows (role i) (p .low .real) marks rows marks' rows' n) where
     turn-got : {listing' constants' : List ℕ} {r : Next} → past (drop (p .at) sheet) ≡ drop next sheet → n ≡ 0
@@ -294,15 +293,18 @@ module _ {mode : Mode} {own : ℕ} {sheet listing constants marks rows : List �
               let f = seen own rest i e in
               let o = neither (role i) b (past rest) (p .low .real) (sym (w .told b rest f t) ∙ z) in
               let after = passed (role i) (p .low .real) b in
+              let index = suc (p .index) in
+              let d = decodedAt own sheet index next in
               record {
                 before = after;
                 same =
-                    stands-here mode own sheet b listing constants p h
-                    ∙ l .same (decodedAt own sheet next .items) (decodedAt own sheet next .fault) rest b (o .0) (o .1)
+                    stands-here mode own sheet b listing constants p few h
+                    ∙ l .same (d .items) (d .fault) rest b (o .0) (o .1)
                     ∙ cond-right (r .done) _ _ _
                     (λ z.
-                    ap (λ rest. goesOn mode (length listing) (decodedAt own sheet next .items) (decodedAt own sheet next .fault) rest after listing' constants' (r .stand)) g
-                    ∙ ap (λ at. goesOn mode (length listing) (decodedAt own sheet at .items) (decodedAt own sheet at .fault) (drop at sheet) after listing' constants' (r .stand)) (sym (l .at z)));
+                    ap (λ rest. goesOn mode (length listing) (d .items) (d .fault) rest after listing' constants' (r .stand)) g
+                    ∙ ap (λ at. goesOn mode (length listing) (decodedAt own sheet index at .items) (decodedAt own sheet index at .fault) (drop at sheet) after listing' constants' (r .stand)) (sym (l .at z))
+                    ∙ ap (λ index. goesOn mode (length listing) (decodedAt own sheet index (r .stand .at) .items) (decodedAt own sheet index (r .stand .at) .fault) (drop (r .stand .at) sheet) after listing' constants' (r .stand)) (sym (l .index z)));
                 noted = λ y.
                     subst (λ rest. Noted after rest marks' rows') (g ∙ ap (λ at. drop at sheet) (sym (l .at y))) (w .noted b rest f t z);
               };
@@ -322,7 +324,7 @@ module _ {mode : Mode} {own : ℕ} {sheet listing constants marks rows : List �
               record {
                 before = b;
                 same =
-                    stands-here mode own sheet b listing constants p h
+                    stands-here mode own sheet b listing constants p few h
                     ∙ refused-label mode (length listing) i b (past rest) _ _ (λ n. endedAt n listing constants p) _ n (w .told b rest (seen own rest i e) t) z;
                 noted = no;
               };
@@ -331,15 +333,23 @@ module _ {mode : Mode} {own : ℕ} {sheet listing constants marks rows : List �
           turned = unchanged n r;
         }
 
-  turn-torn : {stage marks' rows' : List ℕ} {k : ℕ} → Ready stage listing constants p → Done (instructionFrom own) sheet (p .at) k
-      → Turn mode own sheet listing constants marks rows p listing constants marks' rows' (refusal k p)
-  turn-torn {k = k} r h =
-      record {
-        goes = λ b t. record { before = b; same = stopped mode (length listing) own sheet b listing constants p k h; noted = no };
-        on = no;
-        index = no;
-        turned = unchanged k r;
-      }
+-- nothing is left but a number that refuses, a torn record's or 14
+turn-stopped : {mode : Mode} {own : ℕ} {sheet listing constants marks rows : List ℕ} {p : Cursor} {stage marks' rows' : List ℕ} {k : ℕ}
+    → Ready stage listing constants p → decodedAt own sheet (p .index) (p .at) ≡ nothing k
+    → Turn mode own sheet listing constants marks rows p listing constants marks' rows' (refusal k p)
+turn-stopped {mode} {own} {sheet} {listing} {constants} {p = p} {k = k} r h =
+    record {
+      goes = λ b t. record { before = b; same = stopped mode (length listing) own sheet b listing constants p k h; noted = no };
+      on = no;
+      index = no;
+      turned = unchanged k r;
+    }
+
+-- one instruction too many: its labels are not looked at
+pub turn-beyond : {mode : Mode} {own : ℕ} {sheet stage listing constants marks rows : List ℕ} {p : Cursor} → Ready stage listing constants p
+    → p .index ≡ 612 → p .at < length sheet
+    → Turn mode own sheet listing constants marks rows p listing constants marks rows (refusal 14 p)
+turn-beyond {own = own} {sheet} {p = p} r e h = turn-stopped r (on-full own sheet (p .at) e h)
 
 -- the code's answer
 module _ (own : ℕ) (sheet : List ℕ) (at : ℕ) (mode : Mode) (listing constants : List ℕ) {p : Cursor} {r : Next} {a : NextInstruction} where
@@ -386,13 +396,13 @@ module _ (own : ℕ) (sheet : List ℕ) (at : ℕ) where
 
 -- the labels tested: a number refuses, or the instruction is taken
 module _ {mode : Mode} {own : ℕ} {sheet stage listing constants marks rows marks' rows' : List ℕ} {p : Cursor} {n : ℕ}
-    (ready : Ready stage listing constants p) (t : PassedFirst (drop (p .at) sheet) (p .low .real) marks rows marks' rows' n) where
+    (ready : Ready stage listing constants p) (few : p .index < 612) (t : PassedFirst (drop (p .at) sheet) (p .low .real) marks rows marks' rows' n) where
   pub turn-halted : (n ≡ 0 → ⊥) → Turn mode own sheet listing constants marks rows p listing constants marks' rows' (refusal n p)
   turn-halted z = go (instructionFrom own (drop (p .at) sheet)) refl
     where
       go : (x : Read Instruction) → instructionFrom own (drop (p .at) sheet) ≡ x
           → Turn mode own sheet listing constants marks rows p listing constants marks' rows' (refusal n p)
-      go (got i) e = turn-refused (here-got own sheet (p .at) i e) e (told own sheet (p .at) t i e) ready z
+      go (got i) e = turn-refused few (here-got own sheet (p .at) i e) e (told own sheet (p .at) t i e) ready z
       go (refused k) e = absurd (z (untold own sheet (p .at) t k e))
 
   pub turn-taken : {listing' constants' : List ℕ} {r : Next} → p .at < length sheet → n ≡ 0
@@ -403,7 +413,7 @@ module _ {mode : Mode} {own : ℕ} {sheet stage listing constants marks rows mar
       go : (x : Read Instruction) → instructionFrom own (drop (p .at) sheet) ≡ x
           → Turn mode own sheet listing constants marks rows p listing' constants' marks' rows' r
       go (got i) e =
-          turn-got (here-got own sheet (p .at) i e) e (told own sheet (p .at) t i e) (past-got own sheet (p .at) i e) z
+          turn-got few (here-got own sheet (p .at) i e) e (told own sheet (p .at) t i e) (past-got own sheet (p .at) i e) z
           (subst (λ x. Taken mode listing constants p listing' constants' r x) (at-got own sheet (p .at) i e) l)
       go (refused k) e =
           let q : (r ≡ refusal k p) × (listing' ≡ listing) × (constants' ≡ constants)
@@ -411,7 +421,7 @@ module _ {mode : Mode} {own : ℕ} {sheet stage listing constants marks rows mar
           subst (λ r. Turn mode own sheet listing constants marks rows p listing' constants' marks' rows' r) (sym (q .0))
           (subst (λ k'. Turn mode own sheet listing constants marks rows p listing' k' marks' rows' (refusal k p)) (sym (q .2))
           (subst (λ l'. Turn mode own sheet listing constants marks rows p l' constants marks' rows' (refusal k p)) (sym (q .1))
-          (turn-torn ready (done-refused own sheet (p .at) k e inside))))
+          (turn-stopped ready (on-done own sheet (p .at) few (done-refused own sheet (p .at) k e inside)))))
 
 -- the answer where the work ends
 ran : {whole : Ended} {listing constants : List ℕ} {start : Cursor} {listing' constants' : List ℕ} (number : ℕ) (p : Cursor) {a : LowerAnswer}
@@ -435,7 +445,7 @@ ran {whole} {listing} {constants} {start} {listing'} {constants'} number p {a} e
 -- what holds before each turn: what is left to do is the whole answer
 pub record Underway (mode : Mode) (own : ℕ) (sheet listing₀ constants₀ : List ℕ) (start : Cursor) (stage listing constants marks rows : List ℕ) (p : Cursor) : Type 0 where
   pub ready : Ready stage listing constants p
-  pub index : p .index ≤ p .at
+  pub index : p .index ≤ 612
   pub bytes : Appended listing₀ (start .written) listing (p .written)
   pub words : Appended constants₀ (start .count) constants (p .count)
   pub before : Standing
@@ -443,7 +453,7 @@ pub record Underway (mode : Mode) (own : ℕ) (sheet listing₀ constants₀ : L
   pub same : left mode (length listing₀) own sheet before listing constants p ≡ left mode (length listing₀) own sheet noneStanding listing₀ constants₀ start
 
 module _ {mode : Mode} {own : ℕ} {sheet listing₀ constants₀ : List ℕ} {start : Cursor} where
-  pub underway-first : {stage marks rows : List ℕ} → Ready stage listing₀ constants₀ start → start .index ≤ start .at
+  pub underway-first : {stage marks rows : List ℕ} → Ready stage listing₀ constants₀ start → start .index ≤ 612
       → Noted noneStanding (drop (start .at) sheet) marks rows
       → Underway mode own sheet listing₀ constants₀ start stage listing₀ constants₀ marks rows start
   underway-first r h t =
@@ -471,14 +481,13 @@ module _ {mode : Mode} {own : ℕ} {sheet listing₀ constants₀ : List ℕ} {s
           ≡ cond (r .done) (endedAt (r .number) listing' constants' (r .stand)) (left mode n own sheet (gone .before) listing' constants' (r .stand)))
           (s .bytes .long) (gone .same)
 
-      pub underway-next : {stage' : List ℕ} → length stage' ≡ length stage → r .done ≡ false
+      pub underway-next : {stage' : List ℕ} → length stage' ≡ length stage → p .index < 612 → r .done ≡ false
           → Underway mode own sheet listing₀ constants₀ start stage' listing' constants' marks' rows' (r .stand)
-      underway-next g e =
+      underway-next g f e =
           let a = t .turned .bytes in
           let b = t .turned .words in
           let q = s .ready in
           let i = t .index e in
-          let o = t .on e in
           record {
             ready = record {
               stage = g ∙ q .stage;
@@ -488,7 +497,7 @@ module _ {mode : Mode} {own : ℕ} {sheet listing₀ constants₀ : List ℕ} {s
               count = omega (arith, b .fits, q .words);
               space = t .turned .space;
             };
-            index = omega (arith, i, o, s .index);
+            index = omega (arith, i, f);
             bytes = kept-then (s .bytes) a;
             words = kept-then (s .words) b;
             before = gone .before;
@@ -505,4 +514,4 @@ module _ {mode : Mode} {own : ℕ} {sheet listing₀ constants₀ : List ℕ} {s
     pub ran-ended : {a : LowerAnswer} → Done (instructionFrom own) sheet (p .at) 0
         → a ≡ record { number = 0; index = p .index; written = p .written; count = p .count; real = p .low .real }
         → Ran (left mode (length listing₀) own sheet noneStanding listing₀ constants₀ start) listing₀ constants₀ start listing constants a
-    ran-ended d h = ran 0 p (sym (s .same) ∙ stopped mode (length listing₀) own sheet (s .before) listing constants p 0 d) (s .bytes) (s .words) h
+    ran-ended d h = ran 0 p (sym (s .same) ∙ stopped mode (length listing₀) own sheet (s .before) listing constants p 0 (on-end own sheet (p .at) (p .index) d)) (s .bytes) (s .words) h

@@ -10,7 +10,7 @@ use Rattle.mir.specs.declared.records.Instruction.{Instruction}
 use Rattle.mir.specs.Read.{Read, got, refused}
 use Rattle.mir.specs.Decode.{Item}
 use Rattle.sheet.specs.declared.setup.Mode.{Mode}
-use Rattle.sheet.specs.Instruction.{instructions}
+use Rattle.sheet.specs.Instruction.{instructionsOn}
 use Rattle.lowering.specs.Complexifier.{position, MIN_POSITIVE, INFINITY, QUARTER, EXP_MASK_FINITE, FLOOR_FINITE}
 use Rattle.lowering.specs.Labels.{Standing, role, misplaced, unequal, passed}
 use Rattle.lowering.specs.Lower.{Ended, ended, past, lowerFrom}
@@ -57,7 +57,7 @@ goesOn mode room is fault rest b listing constants p =
 abbrev pub left : Mode → ℕ → ℕ → List ℕ → Standing → List ℕ → List ℕ → Cursor → Ended
 left mode room own sheet b listing constants p =
     let rest = drop (p .at) sheet in
-    let d = instructions own rest in
+    let d = instructionsOn (p .index) own rest in
     goesOn mode room (d .items) (d .fault) rest b listing constants p
 
 -- where lowering stands after a number refused the instruction, and after a finished one with these bytes

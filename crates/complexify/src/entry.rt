@@ -13,6 +13,7 @@ use complexifier::state::Complexifier;
 use lowering::realness::Realness;
 use refusals::labels::find_labels;
 use refusals::labels::pass_at;
+use sheet::reader::LONGEST;
 use sheet::setup::Mode;
 use sheet::setup::read_setup;
 
@@ -64,13 +65,16 @@ fn run(
     constants: &mut [u64],
 ) -> LowerAnswer
     requires { ⌜ Ready (replicate 704 0) (now listing) (now constants) start ⌝ }
-    requires { ⌜ (start .index ≤ start .at) × (length (now sheet) ≤ 16384) ⌝ }
+    requires { ⌜ start .index ≤ 612 ⌝ }
     requires { ⌜ Noted noneStanding (drop (start .at) (now sheet)) (now marks) (now rows) ⌝ }
     ensures { λ r. ⌜ Ran (left mode (length (now (listing .entry))) own (now (sheet .entry)) noneStanding (now (listing .entry)) (now (constants .entry)) start) (now (listing .entry)) (now (constants .entry)) start (now (listing .exit)) (now (constants .exit)) r ⌝ }
 {
     let mut stage = [0u8; 704];
     let mut p = start;
     while p.at < sheet.len() {
+        if p.index == LONGEST {
+            return answer_at(14, p);
+        }
         let low = p.low;
         let real = low.real;
         let number = pass_at(sheet, p.at, real, marks, rows);
@@ -97,7 +101,7 @@ fn run_marked(
     constants: &mut [u64],
 ) -> LowerAnswer
     requires { ⌜ Ready (replicate 704 0) (now listing) (now constants) start ⌝ }
-    requires { ⌜ (start .index ≤ start .at) × (length (now sheet) ≤ 16384) ⌝ }
+    requires { ⌜ start .index ≤ 612 ⌝ }
     ensures { λ r. ⌜ Ran (left mode (length (now (listing .entry))) own (now (sheet .entry)) noneStanding (now (listing .entry)) (now (constants .entry)) start) (now (listing .entry)) (now (constants .entry)) start (now (listing .exit)) (now (constants .exit)) r ⌝ }
 {
     let mut marks = [0u8; 256];

@@ -1,6 +1,6 @@
 -- Document 01's facts ("One sheet on paper"), and worked cases of every operation of the machine, over one table. Sheets, listings and
 -- words are typed from document 01's record format and from IEEE 754, and none is computed by a definition.
-use Prim.Native.Nat.{ℕ}
+use Prim.Native.Nat.{ℕ, zero, suc}
 use mathlib.Core.Path.{_≡_, refl}
 use mathlib.Core.Bool.{true}
 use mathlib.Core.List.{List, [], _∷_, _++_, map}
@@ -84,6 +84,11 @@ branch l = 5 ∷ 0 ∷ 15 ∷ 0 ∷ l ∷ []
 
 abbrev pub branchIf : ℕ → ℕ → ℕ → List ℕ
 branchIf register l isElse = 7 ∷ 0 ∷ 17 ∷ 0 ∷ register ∷ l ∷ isElse ∷ []
+
+-- so many Nops
+abbrev pub nops : ℕ → List ℕ
+nops zero = []
+nops (suc n) = 4 ∷ 0 ∷ 0 ∷ 0 ∷ nops n
 
 -- instructions of a sheet without constants and real places: the number that refuses one, its index, and the bytes of the finished ones,
 -- which leave the record as it is
@@ -403,6 +408,12 @@ table =
     ∷ turnedAway (branch 3 ++ (5 ∷ 0 ∷ 11 ∷ 0 ∷ 0 ∷ []) ++ label 3) 2 1 (branch 3)
     -- "Looking ahead for a label stops at the first torn record": a Nop of five bytes
     ∷ turnedAway (branch 3 ++ (5 ∷ 0 ∷ 0 ∷ 0 ∷ 0 ∷ []) ++ label 3) 10 0 []
+    -- ---- document 02, h: "The longest of its sheets has 612 instructions. Make that the limit [..], and a Nop counts"
+    ∷ turnedAway (nops 612) 0 612 []
+    -- "14 for the instruction at index 612, before any other number that record could earn": a single byte, which would be 1
+    ∷ turnedAway (nops 612 ++ 0 ∷ []) 14 612 []
+    -- "what was finished stays, and d)'s looking ahead goes past it": Label 3 at index 613 is seen
+    ∷ turnedAway (branch 3 ++ nops 612 ++ label 3) 14 612 (branch 3)
     -- "11 for unequal records, given at the label": those of a register
     ∷ lowered
     (record {

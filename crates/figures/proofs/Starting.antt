@@ -33,7 +33,7 @@ module _ (sheet : List ℕ) (x : Setup) (e : x ≡ setup sheet) where
   wrong n = simp (← e, ne-eqb _ _ n)
 
   module _ (n : x .number ≡ 0) where
-    pub known : Right sheet (setup sheet)
+    known : Right sheet (setup sheet)
     known = right sheet (ap (λ x. x .number) (sym e) ∙ n)
 
     own-few : x .count ≤ 251

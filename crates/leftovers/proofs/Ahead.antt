@@ -10,6 +10,7 @@ use Rattle.mir.specs.Read.{Read, got, refused}
 use Rattle.mir.specs.Field.{u16At}
 use Rattle.mir.specs.Decode.{onto, decodedFrom, decoded}
 use Rattle.sheet.specs.Instruction.{instructionFrom, instructions}
+use Rattle.sheet.proofs.Limit.{cut-whole}
 use Rattle.sheet.proofs.Ranges.{refused-by}
 use Rattle.sheet.proofs.Reading.{whole}
 use Rattle.lowering.specs.Labels.{role, sees, later}
@@ -46,9 +47,16 @@ reads-from count (b ∷ s) zero e =
         let h : u16At (b ∷ s) 0 ≡ suc (pred (u16At (b ∷ s) 0)) = omega (arith, z .least) in
         next q (subst (λ (x : ℕ). Reads count (drop x (b ∷ s)) (decodedFrom (instructionFrom count) s (pred (u16At (b ∷ s) 0)) .items)) (sym h) (ih e))
 
-pub reads : (count : ℕ) (s : List ℕ) → instructions count s .fault ≡ 0 → Reads count s (instructions count s .items)
+reads-all : (count : ℕ) (s : List ℕ) → decoded (instructionFrom count) s .fault ≡ 0 → Reads count s (decoded (instructionFrom count) s .items)
 unfolding decoded
-reads count s e = reads-from count s 0 e
+reads-all count s e = reads-from count s 0 e
+
+-- of an accepted sheet nothing was cut
+pub reads : (count : ℕ) (s : List ℕ) → instructions count s .fault ≡ 0 → Reads count s (instructions count s .items)
+reads count s e =
+    let d = decoded (instructionFrom count) s in
+    let w = cut-whole 612 d e in
+    subst (λ d. Reads count s (d .items)) (sym w) (reads-all count s (sym (ap (λ d. d .fault) w) ∙ e))
 
 -- ---- what is seen of them
 

@@ -22,7 +22,7 @@ use Rattle.lowering.specs.Labels.{noneStanding}
 use Rattle.lowering.specs.Lower.{startState, lowerSheet}
 use Rattle.mir.specs.Decode.{decoded}
 use Rattle.leftovers.proofs.Accepting.{wrote}
-use Rattle.leftovers.proofs.Ranges.{all-in-range}
+use Rattle.leftovers.proofs.Ranges.{all-in-limit}
 use Rattle.leftovers.specs.Leftovers.{Sheet, sheetOf, Accepted, Lowered, lowered, point}
 use Rattle.leftovers.proofs.Constants.{grown-few, grown-length}
 use Rattle.sheet.proofs.Ranges.{InRange}
@@ -121,7 +121,7 @@ sound bytes room a =
     let n = length-constants bytes (u .count) 0 in
     record {
       same = λ j. record { sheet = s; listing = w .listing j; constants = w .last j .consts; last = w .last j .real };
-      in-range = subst (λ (n : ℕ). AllIn n (s .instructions)) (sym n) (all-in-range (u .count) rest 0);
+      in-range = subst (λ (n : ℕ). AllIn n (s .instructions)) (sym n) (all-in-limit (u .count) rest);
       few = omega (arith, n, right bytes (a .right) .few);
       within = w .fits;
       fits = omega (arith, w .fits, ap length (w .listing), a .slice);

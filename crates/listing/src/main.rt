@@ -56,7 +56,6 @@ fn put_sheet(sheet: &[u8], named: bool, out: &mut [u8]) -> usize
     put_text(out, named, a, &constants, &listing)
 }
 
-// One byte more than the longest sheet is read, so that a longer one is refused and not cut.
 fn read_sheet(named: bool, sheet: &mut [u8]) -> Got
     ensures { λ r. ⌜ Counts (r .len) (now (sheet .exit)) ⌝ }
 {
@@ -70,16 +69,17 @@ fn read_sheet(named: bool, sheet: &mut [u8]) -> Got
     got
 }
 
-// The text has at most five bytes for each of a listing's 65,536, and 80 for each of the other 258 lines. A read or a write that fails is
-// told on standard error; the program's status is 0 in any case, since the language has no other.
+// The text has at most five bytes for each of a listing's 65,536, and 80 for each of the other 258 lines. A sheet of which not all is read is
+// not lowered. That, and a read or a write that fails, is told on standard error; the program's status is 0 in any case, since the language
+// has no other.
 fn main() {
     let named = os::arg_count() == 2;
-    let mut sheet = [0u8; 16385];
+    let mut sheet = files::sheet_room();
     let got = read_sheet(named, &mut sheet);
-    if !got.ok {
+    let n = got.len;
+    if !got.ok || !files::sheet_fits(n) {
         return;
     }
-    let n = got.len;
     let mut out = [0u8; 348320];
     let m = put_sheet(&sheet[..n], named, &mut out);
     if !io::write_all(STDOUT_FILENO, &out[0..m]) {

@@ -59,15 +59,15 @@ fn lower_file(sheet: &[u8]) {
     print(line);
 }
 
-// One byte more than the longest sheet is read, so that a longer one is refused and not cut.
+// A sheet of which not all is read is not lowered.
 fn main() {
     if !files::usage(os::arg_count() == 4, b"lower_sheet SHEET LISTING CONSTANTS") {
         return;
     }
-    let mut sheet = [0u8; 16385];
+    let mut sheet = files::sheet_room();
     let got = files::read_arg(1, &mut sheet);
     let n = got.len;
-    if got.ok {
+    if got.ok && files::sheet_fits(n) {
         lower_file(&sheet[..n]);
     }
 }

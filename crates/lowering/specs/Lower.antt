@@ -109,7 +109,8 @@ lowerFrom mode room (i ∷ is) fault rest b index bytes s =
 abbrev pub startState : List ℕ → List ℕ → State
 startState places consts = record { real = fresh places; rootDefined = false; consts = consts }
 
--- a sheet's instructions lowered one after the other, in the room that a listing slice has
+-- a sheet's instructions lowered one after the other, in the room that a listing slice has; of a sheet with more than 612 the first 612, and
+-- "d)'s looking ahead goes past" them, over all bytes of the sheet
 unfoldable pub lowerSheet : List ℕ → ℕ → Ended
 unfolding lowerFrom
 lowerSheet sheet room =

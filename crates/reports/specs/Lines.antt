@@ -7,11 +7,11 @@ use lib.Dec.{ltb, eqb}
 use Rattle.text.specs.Text.{ascii, decimalIn, decimal, hexIn, hex, space, register, nameOf, line}
 
 -- document 01's table of refusals, by number, of which 0 is none; 10 and 11 are document 02's, d, which speaks of "unequal records" and
--- has no word for 10
+-- has no word for 10; 14 is document 02's, h; of 12 and 13 no line is printed
 abbrev pub refusalWords : List String
 refusalWords =
     "" ∷ "torn record" ∷ "unknown work" ∷ "bad register" ∷ "bad place" ∷ "missing constant" ∷ "barred operand" ∷ "listing full" ∷
-    "wrong setup" ∷ "stray jump" ∷ "misplaced label" ∷ "unequal records" ∷ []
+    "wrong setup" ∷ "stray jump" ∷ "misplaced label" ∷ "unequal records" ∷ "" ∷ "" ∷ "sheet too long" ∷ []
 
 -- `refused`, number, index and word
 unfoldable pub refusalLine : ℕ → ℕ → List ℕ

@@ -14,7 +14,7 @@ pub fn refusal_line(number: u64, index: u64) -> Line
         .byte(b' ')
         .word_in(
             b"/torn record/unknown work/bad register/bad place/missing constant/barred operand/listing full/wrong setup/stray jump/\
-            misplaced label/unequal records/",
+            misplaced label/unequal records///sheet too long/",
             number,
         )
         .byte(b'\n')

@@ -12,15 +12,13 @@ use Rattle.sheet.specs.declared.setup.Mode.{Mode}
 use Rattle.sheet.specs.Setup.{headerFrom, constantsFrom, wrong, setupWith, setupFrom, setup}
 
 pub record Headed (s : List ℕ) : Type 0 where
-  pub most : length s ≤ 16384
   pub least : 69 ≤ length s
 
 pub headed : (s : List ℕ) (mode : Mode) → headerFrom s ≡ got mode → Headed s
 unfolding headerFrom
 headed s mode e =
-    let p = passed (ltb 16384 (length s)) 8 _ mode e in
-    let q = passed (ltb (length s) 69) 8 _ mode (p .rest) in
-    record { most = ltb-false _ _ (p .test); least = ltb-false _ _ (q .test) }
+    let q = passed (ltb (length s) 69) 8 _ mode e in
+    record { least = ltb-false _ _ (q .test) }
 
 -- the setup, as the code meets its parts: the header read, and the constants counted in the part behind it
 module _ (s : List ℕ) where

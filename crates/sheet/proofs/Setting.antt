@@ -12,7 +12,6 @@ use Rattle.sheet.proofs.Heading.{Headed, headed}
 use Rattle.sheet.proofs.Counting.{few}
 
 pub record Right (s : List ℕ) (u : Setup) : Type 0 where
-  pub most : length s ≤ 16384
   pub few : u .count ≤ 251
   pub start : u .start ≡ 69 + 12 * u .count
   pub inside : u .start ≤ length s
@@ -26,7 +25,6 @@ by-count s mode (got n) h e z =
     let g = length-drop 5 s in
     let p : length (take 64 (drop 5 s)) ≡ 64 = simp length-take (omega (arith, h .least)) in
     record {
-      most = h .most;
       few = f .most;
       start = refl;
       inside = omega (arith, f .fits, h .least);

@@ -1,9 +1,11 @@
--- A sheet's instruction, from the bytes that begin with it (document 01, Sheet, and the numbers 1 to 5 of its table; document 02, d).
+-- A sheet's instruction, from the bytes that begin with it (document 01, Sheet, and the numbers 1 to 5 of its table; document 02, d), and all
+-- of them up to the limit (document 02, h).
 -- `count` is the count of the sheet's own constants. The kinds 1 to 8 are those of mir/specs/Kinds; in the others too, registers are tested
 -- before the place or the constant.
-use Prim.Native.Nat.{ℕ}
-use mathlib.Core.Bool.{cond, false}
+use Prim.Native.Nat.{ℕ, _-_}
+use mathlib.Core.Bool.{Bool, cond, false, not, _&&_, _||_}
 use mathlib.Core.List.{List}
+use lib.ListN.{length, take}
 use lib.Dec.{ltb, eqb}
 use Rattle.mir.specs.declared.records.Instruction.{Instruction}
 use Rattle.mir.specs.Operation.{arithOps, taken}
@@ -78,9 +80,22 @@ instructionFrom count s = andThen (headFrom (takesKind false) s) (λ kind. field
 abbrev pub instructionAt : ℕ → List ℕ → ℕ → Read (Item Instruction)
 instructionAt count s at = readAt (instructionFrom count) s at
 
--- all instructions, from the bytes that begin with the first
+-- does anything stand behind n instructions: one more, or bytes that a number refuses
+abbrev pub beyond : ℕ → Decoded Instruction → Bool
+beyond n d = ltb n (length (d .items)) || (eqb (length (d .items)) n && not (eqb (d .fault) 0))
+
+-- at most n instructions: where a byte is left behind them, 14 "before any other number that record could earn; what was finished stays"
+abbrev pub cut : ℕ → Decoded Instruction → Decoded Instruction
+cut n d = cond (beyond n d) (record { items = take n (d .items); fault = 14 }) d
+
+-- all instructions, from the bytes that begin with the first: "The longest of its sheets has 612 instructions. Make that the limit [..], and
+-- a Nop counts", "14 for the instruction at index 612"
 abbrev pub instructions : ℕ → List ℕ → Decoded Instruction
-instructions count s = decoded (instructionFrom count) s
+instructions count s = cut 612 (decoded (instructionFrom count) s)
+
+-- those from the one with an index on
+abbrev pub instructionsOn : ℕ → ℕ → List ℕ → Decoded Instruction
+instructionsOn index count s = cut (612 - index) (decoded (instructionFrom count) s)
 
 -- the answer of the code
 abbrev pub asNext : NextInstruction → Read (Item Instruction)

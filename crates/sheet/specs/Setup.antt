@@ -21,15 +21,14 @@ abbrev pub isStable : Mode → Bool
 isStable Mode.Plain = false
 isStable Mode.Stable = true
 
--- "First a header: kind 32, mode byte [..], 64 bytes of realness [..]: length 69." "A wrong header, [..] a sheet over
--- 16,384 bytes [..] is refused by 8." What is read is the mode.
+-- "First a header: kind 32, mode byte [..], 64 bytes of realness [..]: length 69." "A wrong header [..] is refused by 8." What is read is
+-- the mode. A sheet of any length is read: document 02, h) "The wrong setup for an over-long sheet thus goes".
 unfoldable pub headerFrom : List ℕ → Read Mode
 headerFrom s =
-    refuse (ltb 16384 (length s)) 8
-    (refuse (ltb (length s) 69) 8
+    refuse (ltb (length s) 69) 8
     (refuse (not (eqb (u16At s 0) 69)) 8
     (refuse (not (eqb (u16At s 2) 32)) 8
-    (modeFrom (byteAt s 4)))))
+    (modeFrom (byteAt s 4))))
 
 -- a constant stands first: four bytes can be read, and their kind is 33
 abbrev pub isConstant : List ℕ → Bool

@@ -31,6 +31,9 @@ const LAST: u8 = 31;
 // The first label of a sheet's own.
 const FIRST_LABEL: u8 = 3;
 
+// The most instructions that a sheet may have: the one with this index is refused by 14.
+pub const LONGEST: usize = 612;
+
 // An instruction and the position after it, or the number that refuses it.
 pub enum NextInstruction {
     Got(Instruction, usize),

@@ -60,9 +60,6 @@ fn read_mode(b: u8) -> Header
 fn read_header(sheet: &[u8]) -> Header
     ensures { λ r. ⌜ asHeader r ≡ headerFrom (now (sheet .entry)) ⌝ }
 {
-    if 16384 < sheet.len() {
-        return Header::Wrong;
-    }
     if sheet.len() < 69 {
         return Header::Wrong;
     }

@@ -1,27 +1,29 @@
 -- The lines of a sheet's text, one after the other.
 use Prim.Native.Nat.{ℕ, suc, _+_, _-_, _≤_, _<_}
-use mathlib.Core.Path.{_≡_, sym, ap, _∙_, subst}
+use mathlib.Core.Path.{_≡_, refl, sym, ap, _∙_, subst}
 use mathlib.Core.Bool.{true, cond}
-use mathlib.Core.List.{List, [], _++_}
+use mathlib.Core.List.{List, [], _∷_, _++_}
 use native.Mathlib.Numerals.{add-one}
 use native.Mathlib.Omega.{arith}
 use lib.ListN.{length, drop}
 use Rattle.mir.specs.declared.records.Instruction.{Instruction}
-use Rattle.mir.specs.Read.{Read, got}
-use Rattle.mir.specs.Field.{u16At}
-use Rattle.mir.specs.Decode.{readAt}
-use Rattle.mir.proofs.Passing.{then, got-same}
-use Rattle.mir.proofs.Decoding.{items, Here, Done}
-use borrow.Author.Tests.{eq-eqb, ne-eqb}
-use lib.Dec.{eqb}
+use Rattle.mir.specs.Decode.{decoded}
+use Rattle.mir.proofs.Passing.{either}
+use Rattle.mir.proofs.Decoding.{Here, ended}
+use borrow.Author.Tests.{ltb-true, ltb-false, eq-eqb, ne-eqb}
+use lib.Dec.{ltb, eqb}
 use Rattle.sheet.specs.declared.setup.Setup.{Setup}
 use Rattle.sheet.specs.Setup.{constantAt, constantsFromOn, setup}
 use Rattle.sheet.proofs.Setting.{right}
 use Rattle.reports.specs.Lines.{refusalLine}
-use Rattle.sheet.specs.Instruction.{instructionFrom, instructionAt}
-use Rattle.sheet.proofs.Reading.{whole}
+use Rattle.sheet.specs.declared.reader.NextInstruction.{NextInstruction}
+use Rattle.sheet.specs.Instruction.{instructionFrom, instructionAt, cut, instructions, instructionsOn, asNext}
+use Rattle.sheet.proofs.Limit.{nothing, length-cut, on-here, on-done, on-end}
+use Rattle.sheet.proofs.Reading.{torn-instruction}
 use Rattle.lowering.specs.Realness.{bitAt}
 use Rattle.assembly.specs.Lines.{realLine, constantLine, instructionLine}
+use Rattle.sheet_text.specs.declared.printing.Seen.{Seen}
+use Rattle.sheet_text.specs.Seen.{seenOf}
 use Rattle.assembly.specs.SheetText.{realLines, constantLines, instructionLines, ofSetup, linesOf, sheetText, printedText}
 
 module _ (places : List ℕ) (i : ℕ) where
@@ -51,26 +53,61 @@ module _ (s : List ℕ) (count i : ℕ) where
   unfolding constantLines
   constants-end h = let e : count - i ≡ 0 = omega arith in ap (λ n. constantLines (constantsFromOn s n i)) e
 
-module _ {read : List ℕ → Read Instruction} {s : List ℕ} {at : ℕ} where
-  pub instructions-on : {next : ℕ} {x : Instruction} → Here read s at x next
-      → instructionLines (items read (drop at s)) ≡ instructionLine x ++ instructionLines (items read (drop next s))
-  unfolding instructionLines
-  instructions-on h = ap instructionLines (h .same)
+no-item : (l : List Instruction) → length l ≤ 0 → l ≡ []
+no-item [] h = refl
+no-item (i ∷ l) h = absurd (omega (arith, h))
 
-  pub instructions-end : {k : ℕ} → Done read s at k → instructionLines (items read (drop at s)) ≡ []
-  unfolding instructionLines
-  instructions-end d = ap instructionLines (d .same)
+-- the lines of the instructions from an index on
+abbrev pub linesOn : ℕ → ℕ → List ℕ → List ℕ
+linesOn n count s = instructionLines (instructionsOn n count s .items)
 
--- an instruction has at least four bytes
-pub four : (count : ℕ) (s : List ℕ) (at : ℕ) (x : Instruction) (next : ℕ) → instructionAt count s at ≡ got (record { item = x; next = next })
-    → at + 4 ≤ next
-unfolding readAt
-four count s at x next e =
-    let t = then (instructionFrom count (drop at s)) (λ a. got (record { item = a; next = at + u16At (drop at s) 0 })) (record { item = x; next = next }) e in
-    let y = got-same _ _ (t .rest) in
-    let b : at + u16At (drop at s) 0 ≡ next = ap (λ y. y .next) y in
-    let z = whole count .sized (drop at s) (t .first) (t .found) in
-    omega (arith, z .least, b)
+module _ (count : ℕ) (s : List ℕ) (at : ℕ) {n : ℕ} where
+  pub instructions-on : {next : ℕ} {x : Instruction} → n < 612 → Here (instructionFrom count) s at x next
+      → linesOn n count (drop at s) ≡ instructionLine x ++ linesOn (n + 1) count (drop next s)
+  unfolding instructionLines
+  instructions-on {next} {x} l h =
+      ap (λ d. instructionLines (d .items)) (on-here count s at l h)
+      ∙ ap (λ n. instructionLine x ++ linesOn n count (drop next s)) (sym (add-one n))
+
+  pub instructions-torn : {r : NextInstruction} {k : ℕ} → n < 612 → asNext r ≡ instructionAt count s at → r ≡ NextInstruction.Refused k
+      → linesOn n count (drop at s) ≡ []
+  unfolding instructionLines
+  instructions-torn l e f =
+      either (ltb at (length s))
+      (λ t. ap (λ d. instructionLines (d .items)) (on-done count s at l (torn-instruction count s at e f (ltb-true at (length s) t))))
+      (λ t. ap (λ d. instructionLines (d .items)) (on-end count s at n (ended (instructionFrom count) s at (ltb-false at (length s) t))))
+
+  pub instructions-all : 612 ≤ n → linesOn n count (drop at s) ≡ []
+  unfolding instructionLines
+  instructions-all h =
+      let z : 612 - n ≡ 0 = omega (arith, h) in
+      let d = decoded (instructionFrom count) (drop at s) in
+      let l = length-cut 0 d in
+      ap (λ k. instructionLines (cut k d .items)) z ∙ ap instructionLines (no-item (cut 0 d .items) l)
+
+-- what was counted, and what stands behind a position, are the whole
+pub record Counted (count : ℕ) (s : List ℕ) (first at n : ℕ) : Type 0 where
+  pub few : n ≤ 612
+  pub many : n + length (instructionsOn n count (drop at s) .items) ≡ length (instructions count (drop first s) .items)
+  pub fault : instructionsOn n count (drop at s) .fault ≡ instructions count (drop first s) .fault
+
+module _ {count : ℕ} {s : List ℕ} {first at n : ℕ} (c : Counted count s first at n) where
+  pub counts-on : {next : ℕ} {x : Instruction} → n < 612 → Here (instructionFrom count) s at x next → Counted count s first next (n + 1)
+  counts-on {next} l h =
+      let e = on-here count s at l h in
+      let k = ap (λ d. length (d .items)) e in
+      let a = c .many in
+      subst (Counted count s first next) (sym (add-one n))
+      (record { few = omega (arith, l); many = omega (arith, k, a); fault = sym (ap (λ d. d .fault) e) ∙ c .fault })
+
+  pub counts-end : {k : ℕ} → instructionsOn n count (drop at s) ≡ nothing k
+      → _≡_ {A = Seen} (record { number = k; index = n }) (seenOf (instructions count (drop first s)))
+  counts-end {k} e =
+      let p = sym (ap (λ d. d .fault) e) ∙ c .fault in
+      let z = ap (λ d. length (d .items)) e in
+      let a = c .many in
+      let i : n ≡ length (instructions count (drop first s) .items) = omega (arith, z, a) in
+      λ j. record { number = p j; index = i j }
 
 -- the three texts, as the code comes to them
 module _ (sheet : List ℕ) (u : Setup) (e : u ≡ setup sheet) where
@@ -104,7 +141,5 @@ module _ (sheet : List ℕ) (u : Setup) (e : u ≡ setup sheet) where
         (eq-eqb (ofSetup sheet (setup sheet) .fault) 0 (sym f ∙ k)))
 
   -- what is known of a sheet that is set up
-  pub limits : u .number ≡ 0 → (u .count ≤ 251) × (length sheet ≤ 16384)
-  limits h =
-      let r = right sheet (sym (ap (λ u. u .number) e) ∙ h) in
-      (subst (λ u. u .count ≤ 251) (sym e) (r .few), r .most)
+  pub few : u .number ≡ 0 → u .count ≤ 251
+  few h = subst (λ u. u .count ≤ 251) (sym e) (right sheet (sym (ap (λ u. u .number) e) ∙ h) .few)

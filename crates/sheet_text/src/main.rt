@@ -13,9 +13,9 @@ use reports::refusal_line;
 use sheet::setup::read_setup;
 use text::put::put_line;
 
-// The text for a sheet, and its length. A line has at most 80 bytes, and an instruction at least four.
+// The text for a sheet, and its length. A line has at most 80 bytes: one for the mode, 512 places, 251 constants and 612 instructions.
 fn put_sheet(out: &mut [u8], sheet: &[u8]) -> usize
-    requires { ⌜ 390000 ≤ length (now out) ⌝ }
+    requires { ⌜ 110080 ≤ length (now out) ⌝ }
     ensures { λ r. ⌜ Puts (now (out .entry)) 0 (printedText (now (sheet .entry))) (now (out .exit)) r ⌝ }
 {
     let s = read_setup(sheet);
@@ -30,17 +30,17 @@ fn put_sheet(out: &mut [u8], sheet: &[u8]) -> usize
 }
 
 fn print_sheet(sheet: &[u8]) {
-    let mut out = [0u8; 390000];
+    let mut out = [0u8; 110080];
     let n = put_sheet(&mut out, sheet);
     files::print(&out, n);
 }
 
-// One byte more than the longest sheet is read, so that a longer one is refused and not cut.
+// A sheet of which not all is read is not printed.
 fn main() {
-    let mut sheet = [0u8; 16385];
+    let mut sheet = files::sheet_room();
     let got = files::read_input(&mut sheet);
     let n = got.len;
-    if got.ok {
+    if got.ok && files::sheet_fits(n) {
         print_sheet(&sheet[..n]);
     }
 }

@@ -16,6 +16,7 @@ use assembly::lines::instruction_line;
 use assembly::lines::mode_line;
 use assembly::lines::real_line;
 use lowering::realness::bit_at;
+use sheet::reader::LONGEST;
 use sheet::reader::NextInstruction;
 use sheet::reader::read_instruction;
 use sheet::setup::Setup;
@@ -70,13 +71,19 @@ pub(crate) struct Seen {
     pub(crate) index: u64,
 }
 
-// The instructions from a position on, up to the first that is refused.
+// The instructions from a position on, up to the first that is refused, or to the one that is too many.
 pub(crate) fn examined(sheet: &[u8], first: usize, count: usize) -> Seen
     ensures { λ r. ⌜ r ≡ seenOf (instructions count (drop first (now (sheet .entry)))) ⌝ }
 {
     let mut at = first;
     let mut n: u64 = 0;
     while at < sheet.len() {
+        if n == LONGEST as u64 {
+            return Seen {
+                number: 14,
+                index: n,
+            };
+        }
         let q = read_instruction(sheet, at, count);
         match q {
             NextInstruction::Got(_, next) => {
@@ -97,14 +104,15 @@ pub(crate) fn examined(sheet: &[u8], first: usize, count: usize) -> Seen
     }
 }
 
-// The lines of the instructions from a position on, up to the first that is refused.
+// The lines of the instructions from a position on, up to the first that is refused, or to the last that a sheet may have.
 fn put_instructions(out: &mut [u8], start: usize, sheet: &[u8], first: usize, count: usize) -> usize
-    requires { ⌜ start + 20 * length (now sheet) ≤ length (now out) ⌝ }
+    requires { ⌜ start + 48960 ≤ length (now out) ⌝ }
     ensures { λ r. ⌜ Puts (now (out .entry)) start (instructionLines (instructions count (drop first (now (sheet .entry))) .items)) (now (out .exit)) r ⌝ }
 {
     let mut at = start;
     let mut from = first;
-    while from < sheet.len() {
+    let mut n: usize = 0;
+    while n < LONGEST {
         let q = read_instruction(sheet, from, count);
         let NextInstruction::Got(instruction, next) = q else {
             return at;
@@ -112,14 +120,15 @@ fn put_instructions(out: &mut [u8], start: usize, sheet: &[u8], first: usize, co
         let line = instruction_line(instruction);
         at = put_line(out, at, line);
         from = next;
+        n += 1;
     }
     at
 }
 
 // The text of a sheet whose setup is right.
 pub(crate) fn put_lines(out: &mut [u8], sheet: &[u8], s: Setup) -> usize
-    requires { ⌜ 390000 ≤ length (now out) ⌝ }
-    requires { ⌜ (s .count ≤ 251) × (length (now sheet) ≤ 16384) ⌝ }
+    requires { ⌜ 110080 ≤ length (now out) ⌝ }
+    requires { ⌜ s .count ≤ 251 ⌝ }
     ensures { λ r. ⌜ Puts (now (out .entry)) 0 (linesOf (now (sheet .entry)) s) (now (out .exit)) r ⌝ }
 {
     let mode = s.mode;

@@ -36,16 +36,19 @@ fn text_of(sheet: &[u8]) -> Line
     figures_text(f.bytes as u64, f.constants as u64, f.records as u64)
 }
 
-// One byte more than the longest sheet is read, so that a longer one is refused and not cut. A read or a write that fails is told on standard
-// error; the program's status is 0 in any case, since the language has no other.
+// A sheet of which not all is read has no figures. That, and a read or a write that fails, is told on standard error; the program's status is
+// 0 in any case, since the language has no other.
 fn main() {
-    let mut sheet = [0u8; 16385];
+    let mut sheet = files::sheet_room();
     let got = read_all(STDIN_FILENO, &mut sheet);
     if !got.ok {
         os::fail(b"shelf: standard input");
         return;
     }
     let n = got.len;
+    if !files::sheet_fits(n) {
+        return;
+    }
     let line = text_of(&sheet[..n]);
     let bytes = line.bytes;
     let m = line.len;

@@ -27,11 +27,11 @@ fn nearly_full(count: usize) -> Vec<u8> {
     make::sheet(true, &[0; 64], &[], &vec![make::bi(bi::DIVIDE, 27, 28, 29); count])
 }
 
-/// What the program writes. It does not read a sheet over the limit to its end, so that giving it the rest may fail.
+/// What the program writes for a sheet, which it reads to its end before it writes.
 fn written(program: &str, sheet: &[u8]) -> Vec<u8> {
     let mut child =
         Command::new(program).stdin(Stdio::piped()).stdout(Stdio::piped()).spawn().expect("the program starts");
-    let _ = child.stdin.take().expect("its input is open").write_all(sheet);
+    child.stdin.take().expect("its input is open").write_all(sheet).expect("the sheet is read");
     child.wait_with_output().expect("the program ends").stdout
 }
 
@@ -42,12 +42,13 @@ fn main() -> ExitCode {
     let mut rng = Rng(words.next().map_or(1, |w| w.parse().expect("a seed")));
 
     let mut sheets: Vec<Vec<u8>> = boundary::sheets().into_iter().step_by(3).map(|case| case.sheet).collect();
+    sheets.extend(boundary::far_sheets().into_iter().map(|case| case.sheet));
     sheets.extend([496, 497].map(nearly_full));
     sheets.extend((0..count).map(|_| random::to_lower(&mut rng).sheet));
     sheets.extend(branches::sheet_examples().into_iter().map(|(case, _, _)| case.sheet));
     sheets.extend(branches::sheets().into_iter().step_by(29).map(|case| case.sheet));
     sheets.extend((0..count).map(|_| random::branching_to_lower(&mut rng).sheet));
-    let (mut numbers, mut differences) = ([0u64; 12], 0u64);
+    let (mut numbers, mut differences) = ([0u64; 15], 0u64);
     for sheet in &sheets {
         let (number, text) = expected(sheet);
         numbers[number as usize] += 1;
@@ -57,7 +58,7 @@ fn main() -> ExitCode {
             println!("sheet {sheet:?}\n  expected {text}\n  found {}", String::from_utf8_lossy(&found));
         }
     }
-    println!("listing: {} sheets, answers 0 to 11: {numbers:?}, {differences} differences", sheets.len());
+    println!("listing: {} sheets, answers 0 to 14: {numbers:?}, {differences} differences", sheets.len());
     if differences == 0 {
         ExitCode::SUCCESS
     } else {

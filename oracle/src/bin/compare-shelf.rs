@@ -64,7 +64,7 @@ fn wrong_length(sheet: &[u8], length: usize) -> bool {
 /// Cases by their number, and differences.
 #[derive(Default)]
 struct Tally {
-    numbers: [u64; 12],
+    numbers: [u64; 15],
     roots: u64,
     differences: u64,
 }
@@ -83,7 +83,7 @@ impl Tally {
 
     fn report(&self, what: &str) {
         println!(
-            "{what}: {} cases, numbers 0 to 11: {:?}, {} surely with calls, {} differences",
+            "{what}: {} cases, numbers 0 to 14: {:?}, {} surely with calls, {} differences",
             self.numbers.iter().sum::<u64>(),
             self.numbers,
             self.roots,
@@ -97,7 +97,7 @@ fn main() -> ExitCode {
     let (count, seed): (u64, u64) = (arguments.next().unwrap_or(100_000), arguments.next().unwrap_or(1));
     let mut rng = Rng(seed);
     let mut limits = Tally::default();
-    boundary::sheets().iter().for_each(|case| limits.compare(&case.sheet, 0));
+    boundary::sheets().iter().chain(&boundary::far_sheets()).for_each(|case| limits.compare(&case.sheet, 0));
     limits.report("sheets at limits");
     let mut some = Tally::default();
     (0..count).for_each(|_| some.compare(&random::to_lower(&mut rng).sheet, rng.bits()));

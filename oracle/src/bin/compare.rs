@@ -14,14 +14,14 @@ use oracle::{boundary, branches};
 /// Cases tried and differences found, by answer number.
 #[derive(Default)]
 struct Tally {
-    numbers: [u64; 12],
+    numbers: [u64; 15],
     differences: u64,
 }
 
 impl Tally {
     fn report(&self, what: &str) {
         let total: u64 = self.numbers.iter().sum();
-        println!("{what}: {total} cases, answers 0 to 11: {:?}, {} differences", self.numbers, self.differences);
+        println!("{what}: {total} cases, answers 0 to 14: {:?}, {} differences", self.numbers, self.differences);
     }
 
     /// Counts an answer and prints what differs: the answer, then the first place of each slice.
@@ -110,7 +110,7 @@ fn compare_branches(count: u64, rng: &mut Rng) -> u64 {
 /// Every limit, and `count` random cases of each kind; the differences.
 fn compare_cases(count: u64, mut rng: Rng) -> u64 {
     let mut sheets = Tally::default();
-    boundary::sheets().iter().for_each(|case| compare_sheet(case, &mut sheets));
+    boundary::sheets().iter().chain(&boundary::far_sheets()).for_each(|case| compare_sheet(case, &mut sheets));
     sheets.report("sheets at limits");
     let mut random_sheets = Tally::default();
     (0..count).for_each(|_| compare_sheet(&random::to_lower(&mut rng), &mut random_sheets));

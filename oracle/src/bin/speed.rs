@@ -13,8 +13,8 @@ use oracle::rust::config::Config;
 use oracle::rust::mir::Instruction;
 use oracle::{ffi, make, player};
 
-/// Instructions of a sheet, and how many sheets are timed together; `None` is as many as 16,384 bytes hold.
-const SIZES: [(Option<usize>, usize); 5] = [(Some(1), 128), (Some(10), 32), (Some(100), 8), (Some(612), 2), (None, 1)];
+/// Instructions of a sheet, up to the most, and how many sheets are timed together.
+const SIZES: [(usize, usize); 4] = [(1, 128), (10, 32), (100, 8), (INSTRUCTIONS, 2)];
 
 fn mode(stable: bool) -> &'static str {
     if stable {
@@ -51,9 +51,9 @@ fn accepted(sheet: &[u8]) -> bool {
 }
 
 /// A random sheet of this mode and size that is accepted and has at most five constants.
-fn random_sheet(rng: &mut Rng, stable: bool, size: Option<usize>) -> Vec<u8> {
+fn random_sheet(rng: &mut Rng, stable: bool, size: usize) -> Vec<u8> {
     loop {
-        let parts = parts(rng, size.unwrap_or(SHEET_LIMIT / 4));
+        let parts = parts(rng, size);
         let sheet = parts.sheet();
         let wanted = parts.head.len() <= HEADER_LENGTH + 5 * CONSTANT_LENGTH && sheet[4] == stable as u8;
         if wanted && accepted(&sheet) {
@@ -77,12 +77,8 @@ fn decoded(sheet: Vec<u8>) -> Decoded {
     Decoded { sheet, constants, instructions }
 }
 
-fn size_name(size: Option<usize>, found: usize) -> String {
-    size.map_or(format!("{found} (longest)"), |n| n.to_string())
-}
-
 /// The Rust from its own instructions to its own `Mir`; ours from the sheet's bytes to the listing's.
-fn lowering(rounds: u64, stable: bool, size: Option<usize>, sheets: &[Decoded]) {
+fn lowering(rounds: u64, stable: bool, size: usize, sheets: &[Decoded]) {
     let work: usize = sheets.iter().map(|d| d.instructions.len()).sum();
     let reals: Vec<_> = sheets.iter().map(|d| real_set(&d.sheet[5..69].try_into().unwrap())).collect();
     let mut unchanged = || {
@@ -97,14 +93,14 @@ fn lowering(rounds: u64, stable: bool, size: Option<usize>, sheets: &[Decoded]) 
             black_box(ffi::lower(&d.sheet, &mut listing, &mut constants, &mut answer));
         }
     };
-    row(&size_name(size, work), stable, work, fastest(rounds, [&mut unchanged, &mut ours]));
+    row(&size.to_string(), stable, work, fastest(rounds, [&mut unchanged, &mut ours]));
 }
 
 /// Sums, differences and products over the general registers, with fresh loads that keep the values in range, and saves; every tenth
 /// instruction, and the only one of a sheet of one, is `other`.
-fn calm_sheet(stable: bool, size: Option<usize>, other: impl Fn(u8, u8, u8) -> Vec<u8>) -> Vec<u8> {
+fn calm_sheet(stable: bool, size: usize, other: impl Fn(u8, u8, u8) -> Vec<u8>) -> Vec<u8> {
     let mut sheet = make::sheet(stable, &[0; 64], &[], &[]);
-    for i in 0..size.unwrap_or(SHEET_LIMIT) {
+    for i in 0..size {
         let (a, b, d) = ((i * 7 % 28) as u8, (i * 11 % 28) as u8, (i * 5 % 28) as u8);
         let record = match i % 10 {
             0 => other(d, a, b),
@@ -115,9 +111,6 @@ fn calm_sheet(stable: bool, size: Option<usize>, other: impl Fn(u8, u8, u8) -> V
             7 => make::uni(uni::NEG, d, a),
             _ => make::save(a, STACK, (100 + i % 100) as u16),
         };
-        if sheet.len() + record.len() > SHEET_LIMIT {
-            break;
-        }
         sheet.extend(record);
     }
     sheet
@@ -208,13 +201,13 @@ fn main() {
     for (size, times) in SIZES {
         for stable in [false, true] {
             let sheet = calm_sheet(stable, size, |d, a, b| make::bi(bi::DIVIDE, d, a, b));
-            let name = size_name(size, records(&sheet).len() - 1) + " | Divide";
+            let name = format!("{size} | Divide");
             assert!(!roots_or_fuses(&playing(rounds, &name, stable, times, &sheet)));
         }
     }
     for (op, name) in [(uni::RECIP, "612 | Recip (MulAdd)"), (uni::ROOT, "612 | Root")] {
         for stable in [false, true] {
-            let sheet = calm_sheet(stable, Some(612), |d, a, _| make::uni(op, d, a));
+            let sheet = calm_sheet(stable, INSTRUCTIONS, |d, a, _| make::uni(op, d, a));
             assert!(roots_or_fuses(&playing(rounds, name, stable, 2, &sheet)));
         }
     }

@@ -39,6 +39,8 @@ pub enum Why {
     /// A window outside 1 to 64, or a run of more than 4,096 words.
     WrongRun = 12,
     WrongPoints = 13,
+    /// Something stands behind 612 instructions.
+    SheetTooLong = 14,
 }
 
 /// Why the work was refused, and at which instruction or record; 0 where there is none.
@@ -72,6 +74,7 @@ fn accepted(number: u32, index: u64) -> Result<(), Refused> {
         11 => Why::UnequalRecords,
         12 => Why::WrongRun,
         13 => Why::WrongPoints,
+        14 => Why::SheetTooLong,
         _ => Why::StrayJump,
     };
     Err(Refused { why, index })

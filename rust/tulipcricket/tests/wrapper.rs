@@ -195,6 +195,22 @@ fn labels_are_refused_by_10_and_11() {
 }
 
 #[test]
+fn a_sheet_has_at_most_612_instructions() {
+    let nops = |count: usize| {
+        let mut sheet = Sheet::new(false);
+        for _ in 0..count {
+            sheet.instruction(0, &[]);
+        }
+        sheet.bytes()
+    };
+    assert_eq!(lower(&nops(612), LISTING_LIMIT).unwrap().instructions, 612);
+    let refused = Refused { why: Why::SheetTooLong, index: 612 };
+    assert_eq!(lower(&nops(613), LISTING_LIMIT), Err(refused));
+    assert_eq!(shelf(&nops(613)), Err(refused));
+    assert_eq!(refused.to_string(), "refused 14 612 (SheetTooLong)");
+}
+
+#[test]
 fn the_block_is_played_once_for_each_root() {
     for stable in [false, true] {
         let mut sheet = Sheet::new(stable);

@@ -3,7 +3,7 @@ use borrow.Author.Needs.{needs}
 use native.Mathlib.Omega.{arith}
 use mathlib.Core.Path.{ap}
 use Rattle.text.proofs.Putting.{line-put, renamed}
-use Rattle.sheet_text.proofs.Turns.{unset, refused, printed, limits}
+use Rattle.sheet_text.proofs.Turns.{unset, refused, printed, few}
 use Rattle.sheet_text.proofs.put_sheet.Statement.{statement}
 use Rattle.sheet_text.proofs.put_sheet.Tie as tie
 
@@ -26,7 +26,7 @@ put-sheet-spec =
     renamed
     (refused (a .sheet .now) (c .before .before .before .before .before .before .before .before .before .before .before .read-setup .result) (c .before .before .before .before .before .before .before .before .before .before .before .read-setup .ensures) (c .before .before .before .before .before .before .before .before .before .if1 .left) (ap (λ s. s .number) e) (ap (λ s. s .index) e) (c .before .before .before .before .before .before .if2 .taken))
     (line-put p (omega (arith, f)) (c .before .before .put-line2 .ensures)))
-    (λ c κs. (search needs, limits (c .before .before .before .before .before .before .before .before .before .args .sheet .now) (c .before .before .before .before .before .before .read-setup .result) (c .before .before .before .before .before .before .read-setup .ensures) (c .before .before .before .before .if1 .left)))
+    (λ c κs. (search needs, few (c .before .before .before .before .before .before .before .before .before .args .sheet .now) (c .before .before .before .before .before .before .read-setup .result) (c .before .before .before .before .before .before .read-setup .ensures) (c .before .before .before .before .if1 .left)))
     (λ c. search needs)
     (λ c.
     let a = c .before .before .before .before .before .before .before .before .before .before .before .before .args in

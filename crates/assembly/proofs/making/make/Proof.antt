@@ -78,4 +78,4 @@ make-spec =
     let d = c .before .before .before in
     let v = d .loop in
     let t = d .before .before .before .before .args .t .now in
-    (all-lines t (v .s) (v .out) (v .at) (v .k) 0 (v .inv .1) (omega arith) (c .if2 .left), v .inv .1 .room .1)))
+    (all-lines t (v .s) (v .out) (v .at) (v .k) 0 (v .inv .1) (omega arith) (c .if2 .left), let r = v .inv .1 .room .1 in omega (arith, r .constants, r .instructions, r .bytes))))

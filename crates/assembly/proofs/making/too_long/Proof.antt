@@ -14,7 +14,7 @@ too-long-spec =
     (tie.spec
     (λ c κs. search needs) (λ c. search needs) (λ c. search needs) (λ c κs. search needs)
     (λ c.
-    let out : List ℕ = replicate 16384 0 in
-    let e = length-replicate {A = ℕ} 16384 0 in
+    let out : List ℕ = replicate 69184 0 in
+    let e = length-replicate {A = ℕ} 69184 0 in
     let h : 80 ≤ length out = omega (arith, e) in
     line-first out (c .before .before .before .before .before .long-line .ensures) h (c .before .put-bytes .ensures)))

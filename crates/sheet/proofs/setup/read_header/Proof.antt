@@ -12,10 +12,9 @@ read-header-spec =
     tie.close
     (tie.spec
     (λ c. simp (lt-ltb _ _ (c .if1 .taken)))
-    (λ c. simp (le-ltb _ _ (c .before .if1 .left), lt-ltb _ _ (c .if2 .taken)))
     (λ c κs. search needs)
-    (λ c. simp (le-ltb _ _ (c .before .before .before .if1 .left), le-ltb _ _ (c .before .before .if2 .left), ← c .before .u16-at .ensures, ne-eqb _ _ (c .if3 .taken)))
+    (λ c. simp (le-ltb _ _ (c .before .before .if1 .left), ← c .before .u16-at .ensures, ne-eqb _ _ (c .if2 .taken)))
     (λ c κs. search needs)
-    (λ c. simp (le-ltb _ _ (c .before .before .before .before .before .if1 .left), le-ltb _ _ (c .before .before .before .before .if2 .left), ← c .before .before .before .u16-at .ensures, eq-eqb _ _ (c .before .before .if3 .left), ← c .before .u16-at2 .ensures, ne-eqb _ _ (c .if4 .taken)))
+    (λ c. simp (le-ltb _ _ (c .before .before .before .before .if1 .left), ← c .before .before .before .u16-at .ensures, eq-eqb _ _ (c .before .before .if2 .left), ← c .before .u16-at2 .ensures, ne-eqb _ _ (c .if3 .taken)))
     (λ c κs. search needs) (λ c κs. search needs)
-    (λ c. c .read-mode .ensures ∙ simp (le-ltb _ _ (c .before .before .before .before .before .before .before .if1 .left), le-ltb _ _ (c .before .before .before .before .before .before .if2 .left), ← c .before .before .before .before .before .u16-at .ensures, eq-eqb _ _ (c .before .before .before .before .if3 .left), ← c .before .before .before .u16-at2 .ensures, eq-eqb _ _ (c .before .before .if4 .left), ← c .before .byte .ensures)))
+    (λ c. c .read-mode .ensures ∙ simp (le-ltb _ _ (c .before .before .before .before .before .before .if1 .left), ← c .before .before .before .before .before .u16-at .ensures, eq-eqb _ _ (c .before .before .before .before .if2 .left), ← c .before .before .before .u16-at2 .ensures, eq-eqb _ _ (c .before .before .if3 .left), ← c .before .byte .ensures)))
