@@ -20,7 +20,7 @@ use Rattle.mir.specs.Kinds.{uniFrom, biFrom, movFrom, loadFrom, saveFrom, loadC
 use Rattle.mir.proofs.IfRead.{IfRead, read, tested, parted, if-read, limited}
 use Rattle.mir.proofs.Decoding.{Bytes}
 use Rattle.sheet.specs.Instruction.{loadMathFrom, loadConstMathFrom, ownLabel, labelFrom, branchFrom, branchIfFrom}
-use Rattle.text.specs.Text.{ascii, decimal, space, place, registers, recordLine, recordText, workText, uniName, binName, fusedName}
+use Rattle.text.specs.Text.{ascii, decimal, space, place, registers, recordLine, recordText, uniName, binName, fusedName}
 use Rattle.text.specs.Text as Text
 use Rattle.assembly.specs.Lines.{named, mathName, instructionLine}
 use Rattle.assembly.specs.Assembled.{counting, Sort, aRegister, aClass, anIndex, aByte, instruction, wordBytes, FirstWord, heads}
@@ -67,6 +67,11 @@ ending : (name : List ℕ) (rs : List ℕ) (ws : List (List ℕ)) (text : List �
 ending name rs ws text e =
     ap (λ l. l ++ 10 ∷ [])
     (ap (λ l. name ++ l) (sym (run rs ws)) ∙ sym (append-assoc name (registers rs) (tails ws)) ∙ ap (λ t. name ++ registers rs ++ t) (sym e))
+
+-- a line of a register, and of words behind it
+one-register : (name : List ℕ) (r : ℕ) (ws : List (List ℕ)) {text : List ℕ} → text ≡ tails ws
+    → (name ++ tails (Text.register r ∷ ws)) ++ 10 ∷ [] ≡ (name ++ space (Text.register r ++ text)) ++ 10 ∷ []
+one-register name r ws e = ap (λ t. (name ++ space (Text.register r ++ t)) ++ 10 ∷ []) (sym e)
 
 -- a record's length and kind
 module _ {b0 b1 b2 b3 : ℕ} (n kind : ℕ) (f : List ℕ) where
@@ -126,7 +131,7 @@ nop =
     })
 
 pub uni : Kind 7 1 (uniFrom false Instruction.Uni)
-unfolding u16At instructionLine recordLine recordText workText recordOf lengthOf lengths uniFrom
+unfolding u16At instructionLine recordLine recordText recordOf lengthOf lengths uniFrom
 uni =
     by-front 7 (Known 7 1 (uniFrom false Instruction.Uni))
     (λ b0 b1 b2 b3 b4 b5 b6 rest bytes w v.
@@ -142,7 +147,7 @@ uni =
     })
 
 pub bi : Kind 8 2 (biFrom false Instruction.Bi)
-unfolding u16At instructionLine recordLine recordText workText recordOf lengthOf lengths biFrom
+unfolding u16At instructionLine recordLine recordText recordOf lengthOf lengths biFrom
 bi =
     by-front 8 (Known 8 2 (biFrom false Instruction.Bi))
     (λ b0 b1 b2 b3 b4 b5 b6 b7 rest bytes w v.
@@ -162,7 +167,7 @@ unfolding heads recordOf ascii
 mov-row = row 39 _ tt refl
 
 pub mov : Kind 6 3 (movFrom false Instruction.Mov)
-unfolding u16At instructionLine recordLine recordText workText recordOf lengthOf lengths movFrom
+unfolding u16At instructionLine recordLine recordText recordOf lengthOf lengths movFrom
 mov =
     by-front 6 (Known 6 3 (movFrom false Instruction.Mov))
     (λ b0 b1 b2 b3 b4 b5 rest bytes w v.
@@ -193,7 +198,7 @@ same-place : {c lo hi : ℕ} {p q : Loc} → PlaceIs c lo hi p → q ≡ p → P
 same-place {c} {lo} {hi} h e = subst (PlaceIs c lo hi) (sym e) h
 
 pub load : Kind 8 4 (loadFrom false Instruction.Load)
-unfolding u16At instructionLine recordLine recordText workText recordOf lengthOf lengths loadFrom placeAt
+unfolding u16At instructionLine recordLine recordText recordOf lengthOf lengths loadFrom placeAt
 load =
     by-front 8 (Known 8 4 (loadFrom false Instruction.Load))
     (λ b0 b1 b2 b3 b4 b5 b6 b7 rest bytes w v.
@@ -202,14 +207,14 @@ load =
           limited 31 (b4 ∷ [])
           (λ l. parted (placed b5 b6 b7 (bytes 6))
           (λ p q.
-          read (retold (ending (ascii "Load") (named b4 ∷ []) (className p ∷ decimal (index p) ∷ []) (space (place p)) (place-words p))
+          read (retold (one-register (ascii "Load") (named b4) (className p ∷ decimal (index p) ∷ []) (place-words p))
           (ap (λ f. 8 ∷ 0 ∷ 4 ∷ 0 ∷ b4 ∷ f) (place-bytes q) ∙ start 8 4 _ (bytes 0) (bytes 2) (omega arith) (omega arith) w v)
           (says 40 _ (load-place-row .low) (load-place-row .same) (reg b4 (l .0) (cls p (idx (index p) (low-index (bytes 6) q) none)))))));
       local = refl;
     })
 
 pub save : Kind 8 5 (saveFrom false Instruction.Save)
-unfolding u16At instructionLine recordLine recordText workText recordOf lengthOf lengths saveFrom savePlace placeAt
+unfolding u16At instructionLine recordLine recordText recordOf lengthOf lengths saveFrom savePlace placeAt
 save =
     by-front 8 (Known 8 5 (saveFrom false Instruction.Save))
     (λ b0 b1 b2 b3 b4 b5 b6 b7 rest bytes w v.
@@ -218,7 +223,7 @@ save =
           limited 31 (b4 ∷ [])
           (λ l. parted (parted (placed b5 b6 b7 (bytes 6)) (λ p q. if-read (λ r e. same-place q e) (saved p)))
           (λ p q.
-          read (retold (ending (ascii "Save") (named b4 ∷ []) (className p ∷ decimal (index p) ∷ []) (space (place p)) (place-words p))
+          read (retold (one-register (ascii "Save") (named b4) (className p ∷ decimal (index p) ∷ []) (place-words p))
           (ap (λ f. 8 ∷ 0 ∷ 5 ∷ 0 ∷ b4 ∷ f) (place-bytes q) ∙ start 8 5 _ (bytes 0) (bytes 2) (omega arith) (omega arith) w v)
           (says 41 _ (save-place-row .low) (save-place-row .same) (reg b4 (l .0) (cls p (idx (index p) (low-index (bytes 6) q) none)))))));
       local = refl;
@@ -245,7 +250,7 @@ index-is count lo hi h e =
     record { low = omega (arith, k, h); bytes = λ i. w i ∷ z i ∷ [] }
 
 pub load-const : (count : ℕ) → count ≤ 251 → Kind 7 6 (loadConstFrom false Instruction.LoadConst count)
-unfolding u16At instructionLine recordLine recordText workText recordOf lengthOf lengths loadConstFrom
+unfolding u16At instructionLine recordLine recordText recordOf lengthOf lengths loadConstFrom
 load-const count most =
     by-front 7 (Known 7 6 (loadConstFrom false Instruction.LoadConst count))
     (λ b0 b1 b2 b3 b4 b5 b6 rest bytes w v.
@@ -254,14 +259,14 @@ load-const count most =
           limited 31 (b4 ∷ [])
           (λ l. tested (leb count (b5 + 256 * b6)) 4
           (λ t. let q = index-is count b5 b6 most t in
-          read (retold (ending (ascii "LoadConst") (named b4 ∷ []) (decimal (b5 + 256 * b6) ∷ []) (space (decimal (b5 + 256 * b6))) (index-words (b5 + 256 * b6)))
+          read (retold (one-register (ascii "LoadConst") (named b4) (decimal (b5 + 256 * b6) ∷ []) (index-words (b5 + 256 * b6)))
           (ap (λ f. 7 ∷ 0 ∷ 6 ∷ 0 ∷ b4 ∷ f) (q .bytes) ∙ start 7 6 _ (bytes 0) (bytes 2) (omega arith) (omega arith) w v)
           (says 42 _ (load-const-row .low) (load-const-row .same) (reg b4 (l .0) (idx (b5 + 256 * b6) (q .low) none))))));
       local = refl;
     })
 
 pub fused : Kind 9 7 (fusedFrom false Instruction.Fused)
-unfolding u16At instructionLine recordLine recordText workText recordOf lengthOf lengths fusedFrom
+unfolding u16At instructionLine recordLine recordText recordOf lengthOf lengths fusedFrom
 fused =
     by-front 9 (Known 9 7 (fusedFrom false Instruction.Fused))
     (λ b0 b1 b2 b3 b4 b5 b6 b7 b8 rest bytes w v.
@@ -277,7 +282,7 @@ fused =
     })
 
 pub if-else : Kind 10 8 (ifElseFrom false Instruction.IfElse)
-unfolding u16At instructionLine recordLine recordText workText recordOf lengthOf lengths ifElseFrom condPlace placeAt
+unfolding u16At instructionLine recordLine recordText recordOf lengthOf lengths ifElseFrom condPlace placeAt
 if-else =
     by-front 10 (Known 10 8 (ifElseFrom false Instruction.IfElse))
     (λ b0 b1 b2 b3 b4 b5 b6 b7 b8 b9 rest bytes w v.
@@ -294,7 +299,7 @@ if-else =
     })
 
 pub load-math : Kind 10 9 loadMathFrom
-unfolding u16At instructionLine recordLine recordText workText recordOf lengthOf lengths loadMathFrom placeAt
+unfolding u16At instructionLine recordLine recordText recordOf lengthOf lengths loadMathFrom placeAt
 load-math =
     by-front 10 (Known 10 9 loadMathFrom)
     (λ b0 b1 b2 b3 b4 b5 b6 b7 b8 b9 rest bytes w v.
@@ -312,7 +317,7 @@ load-math =
     })
 
 pub load-const-math : (count : ℕ) → count ≤ 251 → Kind 9 10 (loadConstMathFrom count)
-unfolding u16At instructionLine recordLine recordText workText recordOf lengthOf lengths loadConstMathFrom
+unfolding u16At instructionLine recordLine recordText recordOf lengthOf lengths loadConstMathFrom
 load-const-math count most =
     by-front 9 (Known 9 10 (loadConstMathFrom count))
     (λ b0 b1 b2 b3 b4 b5 b6 b7 b8 rest bytes w v.
@@ -380,11 +385,10 @@ flag-low false = omega arith
 -- a line of a register and two numbers
 two-numbers : (name : List ℕ) (r l e : ℕ)
     → (name ++ tails (Text.register r ∷ decimal l ∷ decimal e ∷ [])) ++ 10 ∷ []
-    ≡ (name ++ registers (r ∷ []) ++ space (decimal l) ++ space (decimal e)) ++ 10 ∷ []
+    ≡ (name ++ space (Text.register r ++ space (decimal l) ++ space (decimal e))) ++ 10 ∷ []
 two-numbers name r l e =
-    ending name (r ∷ []) (decimal l ∷ decimal e ∷ []) (space (decimal l) ++ space (decimal e))
-    (ap (λ t. space (decimal l) ++ t) (index-words e))
-    ∙ ap (λ t. t ++ 10 ∷ []) (sym (append-assoc (name ++ registers (r ∷ [])) (space (decimal l)) (space (decimal e))))
+    one-register name r (decimal l ∷ decimal e ∷ []) (ap (λ t. space (decimal l) ++ t) (index-words e))
+    ∙ ap (λ t. (name ++ space t) ++ 10 ∷ []) (sym (append-assoc (Text.register r) (space (decimal l)) (space (decimal e))))
 
 pub branch-if : Kind 7 17 branchIfFrom
 unfolding u16At instructionLine recordLine recordText recordOf lengthOf lengths branchIfFrom

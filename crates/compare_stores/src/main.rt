@@ -3,12 +3,12 @@
 ghost use Prim.Native.Nat.{_+_, _*_, _≤_};
 ghost use mathlib.Core.Path.{_≡_};
 ghost use lib.ListN.{length};
-ghost use Rattle.pages.specs.Puts.{Puts};
+ghost use Rattle.text.specs.Puts.{Puts};
 ghost use Rattle.compare_stores.specs.Differences.{nextDifference, differenceLines, linesOrSame, oneWhere, differing, comparison};
-use pages::put;
-use pages::put_line;
 use reports::difference_line;
 use reports::more_line;
+use text::put::put;
+use text::put::put_line;
 use words::word_at;
 
 // The index of the first word from an index on that differs, or 1,602.

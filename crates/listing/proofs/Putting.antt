@@ -11,8 +11,8 @@ use Rattle.mir.specs.Read.{Read}
 use Rattle.mir.proofs.Decoding.{items, Here, Done}
 use Rattle.text.specs.Text.{constantsHeading, constantLine, constantLines, listingHeading, recordLine, recordLines, page}
 use Rattle.text.proofs.Short.{constant-short}
-use Rattle.pages.specs.Puts.{Puts}
-use Rattle.pages.proofs.Putting.{_▹_, renamed}
+use Rattle.text.specs.Puts.{Puts}
+use Rattle.text.proofs.Putting.{_▹_, renamed}
 
 -- the lines of a table
 module _ (cs : List ℕ) (i : ℕ) where

@@ -2,7 +2,7 @@
 // word where a file is named.
 ghost use Prim.Native.Nat.{_+_, _*_, _≤_};
 ghost use lib.ListN.{length};
-ghost use Rattle.pages.specs.Puts.{Puts};
+ghost use Rattle.text.specs.Puts.{Puts};
 ghost use Rattle.io.specs.Counts.{Counts};
 ghost use Rattle.text.specs.Line.{Prints};
 ghost use Rattle.listing.specs.Printed.{refusalOf, textOf, printedFor};

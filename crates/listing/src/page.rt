@@ -4,7 +4,7 @@ ghost use mathlib.Core.Path.{_≡_};
 ghost use lib.ListN.{length, take};
 ghost use Rattle.records.specs.Record.{records};
 ghost use Rattle.text.specs.Text.{constantLines, recordLines, page};
-ghost use Rattle.pages.specs.Puts.{Puts};
+ghost use Rattle.text.specs.Puts.{Puts};
 use records::reader::NextRecord;
 use records::reader::read_record;
 use text::line::Line;
@@ -18,7 +18,7 @@ pub(crate) fn put_line(out: &mut [u8], at: usize, line: Line) -> usize
     requires { ⌜ line .len ≤ length (line .bytes) ⌝ }
     ensures { λ r. ⌜ Puts (now (out .entry)) at (take (line .len) (line .bytes)) (now (out .exit)) r ⌝ }
 {
-    pages::put_line(out, at, line)
+    text::put::put_line(out, at, line)
 }
 
 fn put_constants(out: &mut [u8], start: usize, constants: &[u64]) -> usize

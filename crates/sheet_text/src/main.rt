@@ -2,16 +2,16 @@
 // and each instruction; or the refusal.
 ghost use Prim.Native.Nat.{_≤_};
 ghost use lib.ListN.{length};
-ghost use Rattle.pages.specs.Puts.{Puts};
+ghost use Rattle.text.specs.Puts.{Puts};
 ghost use Rattle.assembly.specs.SheetText.{printedText};
 
 mod printing;
 
-use pages::put_line;
 use printing::examined;
 use printing::put_lines;
 use reports::refusal_line;
 use sheet::setup::read_setup;
+use text::put::put_line;
 
 // The text for a sheet, and its length. A line has at most 80 bytes, and an instruction at least four.
 fn put_sheet(out: &mut [u8], sheet: &[u8]) -> usize

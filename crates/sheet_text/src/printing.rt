@@ -7,7 +7,7 @@ ghost use lib.ListN.{length, drop};
 ghost use Rattle.text.specs.Line.{Prints};
 ghost use Rattle.sheet.specs.Setup.{constantsOf};
 ghost use Rattle.sheet.specs.Instruction.{instructions};
-ghost use Rattle.pages.specs.Puts.{Puts};
+ghost use Rattle.text.specs.Puts.{Puts};
 ghost use Rattle.assembly.specs.Lines.{realLine};
 ghost use Rattle.sheet_text.specs.Seen.{seenOf};
 ghost use Rattle.assembly.specs.SheetText.{realLines, constantLines, instructionLines, linesOf};
@@ -16,7 +16,6 @@ use assembly::lines::instruction_line;
 use assembly::lines::mode_line;
 use assembly::lines::real_line;
 use lowering::realness::bit_at;
-use pages::put_line;
 use sheet::reader::NextInstruction;
 use sheet::reader::read_instruction;
 use sheet::setup::Setup;
@@ -24,6 +23,7 @@ use sheet::setup::constant_at;
 use sheet::setup::is_stable;
 use text::line::Line;
 use text::line::empty_line;
+use text::put::put_line;
 
 // The line of a place that is recorded as real, or no line.
 fn real_or_none(real: bool, i: u16) -> Line

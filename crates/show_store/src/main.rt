@@ -1,10 +1,10 @@
 // show_store STORE: prints every word of a store, one a line, by its name and its bits.
 ghost use Prim.Native.Nat.{_≤_};
 ghost use lib.ListN.{length};
-ghost use Rattle.pages.specs.Puts.{Puts};
+ghost use Rattle.text.specs.Puts.{Puts};
 ghost use Rattle.show_store.specs.Shown.{shown};
-use pages::put_line;
 use reports::word_line;
+use text::put::put_line;
 use words::word_at;
 
 // The lines of all words.

@@ -3,3 +3,4 @@ mod Digits
 pub mod Whole
 pub mod Short
 pub mod Words
+pub mod Putting

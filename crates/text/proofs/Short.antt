@@ -20,7 +20,7 @@ use Rattle.mir.specs.Operation.{uniNumber, binNumber, arithNumber, fusedNumber}
 use Rattle.mir.specs.Encode.{flagByte, recordOf, encodeWork, encode}
 use Rattle.mir.proofs.Tables.{and-left, and-right}
 use Rattle.text.specs.Sized.{SizedPlace, SizedWork, SizedRecord}
-use Rattle.text.specs.Text.{ascii, decimalIn, decimal, hexIn, register, place, nameOf, uniNames, uniName, binNames, binName, fusedNames, fusedName, complexNames, complexName, workText, recordText, recordLine, constantsHeading, constantLine, listingHeading, refusedLine}
+use Rattle.text.specs.Text.{ascii, decimalIn, decimal, hexIn, register, place, nameOf, uniNames, uniName, binNames, binName, fusedNames, fusedName, complexNames, complexName, workName, recordName, workOperands, recordOperands, recordLine, constantsHeading, constantLine, listingHeading, refusedLine}
 
 either : (b : Bool) (x y : List ℕ) (m : ℕ) → length x ≤ m → length y ≤ m → length (cond b x y) ≤ m
 either true x y m p q = p
@@ -47,7 +47,7 @@ digits (suc k) (suc d) n h =
     let i = digits k d (n / 10) (omega arith) in
     either (ltb n 10) _ _ (suc (suc k)) (omega arith) (simp length-append (omega arith))
 
-hexIn-length : (d n : ℕ) → length (hexIn d n) ≡ d
+pub hexIn-length : (d n : ℕ) → length (hexIn d n) ≡ d
 unfolding hexIn
 hexIn-length zero n = refl
 hexIn-length (suc d) n = let i = hexIn-length d (n / 16) in simp length-append (omega arith)
@@ -100,58 +100,64 @@ complex-short : (op : ArithOp) → length (complexName op) ≤ 16
 unfolding ascii complexName
 complex-short op = name-short 16 complexNames tt (arithNumber op)
 
-work-short : (w : Work) → SizedWork w → length (workText w) + 1 ≤ 5 * length (encodeWork w)
-unfolding ascii workText recordOf
+-- a name of at most 16 bytes and operands of at most 49, on a line of at most five bytes for each of the record's
+pub record Short (n o bytes : List ℕ) : Type 0 where
+  pub name : length n ≤ 16
+  pub operands : length o ≤ 49
+  pub both : length n + length o + 2 ≤ 5 * length bytes
+
+work-short : (w : Work) → SizedWork w → Short (workName w) (workOperands w) (encodeWork w)
+unfolding ascii workName workOperands recordOf
 work-short (Work.Uni op dst s1) h =
     let n = uni-short op in
     let r0 = register-short dst (h .0) in
     let r1 = register-short s1 (h .1) in
-    simp length-append (omega arith)
+    record { name = n; operands = simp length-append (omega arith); both = simp length-append (omega arith) }
 work-short (Work.Bi op dst s1 s2) h =
     let n = bin-short op in
     let r0 = register-short dst (h .0) in
     let r1 = register-short s1 (h .1) in
     let r2 = register-short s2 (h .2) in
-    simp length-append (omega arith)
+    record { name = n; operands = simp length-append (omega arith); both = simp length-append (omega arith) }
 work-short (Work.Mov dst s1) h =
     let r0 = register-short dst (h .0) in
     let r1 = register-short s1 (h .1) in
-    simp length-append (omega arith)
+    record { name = lit≤ tt; operands = simp length-append (omega arith); both = simp length-append (omega arith) }
 work-short (Work.Load dst loc) h =
     let r0 = register-short dst (h .0) in
     let p = place-short loc (h .1) in
-    simp length-append (omega arith)
+    record { name = lit≤ tt; operands = simp length-append (omega arith); both = simp length-append (omega arith) }
 work-short (Work.Save src loc) h =
     let r0 = register-short src (h .0) in
     let p = place-short loc (h .1) in
-    simp length-append (omega arith)
+    record { name = lit≤ tt; operands = simp length-append (omega arith); both = simp length-append (omega arith) }
 work-short (Work.LoadConst dst idx) h =
     let r0 = register-short dst (h .0) in
     let p = index-short idx (h .1) in
-    simp length-append (omega arith)
+    record { name = lit≤ tt; operands = simp length-append (omega arith); both = simp length-append (omega arith) }
 work-short (Work.Fused op dst a b c) h =
     let n = fused-short op in
     let r0 = register-short dst (h .0) in
     let r1 = register-short a (h .1) in
     let r2 = register-short b (h .2) in
     let r3 = register-short c (h .3) in
-    simp length-append (omega arith)
+    record { name = n; operands = simp length-append (omega arith); both = simp length-append (omega arith) }
 work-short (Work.IfElse dst t f loc) h =
     let r0 = register-short dst (h .0) in
     let r1 = register-short t (h .1) in
     let r2 = register-short f (h .2) in
     let p = place-short loc (h .3) in
-    simp length-append (omega arith)
+    record { name = lit≤ tt; operands = simp length-append (omega arith); both = simp length-append (omega arith) }
 work-short (Work.LoadComplex xd yd loc) h =
     let r0 = register-short xd (h .0) in
     let r1 = register-short yd (h .1) in
     let p = place-short loc (h .2) in
-    simp length-append (omega arith)
+    record { name = lit≤ tt; operands = simp length-append (omega arith); both = simp length-append (omega arith) }
 work-short (Work.SaveComplex xs ys loc) h =
     let r0 = register-short xs (h .0) in
     let r1 = register-short ys (h .1) in
     let p = place-short loc (h .2) in
-    simp length-append (omega arith)
+    record { name = lit≤ tt; operands = simp length-append (omega arith); both = simp length-append (omega arith) }
 work-short (Work.ComplexBi op xd yd x1 y1 x2 y2) h =
     let n = complex-short op in
     let r0 = register-short xd (h .0) in
@@ -160,27 +166,30 @@ work-short (Work.ComplexBi op xd yd x1 y1 x2 y2) h =
     let r3 = register-short y1 (h .3) in
     let r4 = register-short x2 (h .4) in
     let r5 = register-short y2 (h .5) in
-    simp length-append (omega arith)
+    record { name = n; operands = simp length-append (omega arith); both = simp length-append (omega arith) }
 
 flag-small : (e : Bool) → flagByte e < 256
 flag-small true = lit≤ tt
 flag-small false = lit≤ tt
 
-text-short : (r : Record) → SizedRecord r → length (recordText r) + 1 ≤ 5 * length (encode r)
-unfolding ascii recordText recordOf
+label-short : (name : List ℕ) (l : ℕ) → l < 256 → length name ≤ 6 → {bytes : List ℕ} → 5 ≤ length bytes → Short name (decimal l) bytes
+label-short name l h n k = let d = byte-short l h in record { name = omega arith; operands = omega arith; both = omega arith }
+
+pub text-short : (r : Record) → SizedRecord r → Short (recordName r) (recordOperands r) (encode r)
+unfolding ascii recordName recordOperands recordOf
 text-short (Record.Work w) h = work-short w h
-text-short (Record.Label l) h = let d = byte-short l h in omega arith
-text-short (Record.Branch l) h = let d = byte-short l h in omega arith
-text-short (Record.Call l) h = let d = byte-short l h in omega arith
+text-short (Record.Label l) h = label-short (ascii "Label") l h (lit≤ tt) (lit≤ tt)
+text-short (Record.Branch l) h = label-short (ascii "Branch") l h (lit≤ tt) (lit≤ tt)
+text-short (Record.Call l) h = label-short (ascii "Call") l h (lit≤ tt) (lit≤ tt)
 text-short (Record.BranchIf c l e) h =
     let r = register-short c (h .0) in
     let d = byte-short l (h .1) in
     let f = byte-short (flagByte e) (flag-small e) in
-    simp length-append (omega arith)
+    record { name = lit≤ tt; operands = simp length-append (omega arith); both = simp length-append (omega arith) }
 
 pub record-line-short : (r : Record) → SizedRecord r → length (recordLine r) ≤ 5 * length (encode r)
 unfolding recordLine
-record-line-short r h = let i = text-short r h in simp length-append (omega arith)
+record-line-short r h = let i = text-short r h .both in simp length-append (omega arith)
 
 work-length : (w : Work) → length (encodeWork w) ≤ 11
 unfolding recordOf

@@ -3,3 +3,4 @@ pub mod Paper
 pub mod Line
 pub mod Words
 pub mod Sized
+pub mod Puts

@@ -97,28 +97,56 @@ abbrev pub registers : List ℕ → List ℕ
 registers [] = []
 registers (r ∷ rs) = space (register r) ++ registers rs
 
--- "labels by number, [..] fields in order"
-unfoldable pub workText : Work → List ℕ
-unfolding ascii decimalIn register place uniName binName fusedName complexName
-workText (Work.Uni op dst s1) = uniName op ++ registers (dst ∷ s1 ∷ [])
-workText (Work.Bi op dst s1 s2) = binName op ++ registers (dst ∷ s1 ∷ s2 ∷ [])
-workText (Work.Mov dst s1) = ascii "Mov" ++ registers (dst ∷ s1 ∷ [])
-workText (Work.Load dst loc) = ascii "Load" ++ registers (dst ∷ []) ++ space (place loc)
-workText (Work.Save src loc) = ascii "Save" ++ registers (src ∷ []) ++ space (place loc)
-workText (Work.LoadConst dst idx) = ascii "LoadConst" ++ registers (dst ∷ []) ++ space (decimal idx)
-workText (Work.Fused op dst a b c) = fusedName op ++ registers (dst ∷ a ∷ b ∷ c ∷ [])
-workText (Work.IfElse dst t f loc) = ascii "IfElse" ++ registers (dst ∷ t ∷ f ∷ []) ++ space (place loc)
-workText (Work.LoadComplex xd yd loc) = ascii "LoadComplex" ++ registers (xd ∷ yd ∷ []) ++ space (place loc)
-workText (Work.SaveComplex xs ys loc) = ascii "SaveComplex" ++ registers (xs ∷ ys ∷ []) ++ space (place loc)
-workText (Work.ComplexBi op xd yd x1 y1 x2 y2) = complexName op ++ registers (xd ∷ yd ∷ x1 ∷ y1 ∷ x2 ∷ y2 ∷ [])
+-- "prints its name": a kind with operations that of the operation alone
+unfoldable pub workName : Work → List ℕ
+unfolding ascii uniName binName fusedName complexName
+workName (Work.Uni op dst s1) = uniName op
+workName (Work.Bi op dst s1 s2) = binName op
+workName (Work.Mov dst s1) = ascii "Mov"
+workName (Work.Load dst loc) = ascii "Load"
+workName (Work.Save src loc) = ascii "Save"
+workName (Work.LoadConst dst idx) = ascii "LoadConst"
+workName (Work.Fused op dst a b c) = fusedName op
+workName (Work.IfElse dst t f loc) = ascii "IfElse"
+workName (Work.LoadComplex xd yd loc) = ascii "LoadComplex"
+workName (Work.SaveComplex xs ys loc) = ascii "SaveComplex"
+workName (Work.ComplexBi op xd yd x1 y1 x2 y2) = complexName op
 
+unfoldable pub recordName : Record → List ℕ
+unfolding workName ascii
+recordName (Record.Work w) = workName w
+recordName (Record.Label l) = ascii "Label"
+recordName (Record.Branch l) = ascii "Branch"
+recordName (Record.Call l) = ascii "Call"
+recordName (Record.BranchIf c l e) = ascii "BranchIf"
+
+-- "labels by number, [..] fields in order": a space between each and the next
+unfoldable pub workOperands : Work → List ℕ
+unfolding decimalIn register place
+workOperands (Work.Uni op dst s1) = register dst ++ registers (s1 ∷ [])
+workOperands (Work.Bi op dst s1 s2) = register dst ++ registers (s1 ∷ s2 ∷ [])
+workOperands (Work.Mov dst s1) = register dst ++ registers (s1 ∷ [])
+workOperands (Work.Load dst loc) = register dst ++ space (place loc)
+workOperands (Work.Save src loc) = register src ++ space (place loc)
+workOperands (Work.LoadConst dst idx) = register dst ++ space (decimal idx)
+workOperands (Work.Fused op dst a b c) = register dst ++ registers (a ∷ b ∷ c ∷ [])
+workOperands (Work.IfElse dst t f loc) = register dst ++ registers (t ∷ f ∷ []) ++ space (place loc)
+workOperands (Work.LoadComplex xd yd loc) = register xd ++ registers (yd ∷ []) ++ space (place loc)
+workOperands (Work.SaveComplex xs ys loc) = register xs ++ registers (ys ∷ []) ++ space (place loc)
+workOperands (Work.ComplexBi op xd yd x1 y1 x2 y2) = register xd ++ registers (yd ∷ x1 ∷ y1 ∷ x2 ∷ y2 ∷ [])
+
+unfoldable pub recordOperands : Record → List ℕ
+unfolding workOperands decimalIn register
+recordOperands (Record.Work w) = workOperands w
+recordOperands (Record.Label l) = decimal l
+recordOperands (Record.Branch l) = decimal l
+recordOperands (Record.Call l) = decimal l
+recordOperands (Record.BranchIf c l e) = register c ++ space (decimal l) ++ space (decimal (flagByte e))
+
+-- its name, and its operands behind a space
 unfoldable pub recordText : Record → List ℕ
-unfolding workText ascii decimalIn
-recordText (Record.Work w) = workText w
-recordText (Record.Label l) = ascii "Label" ++ space (decimal l)
-recordText (Record.Branch l) = ascii "Branch" ++ space (decimal l)
-recordText (Record.Call l) = ascii "Call" ++ space (decimal l)
-recordText (Record.BranchIf c l e) = ascii "BranchIf" ++ registers (c ∷ []) ++ space (decimal l) ++ space (decimal (flagByte e))
+unfolding recordName recordOperands
+recordText r = recordName r ++ space (recordOperands r)
 
 -- a line ends with a line feed
 abbrev pub line : List ℕ → List ℕ

@@ -3,3 +3,4 @@ pub mod fields;
 pub mod line;
 pub mod lines;
 pub mod names;
+pub mod put;

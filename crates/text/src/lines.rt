@@ -4,7 +4,7 @@ ghost use lib.ListN.{length};
 ghost use Rattle.mir.specs.Encode.{encode};
 ghost use Rattle.text.specs.Line.{Adds, Prints};
 ghost use Rattle.text.specs.Sized.{SizedWork, SizedRecord};
-ghost use Rattle.text.specs.Text.{workText, recordText, constantsHeading, constantLine, listingHeading, recordLine, refusedLine};
+ghost use Rattle.text.specs.Text.{workName, recordName, workOperands, recordOperands, constantsHeading, constantLine, listingHeading, recordLine, refusedLine};
 use super::line::Line;
 use super::line::empty_line;
 use mir::records::Record;
@@ -12,33 +12,57 @@ use mir::records::Work;
 use mir::writer::flag_byte;
 
 impl Line {
-    fn work(self, work: Work) -> Line
-        ensures { λ r. ⌜ (Adds self (workText work) r) × SizedWork work ⌝ }
+    fn work_name(self, work: Work) -> Line
+        ensures { λ r. ⌜ Adds self (workName work) r ⌝ }
     {
         match work {
-            Work::Uni { op, dst, s1 } => self.uni_name(op).registers(&[dst, s1]),
-            Work::Bi { op, dst, s1, s2 } => self.bin_name(op).registers(&[dst, s1, s2]),
-            Work::Mov { dst, s1 } => self.text(b"Mov").registers(&[dst, s1]),
-            Work::Load { dst, loc } => self.text(b"Load").registers(&[dst]).place(loc),
-            Work::Save { src, loc } => self.text(b"Save").registers(&[src]).place(loc),
-            Work::LoadConst { dst, idx } => self.text(b"LoadConst")
-                .registers(&[dst])
-                .number(idx as u64),
-            Work::Fused { op, dst, a, b, c } => self.fused_name(op).registers(&[dst, a, b, c]),
+            Work::Uni { op, .. } => self.uni_name(op),
+            Work::Bi { op, .. } => self.bin_name(op),
+            Work::Mov { .. } => self.text(b"Mov"),
+            Work::Load { .. } => self.text(b"Load"),
+            Work::Save { .. } => self.text(b"Save"),
+            Work::LoadConst { .. } => self.text(b"LoadConst"),
+            Work::Fused { op, .. } => self.fused_name(op),
+            Work::IfElse { .. } => self.text(b"IfElse"),
+            Work::LoadComplex { .. } => self.text(b"LoadComplex"),
+            Work::SaveComplex { .. } => self.text(b"SaveComplex"),
+            Work::ComplexBi { op, .. } => self.complex_name(op),
+        }
+    }
+
+    pub fn record_name(self, record: Record) -> Line
+        ensures { λ r. ⌜ Adds self (recordName «record») r ⌝ }
+    {
+        match record {
+            Record::Work(work) => self.work_name(work),
+            Record::Label(_) => self.text(b"Label"),
+            Record::Branch(_) => self.text(b"Branch"),
+            Record::Call(_) => self.text(b"Call"),
+            Record::BranchIf { .. } => self.text(b"BranchIf"),
+        }
+    }
+
+    fn work_operands(self, work: Work) -> Line
+        ensures { λ r. ⌜ (Adds self (workOperands work) r) × SizedWork work ⌝ }
+    {
+        match work {
+            Work::Uni { op, dst, s1 } => self.register(dst).registers(&[s1]),
+            Work::Bi { op, dst, s1, s2 } => self.register(dst).registers(&[s1, s2]),
+            Work::Mov { dst, s1 } => self.register(dst).registers(&[s1]),
+            Work::Load { dst, loc } => self.register(dst).place(loc),
+            Work::Save { src, loc } => self.register(src).place(loc),
+            Work::LoadConst { dst, idx } => self.register(dst).number(idx as u64),
+            Work::Fused { op, dst, a, b, c } => self.register(dst).registers(&[a, b, c]),
             Work::IfElse {
                 dst,
                 true_val,
                 false_val,
                 cond,
-            } => self.text(b"IfElse")
-                .registers(&[dst, true_val, false_val])
+            } => self.register(dst)
+                .registers(&[true_val, false_val])
                 .place(cond),
-            Work::LoadComplex { xd, yd, loc } => self.text(b"LoadComplex")
-                .registers(&[xd, yd])
-                .place(loc),
-            Work::SaveComplex { xs, ys, loc } => self.text(b"SaveComplex")
-                .registers(&[xs, ys])
-                .place(loc),
+            Work::LoadComplex { xd, yd, loc } => self.register(xd).registers(&[yd]).place(loc),
+            Work::SaveComplex { xs, ys, loc } => self.register(xs).registers(&[ys]).place(loc),
             Work::ComplexBi {
                 op,
                 xd,
@@ -47,24 +71,23 @@ impl Line {
                 y1,
                 x2,
                 y2,
-            } => self.complex_name(op).registers(&[xd, yd, x1, y1, x2, y2]),
+            } => self.register(xd).registers(&[yd, x1, y1, x2, y2]),
         }
     }
 
-    fn record(self, record: Record) -> Line
-        ensures { λ r. ⌜ (Adds self (recordText «record») r) × SizedRecord «record» ⌝ }
+    pub fn record_operands(self, record: Record) -> Line
+        ensures { λ r. ⌜ (Adds self (recordOperands «record») r) × SizedRecord «record» ⌝ }
     {
         match record {
-            Record::Work(work) => self.work(work),
-            Record::Label(label) => self.text(b"Label").number(label as u64),
-            Record::Branch(label) => self.text(b"Branch").number(label as u64),
-            Record::Call(label) => self.text(b"Call").number(label as u64),
+            Record::Work(work) => self.work_operands(work),
+            Record::Label(label) => self.decimal(label as u64),
+            Record::Branch(label) => self.decimal(label as u64),
+            Record::Call(label) => self.decimal(label as u64),
             Record::BranchIf {
                 cond,
                 label,
                 is_else,
-            } => self.text(b"BranchIf")
-                .registers(&[cond])
+            } => self.register(cond)
                 .number(label as u64)
                 .number(flag_byte(is_else) as u64),
         }
@@ -97,7 +120,11 @@ pub fn listing_heading(records: u64, bytes: u64) -> Line
 pub fn record_line(record: Record) -> Line
     ensures { λ r. ⌜ (Prints (recordLine «record») r) × (r .len ≤ 5 * length (encode «record»)) ⌝ }
 {
-    empty_line().record(record).byte(b'\n')
+    empty_line()
+        .record_name(record)
+        .byte(b' ')
+        .record_operands(record)
+        .byte(b'\n')
 }
 
 pub fn refused_line(number: u64, index: u64) -> Line

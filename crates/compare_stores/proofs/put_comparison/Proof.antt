@@ -1,7 +1,7 @@
 -- `put_comparison` meets its contract.
 use borrow.Author.Needs.{needs}
 use native.Mathlib.Omega.{arith}
-use Rattle.pages.proofs.Putting.{_▹_, renamed, long, line-put}
+use Rattle.text.proofs.Putting.{_▹_, renamed, long, line-put}
 use Rattle.compare_stores.proofs.Searching.{no-more, some-more}
 use Rattle.compare_stores.proofs.put_comparison.Statement.{statement}
 use Rattle.compare_stores.proofs.put_comparison.Tie as tie

@@ -5,7 +5,7 @@ use Prim.Native.Nat.{suc, _+_, _-_, _*_, _≤_}
 use mathlib.Core.Path.{_≡_, ap, _∙_}
 use lib.ListN.{length}
 use Rattle.reports.specs.Lines.{differenceLine}
-use Rattle.pages.proofs.Putting.{Owes, all, less, none, long, renamed, line-put}
+use Rattle.text.proofs.Putting.{Owes, all, less, none, long, renamed, line-put}
 use Rattle.compare_stores.specs.Differences.{differenceLines}
 use Rattle.compare_stores.proofs.Searching.{line-on, line-end, lines-end}
 use Rattle.compare_stores.proofs.put_differences.Statement.{statement}

@@ -4,7 +4,7 @@ use native.Mathlib.Omega.{arith}
 use mathlib.Core.Path.{_≡_, _∙_}
 use lib.ListN.{length}
 use Rattle.text.specs.Text.{ascii}
-use Rattle.pages.proofs.Putting.{renamed, long, putting, over}
+use Rattle.text.proofs.Putting.{renamed, long, putting, over}
 use Rattle.compare_stores.specs.Differences.{differenceLines}
 use Rattle.compare_stores.proofs.Searching.{unlike, same}
 use Rattle.compare_stores.proofs.put_lines.Statement.{statement}

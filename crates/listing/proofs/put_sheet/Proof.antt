@@ -5,7 +5,7 @@ use Prim.Native.Nat.{ℕ}
 use mathlib.Core.Path.{_∙_}
 use lib.ListN.{replicate, length-replicate}
 use Rattle.complexify.proofs.Within.{within}
-use Rattle.pages.proofs.Putting.{renamed}
+use Rattle.text.proofs.Putting.{renamed}
 use Rattle.listing.proofs.Answering.{all-printed}
 use Rattle.listing.proofs.put_sheet.Statement.{statement}
 use Rattle.listing.proofs.put_sheet.Tie as tie

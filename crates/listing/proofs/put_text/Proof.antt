@@ -1,7 +1,7 @@
 -- `put_text` meets its contract. Assumes nothing.
 use borrow.Author.Needs.{needs}
 use native.Mathlib.Omega.{arith}
-use Rattle.pages.proofs.Putting.{renamed, whole-fits, printing}
+use Rattle.text.proofs.Putting.{renamed, whole-fits, printing}
 use Rattle.listing.proofs.Answering.{refused-text, accepted-text}
 use Rattle.listing.proofs.put_text.Statement.{statement}
 use Rattle.listing.proofs.put_text.Tie as tie

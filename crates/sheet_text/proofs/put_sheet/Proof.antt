@@ -2,7 +2,7 @@
 use borrow.Author.Needs.{needs}
 use native.Mathlib.Omega.{arith}
 use mathlib.Core.Path.{ap}
-use Rattle.pages.proofs.Putting.{line-put, renamed}
+use Rattle.text.proofs.Putting.{line-put, renamed}
 use Rattle.sheet_text.proofs.Turns.{unset, refused, printed, limits}
 use Rattle.sheet_text.proofs.put_sheet.Statement.{statement}
 use Rattle.sheet_text.proofs.put_sheet.Tie as tie

@@ -5,7 +5,7 @@ use Prim.Native.Nat.{_+_, _-_, _*_, _≤_}
 use mathlib.Core.Path.{_≡_, ap}
 use lib.ListN.{length}
 use Rattle.reports.specs.Lines.{wordLine}
-use Rattle.pages.proofs.Putting.{long, line-put, renamed, Owes, all, less, none}
+use Rattle.text.proofs.Putting.{long, line-put, renamed, Owes, all, less, none}
 use Rattle.show_store.specs.Shown.{shown, wordLines}
 use Rattle.show_store.proofs.Showing.{words-on, words-end}
 use Rattle.show_store.proofs.put_words.Statement.{statement}

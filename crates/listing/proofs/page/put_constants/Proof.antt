@@ -5,7 +5,7 @@ use native.Mathlib.Omega.{arith}
 use Prim.Native.Nat.{_+_, _-_, _*_, _≤_}
 use lib.ListN.{length, drop}
 use Rattle.text.specs.Text.{constantLines}
-use Rattle.pages.proofs.Putting.{long, whole-fits, printing, Owes, all, less, none}
+use Rattle.text.proofs.Putting.{long, whole-fits, printing, Owes, all, less, none}
 use Rattle.listing.proofs.Putting.{constants-on, constants-end}
 use Rattle.listing.proofs.page.put_constants.Statement.{statement}
 use Rattle.listing.proofs.page.put_constants.Tie as tie

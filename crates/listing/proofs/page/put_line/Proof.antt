@@ -2,7 +2,7 @@
 use borrow.Author.Needs.{needs}
 use native.Mathlib.Omega.{arith}
 use lib.Seq.{length-take-le}
-use Rattle.pages.proofs.Putting.{putting}
+use Rattle.text.proofs.Putting.{putting}
 use Rattle.listing.proofs.page.put_line.Statement.{statement}
 use Rattle.listing.proofs.page.put_line.Tie as tie
 

@@ -3,7 +3,7 @@ use borrow.Author.Needs.{needs}
 use native.Mathlib.Omega.{arith}
 use lib.ListN.{length}
 use Rattle.records.specs.Record.{records}
-use Rattle.pages.proofs.Putting.{long, whole-fits, printing}
+use Rattle.text.proofs.Putting.{long, whole-fits, printing}
 use Rattle.listing.proofs.Putting.{constants-short, paged}
 use Rattle.listing.proofs.page.put_page.Statement.{statement}
 use Rattle.listing.proofs.page.put_page.Tie as tie

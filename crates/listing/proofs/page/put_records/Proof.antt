@@ -9,7 +9,7 @@ use Rattle.mir.proofs.Decoding.{items, ended}
 use Rattle.records.specs.Record.{recordFrom, asNext}
 use Rattle.records.proofs.Reading.{here-record, torn-record}
 use Rattle.text.specs.Text.{recordLines}
-use Rattle.pages.proofs.Putting.{long, whole-fits, printing, Owes, all, less, none}
+use Rattle.text.proofs.Putting.{long, whole-fits, printing, Owes, all, less, none}
 use Rattle.listing.proofs.Putting.{records-on, records-end}
 use Rattle.listing.proofs.Sizes.{sized}
 use Rattle.listing.proofs.page.put_records.Statement.{statement}

@@ -7,7 +7,7 @@ use lib.ListN.{length}
 use Rattle.sheet.specs.Setup.{constantsOf, constantsFromOn}
 use Rattle.assembly.specs.SheetText.{constantLines}
 use Rattle.assembly.specs.Lines.{constantLine}
-use Rattle.pages.proofs.Putting.{long, line-put, renamed, Owes, all, less, none}
+use Rattle.text.proofs.Putting.{long, line-put, renamed, Owes, all, less, none}
 use Rattle.sheet_text.proofs.Turns.{constants-on, constants-end}
 use Rattle.sheet_text.proofs.printing.put_constants.Statement.{statement}
 use Rattle.sheet_text.proofs.printing.put_constants.Tie as tie

@@ -8,7 +8,7 @@ use Rattle.mir.proofs.Decoding.{items, ended}
 use Rattle.sheet.specs.Instruction.{instructionFrom, asNext}
 use Rattle.sheet.proofs.Reading.{here-instruction, torn-instruction}
 use Rattle.assembly.specs.SheetText.{instructionLines}
-use Rattle.pages.proofs.Putting.{long, line-put, Owes, all, less, none}
+use Rattle.text.proofs.Putting.{long, line-put, Owes, all, less, none}
 use Rattle.sheet_text.proofs.Turns.{instructions-on, instructions-end, four}
 use Rattle.sheet_text.proofs.printing.put_instructions.Statement.{statement}
 use Rattle.sheet_text.proofs.printing.put_instructions.Tie as tie

@@ -2,7 +2,7 @@
 use borrow.Author.Needs.{needs}
 use native.Mathlib.Omega.{arith}
 use mathlib.Core.Path.{ap}
-use Rattle.pages.proofs.Putting.{long, line-put, renamed, _▹_}
+use Rattle.text.proofs.Putting.{long, line-put, renamed, _▹_}
 use Rattle.assembly.specs.Lines.{modeLine}
 use Rattle.sheet_text.proofs.printing.put_lines.Statement.{statement}
 use Rattle.sheet_text.proofs.printing.put_lines.Tie as tie

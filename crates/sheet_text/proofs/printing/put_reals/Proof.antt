@@ -5,7 +5,7 @@ use Prim.Native.Nat.{_+_, _-_, _*_, _≤_}
 use mathlib.Core.Path.{ap}
 use lib.ListN.{length}
 use Rattle.assembly.specs.SheetText.{realLines}
-use Rattle.pages.proofs.Putting.{long, line-put, renamed, Owes, all, less, none}
+use Rattle.text.proofs.Putting.{long, line-put, renamed, Owes, all, less, none}
 use Rattle.sheet_text.proofs.Turns.{reals-on, reals-end}
 use mathlib.Core.Bool.{cond}
 use mathlib.Core.List.{[]}

@@ -1,9 +1,9 @@
--- `pages::put` meets its contract.
+-- `text::put::put` meets its contract.
 use borrow.Author.Needs.{needs}
 use native.Mathlib.Omega.{arith}
-use Rattle.pages.proofs.Putting.{stays, goes}
-use Rattle.pages.proofs.put.Statement.{statement}
-use Rattle.pages.proofs.put.Tie as tie
+use Rattle.text.proofs.Putting.{stays, goes}
+use Rattle.text.proofs.put.put.Statement.{statement}
+use Rattle.text.proofs.put.put.Tie as tie
 
 pub put-spec : {M : Type 1} → statement M
 put-spec =

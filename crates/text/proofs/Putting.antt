@@ -11,9 +11,9 @@ use Rattle.words.proofs.Lengths.{sets-append}
 use Rattle.words.proofs.Stored.{stored-fits}
 use Rattle.mir.specs.Encode.{buf, placed}
 use Rattle.mir.proofs.Placing.{placed-fits, placed-full}
 use Rattle.text.specs.declared.line.Line.{Line}
 use Rattle.text.specs.Line.{Prints}
-use Rattle.pages.specs.Puts.{Puts, lineText}
+use Rattle.text.specs.Puts.{Puts, lineText}
 
 -- what the code puts is what is placed
 module _ (o : List ℕ) (at : ℕ) (s : List ℕ) where

@@ -2,8 +2,8 @@
 ghost use mathlib.Core.Path.{_≡_};
 ghost use lib.ListN.{take};
 ghost use Rattle.mir.specs.Encode.{buf, placed};
-ghost use Rattle.pages.specs.Puts.{lineText};
-use text::line::Line;
+ghost use Rattle.text.specs.Puts.{lineText};
+use super::line::Line;
 use words::put_bytes;
 
 // Bytes from a position on; the position after them. Where there is no room for all of them nothing changes.

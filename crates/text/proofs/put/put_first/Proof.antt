@@ -1,9 +1,9 @@
--- `pages::put_first` meets its contract.
+-- `text::put::put_first` meets its contract.
 use borrow.Author.Needs.{needs}
 use native.Mathlib.Omega.{arith}
-use Rattle.pages.proofs.Putting.{all-of, some-of}
-use Rattle.pages.proofs.put_first.Statement.{statement}
-use Rattle.pages.proofs.put_first.Tie as tie
+use Rattle.text.proofs.Putting.{all-of, some-of}
+use Rattle.text.proofs.put.put_first.Statement.{statement}
+use Rattle.text.proofs.put.put_first.Tie as tie
 
 pub put-first-spec : {M : Type 1} → statement M
 put-first-spec =
