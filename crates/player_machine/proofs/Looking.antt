@@ -95,11 +95,11 @@ module _ (listing constants : List ℕ) (σ : Store) (i : ℕ) where
       ∙ index-by ruled σ (play constants (block rs) going (drop i rs) σ))
 
   -- accepted or refused
-  looks : ruled .number ≡ 0 → look listing constants σ i ≡ lookAt constants rs i σ (getElem? rs i)
+  pub looks : ruled .number ≡ 0 → look listing constants σ i ≡ lookAt constants rs i σ (getElem? rs i)
   unfolding look
   looks z = simp (eq-eqb _ _ z)
 
-  looks-not : (ruled .number ≡ 0 → ⊥)
+  pub looks-not : (ruled .number ≡ 0 → ⊥)
       → look listing constants σ i ≡ record { number = ruled .number; index = ruled .index; follows = 0; words = [] }
   unfolding look
   looks-not n = simp (ne-eqb _ _ n)
@@ -139,12 +139,15 @@ none-at [] i e = omega arith
 none-at (x ∷ rs) zero e = never (sym e)
 none-at (x ∷ rs) (suc i) e = let h = none-at rs i e in omega (arith, h)
 
-at-none : (rs : List Record) (i : ℕ) → length rs ≤ i → getElem? rs i ≡ none
+pub at-none : (rs : List Record) (i : ℕ) → length rs ≤ i → getElem? rs i ≡ none
 at-none [] i h = refl
 at-none (x ∷ rs) zero h = absurd (omega (arith, h))
 at-none (x ∷ rs) (suc i) h = at-none rs i (omega (arith, h))
 
 -- ---- one step
+
+pub here : (rs : List Record) (i : ℕ) {r : Record} {rest : List Record} → drop i rs ≡ r ∷ rest → suc i ≤ length rs
+here rs i e = let h = ap length e in let k = length-drop i rs in omega (arith, h, k)
 
 before-most : (l : ℕ) (rs : List Record) → before l rs ≤ length rs
 before-most l [] = omega arith
@@ -153,6 +156,12 @@ before-most l (r ∷ rs) = by (isLabel l r) (before-most l rs)
     by : (b : Bool) → before l rs ≤ length rs → cond b 0 (suc (before l rs)) ≤ suc (length rs)
     by true h = omega (arith, h)
     by false h = omega (arith, h)
+
+pub label-within : (rs : List Record) (i l : ℕ) → suc i ≤ length rs → labelFrom rs (suc i) l ≤ length rs
+label-within rs i l h =
+    let m = before-most l (drop (suc i) rs) in
+    let k = length-drop (suc i) rs in
+    omega (arith, h, m, k)
 
 module _ (constants : List ℕ) (rs : List Record) (i : ℕ) (σ : Store) where
   abbrev next : Record → ℕ
@@ -167,16 +176,7 @@ module _ (constants : List ℕ) (rs : List Record) (i : ℕ) (σ : Store) where
     pub on : suc i ≤ next r
     pub within : next r ≤ length rs
 
-  label-within : (l : ℕ) → suc i ≤ length rs → labelFrom rs (suc i) l ≤ length rs
-  label-within l h =
-      let m = before-most l (drop (suc i) rs) in
-      let k = length-drop (suc i) rs in
-      omega (arith, h, m, k)
-
   module _ {rest : List Record} where
-    here : {r : Record} → drop i rs ≡ r ∷ rest → suc i ≤ length rs
-    here e = let h = ap length e in let k = length-drop i rs in omega (arith, h, k)
-
     -- a Label that is sought behind the record
     sought : (l : ℕ) {r : Record} → drop i rs ≡ r ∷ rest
         → play constants (block rs) (seeking l) rest σ ≡ left (drop (labelFrom rs (suc i) l) rs) σ
@@ -189,14 +189,14 @@ module _ (constants : List ℕ) (rs : List Record) (i : ℕ) (σ : Store) where
     leads-branch l true q e =
         record {
           same = ap (λ l. left l σ) e ∙ simp q (sym (ap (λ l. ticks 1 (left l σ)) (drop-of-length-le rs (le-refl _))));
-          on = simp q (here e);
+          on = simp q (here rs i e);
           within = simp q (le-refl _);
         }
     leads-branch l false q e =
         record {
           same = ap (λ l. left l σ) e ∙ simp q (ap (ticks 1) (sought l e));
           on = simp q (omega arith);
-          within = simp q (label-within l (here e));
+          within = simp q (label-within rs i l (here rs i e));
         }
 
     leads-if : (c l : ℕ) (x b : Bool) → branches x (at σ c) ≡ b → drop i rs ≡ Record.BranchIf c l x ∷ rest → Leads (Record.BranchIf c l x)
@@ -205,13 +205,13 @@ module _ (constants : List ℕ) (rs : List Record) (i : ℕ) (σ : Store) where
         record {
           same = ap (λ l. left l σ) e ∙ simp q (ap (ticks 1) (sought l e));
           on = simp q (omega arith);
-          within = simp q (label-within l (here e));
+          within = simp q (label-within rs i l (here rs i e));
         }
     leads-if c l x false q e =
         record {
           same = ap (λ l. left l σ) e ∙ simp q (ap (λ l. ticks 1 (left l σ)) (sym (behind-it rs i e)));
           on = simp q (le-refl _);
-          within = simp q (here e);
+          within = simp q (here rs i e);
         }
 
     leads : (r : Record) → isCall r ≡ false → drop i rs ≡ r ∷ rest → Leads r
@@ -220,13 +220,13 @@ module _ (constants : List ℕ) (rs : List Record) (i : ℕ) (σ : Store) where
         record {
           same = ap (λ l. left l σ) e ∙ ap (λ l. ticks 1 (left l (exec constants w σ))) (sym (behind-it rs i e));
           on = le-refl _;
-          within = here e;
+          within = here rs i e;
         }
     leads (Record.Label l) q e =
         record {
           same = ap (λ l. left l σ) e ∙ ap (λ l. ticks 1 (left l σ)) (sym (behind-it rs i e));
           on = le-refl _;
-          within = here e;
+          within = here rs i e;
         }
     leads (Record.Branch l) q e = leads-branch l (eqb l 0) refl e
     leads (Record.Call l) q e = absurd (true≢false q)
@@ -296,8 +296,8 @@ module _ (listing constants : List ℕ) where
       let d = leads constants all i σ r c (e .same) in
       let k = put-length (shown ws) σ in
       let f : Fine (next constants all i σ r) (put (shown ws) σ) =
-          ap (λ w. refusal listing (length constants) (next constants all i σ r) w .number) k
-          ∙ from-there (next constants all i σ r) (accepted listing (length constants) i (length σ) z) (d .within) in
+      ap (λ w. refusal listing (length constants) (next constants all i σ r) w .number) k
+      ∙ from-there (next constants all i σ r) (accepted listing (length constants) i (length σ) z) (d .within) in
       record {
         fine = f;
         same = plays-from listing constants σ i z

@@ -8,3 +8,4 @@ pub mod Step
 pub mod Look
 pub mod Looked
 pub mod Facts
+pub mod LookFacts
