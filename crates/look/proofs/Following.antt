@@ -1,11 +1,11 @@
 -- The record that follows, by positions and by indices: a counted walk to a Label, and what is known of the record at a position.
-use Prim.Native.Nat.{ℕ, zero, suc, _+_, _-_, _≤_, _<_}
+use Prim.Native.Nat.{ℕ, suc, _+_, _-_, _≤_}
 use native.Mathlib.Omega.{arith}
 use native.Mathlib.Nat.{zero-add}
-use mathlib.Core.Path.{_≡_, refl, sym, ap, _∙_, subst}
+use mathlib.Core.Path.{_≡_, refl, sym, ap, _∙_}
 use mathlib.Core.Bool.{Bool, true, false, cond}
-use mathlib.Core.List.{List, [], _∷_}
-use mathlib.Core.Option.{Option, none, some}
+use mathlib.Core.List.{List, _∷_}
+use mathlib.Core.Option.{none, some}
 use lib.ListN.{length, take, drop}
 use lib.Dec.{eqb}
 use borrow.Author.Tests.{eq-eqb, ne-eqb}
@@ -22,12 +22,12 @@ use Rattle.player_machine.specs.Step.{before, labelFrom, follows}
 use Rattle.player_machine.specs.Look.{named}
 use Rattle.player_machine.proofs.Stepping.{behind-it}
 use Rattle.player_machine.proofs.Looking.{here, label-within}
-use Rattle.player.specs.Encoded.{jumpOf, jumpEncoded, jumpIn}
-use Rattle.player.specs.Positions.{left, fault, Sound}
+use Rattle.player.specs.Encoded.{jumpEncoded, jumpIn}
+use Rattle.player.specs.Positions.{left, fault}
 use Rattle.records.proofs.Refusals.{Found}
 use Rattle.player.proofs.Encoding.{encoding, a-jump, a-branch-if}
 use Rattle.player.proofs.Looks.{readable}
-use Rattle.look.specs.Standing.{Standing, Stood, BeforeLabel, FollowsAt}
+use Rattle.look.specs.Standing.{Standing, Stood, BeforeLabel}
 
 -- ---- the counted walk
 

@@ -1,15 +1,13 @@
 -- A look by what the passes find: refused, at the end, or at a record.
-use Prim.Native.Nat.{ℕ, suc, _-_, _≤_, _<_}
+use Prim.Native.Nat.{ℕ, _-_, _≤_, _<_}
 use native.Mathlib.Omega.{arith}
 use mathlib.Core.Path.{_≡_, refl, sym, ap, _∙_}
 use mathlib.Core.Bool.{Bool, true, false}
-use mathlib.Core.List.{List, [], _∷_}
-use mathlib.Core.Option.{none, some}
-use lib.ListN.{length, take, drop, getElem?, length-drop}
+use mathlib.Core.List.{List}
+use lib.ListN.{length, take, drop, length-drop}
 use lib.Dec.{ltb}
 use borrow.Author.Tests.{ltb-true, ltb-false}
 use Rattle.mir.specs.declared.records.Record.{Record}
-use Rattle.mir.specs.Read.{got}
 use Rattle.mir.proofs.Parts.{part}
 use Rattle.mir.proofs.Decoding.{ended}
 use Rattle.records.specs.Record.{records, recordFrom}
@@ -18,10 +16,10 @@ use Rattle.player_machine.specs.Refusal.{Refusal, refusal}
 use Rattle.player_machine.specs.Step.{written, step}
 use Rattle.player_machine.specs.Look.{shown, lookAt, look}
 use Rattle.player_machine.proofs.Stepping.{head?, at-head}
-use Rattle.player_machine.proofs.Refusing.{Accepted, accepted}
+use Rattle.player_machine.proofs.Refusing.{Accepted}
 use Rattle.player_machine.proofs.Looking.{looks, looks-not, at-none}
 use Rattle.player.specs.declared.Verdict.{Verdict}
-use Rattle.player.specs.Positions.{left, fault, Judged}
+use Rattle.player.specs.Positions.{Judged}
 use Rattle.player.proofs.Looks.{readable}
 use Rattle.player.proofs.Answering.{judged}
 use Rattle.look.specs.declared.LookAnswer.{LookAnswer}

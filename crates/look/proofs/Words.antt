@@ -1,18 +1,17 @@
 -- What is shown of a record, read out of the copy that it was played on: the bits that the words hold there that it fills.
-use Prim.Native.Nat.{ℕ, zero, suc, _+_, _*_, _≤_, _<_}
+use Prim.Native.Nat.{ℕ, suc, _+_, _≤_, _<_}
 use native.Mathlib.Omega.{arith}
-use mathlib.Core.Path.{_≡_, refl, sym, ap, _∙_, subst}
+use mathlib.Core.Path.{_≡_, refl, sym, ap, _∙_}
 use mathlib.Core.Bool.{Bool, true, false, cond, _||_, true≢false}
 use mathlib.Core.List.{List, [], _∷_}
 use mathlib.Core.Option.{none}
-use lib.ListN.{length, getD, set, length-set}
+use lib.ListN.{length, set, length-set}
 use lib.Seq.{getD-set-same, getD-set-other}
 use lib.Dec.{eqb}
 use borrow.Author.Tests.{eq-eqb, ne-eqb, eqb-false}
 use Rattle.mir.specs.declared.records.Loc.{Loc}
 use Rattle.mir.specs.declared.records.Work.{Work}
 use Rattle.mir.specs.declared.records.Record.{Record}
-use Rattle.mir.specs.Place.{class, index}
 use Rattle.mir.specs.Read.{got}
 use Rattle.mir.proofs.IfRead.{Saved}
 use Rattle.mir.proofs.Decoding.{Bytes}
@@ -21,7 +20,7 @@ use Rattle.words.proofs.Stored.{stored-whole}
 use Rattle.records.specs.Record.{recordFrom}
 use Rattle.records.proofs.Holding.{Holds}
 use Rattle.records.proofs.Held.{held}
-use Rattle.player_machine.specs.Machine.{Store, at, place, Write, _≔_, writes, put, exec}
+use Rattle.player_machine.specs.Machine.{Store, at, place, _≔_, writes, put, exec}
 use Rattle.player_machine.specs.Draws.{fills}
 use Rattle.player_machine.specs.Step.{written}
 use Rattle.player_machine.specs.Look.{isWritten, shown}

@@ -3,7 +3,7 @@ ghost use mathlib.Core.Path.{_≡_};
 ghost use Rattle.player_machine.specs.Look as Machine;
 ghost use Rattle.look.specs.Numbers.{told};
 
-mod call;
+pub mod call;
 mod follow;
 mod show;
 

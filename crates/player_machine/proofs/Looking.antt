@@ -1,5 +1,5 @@
 -- Looking equals playing that record, and looking again and again is the play's way.
-use Prim.Native.Nat.{ℕ, zero, suc, _+_, _-_, _≤_, _<_}
+use Prim.Native.Nat.{ℕ, zero, suc, _+_, _-_, _≤_}
 use native.Mathlib.Omega.{arith}
 use native.Mathlib.Nat.{zero-add, add-assoc, le-refl}
 use mathlib.Core.Path.{_≡_, refl, sym, ap, _∙_, subst}
@@ -12,16 +12,16 @@ use borrow.Author.Tests.{eq-eqb, ne-eqb, eqb-true, le-ltb}
 use Rattle.mir.specs.declared.records.Record.{Record}
 use Rattle.records.specs.Record.{records}
 use Rattle.player_machine.specs.Machine.{Store, at, put, exec, isLabel, seek, block, branches, going, seeking, End, ticks, play}
-use Rattle.player_machine.specs.Jumps.{isJump, breach}
+use Rattle.player_machine.specs.Jumps.{isJump}
 use Rattle.player_machine.specs.Count.{isCall}
 use Rattle.player_machine.specs.Answer.{Answer, accept, answer}
 use Rattle.player_machine.specs.Refusal.{Refusal, refusal, answerBy}
-use Rattle.player_machine.specs.Step.{PlayState, before, labelFrom, Follows, then, end, follows, written, step}
+use Rattle.player_machine.specs.Step.{before, labelFrom, follows, written, step}
 use Rattle.player_machine.specs.Look.{shown, named, Look, stepAt, lookAt, lookBy, look}
 use Rattle.player_machine.specs.Looked.{listed, ShowsStep, Looked, Bench, stopsAt, looksMore, bench, playsMore, LookedOn}
 use Rattle.player_machine.proofs.Seeking.{seek-play}
 use Rattle.player_machine.proofs.Drawing.{put-length}
-use Rattle.player_machine.proofs.Stepping.{head?, at-head, behind-it, label-seek}
+use Rattle.player_machine.proofs.Stepping.{behind-it, label-seek}
 use Rattle.player_machine.proofs.Refusing.{Accepted, accepted, refused}
 use Rattle.player_machine.proofs.Showing.{shown-put, shown-written, shown-once, shown-few}
 

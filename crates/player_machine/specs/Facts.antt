@@ -195,11 +195,11 @@ table =
     ∷ (played (Record.Label 1 ∷ neg 4 4 ∷ branchIf 3 ∷ Record.Branch 0 ∷ Record.Label 3 ∷ []) [] 0 [], 9 ∷ 2 ∷ 0 ∷ [])
     ∷ []
 
-abbrev given : List (List ℕ × List ℕ) → List (List ℕ)
+abbrev pub given : List (List ℕ × List ℕ) → List (List ℕ)
 given [] = []
 given (row ∷ rows) = row .0 ∷ given rows
 
-abbrev wanted : List (List ℕ × List ℕ) → List (List ℕ)
+abbrev pub wanted : List (List ℕ × List ℕ) → List (List ℕ)
 wanted [] = []
 wanted (row ∷ rows) = row .1 ∷ wanted rows
 

@@ -9,7 +9,7 @@ use Rattle.mir.specs.declared.records.Record.{Record}
 use Rattle.records.specs.Record.{records}
 use Rattle.player_machine.specs.Machine.{Store, Write, _≔_}
 use Rattle.player_machine.specs.Refusal.{Refusal, refusal}
-use Rattle.player_machine.specs.Step.{PlayState, Follows, then, end, Step, step}
+use Rattle.player_machine.specs.Step.{Follows, then, end, Step, step}
 
 -- is the word at an index written?
 unfoldable pub isWritten : ℕ → List Write → Bool

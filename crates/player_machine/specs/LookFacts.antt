@@ -21,7 +21,7 @@ use Rattle.player_machine.specs.Jumps.{breach}
 use Rattle.player_machine.specs.Refusal.{refusal}
 use Rattle.player_machine.specs.Step.{follows, written, step}
 use Rattle.player_machine.specs.Look.{isWritten, shown, Look, look}
-use Rattle.player_machine.specs.Facts.{blank, const, neg, one, two, three, minusZero, called, swept}
+use Rattle.player_machine.specs.Facts.{blank, const, neg, one, two, three, minusZero, called, swept, given, wanted}
 
 -- the three numbers, then index and bits of each word
 abbrev words : List Write → List ℕ
@@ -77,14 +77,6 @@ table =
     ∷ (lookedAt (neg 4 4 ∷ const 4 0 ∷ []) [] 0 [], 5 ∷ 1 ∷ 0 ∷ [])
     ∷ (told (look [] [] (replicate 1601 0) 0), 8 ∷ 0 ∷ 0 ∷ [])
     ∷ []
-
-abbrev given : List (List ℕ × List ℕ) → List (List ℕ)
-given [] = []
-given (row ∷ rows) = row .0 ∷ given rows
-
-abbrev wanted : List (List ℕ × List ℕ) → List (List ℕ)
-wanted [] = []
-wanted (row ∷ rows) = row .1 ∷ wanted rows
 
 pub holds : given table ≡ wanted table
 unfolding ofBits toBits add sub mul lengths lengthOf uniOps binOps arithOps fusedOps u16At among takesKind headFrom placeAt savePlace condPlace recordOf decodedFrom decoded uniFrom biFrom movFrom loadFrom saveFrom loadConstFrom fusedFrom ifElseFrom loadComplexFrom saveComplexFrom complexBiFrom labelFrom branchFrom callFrom branchIfFrom fieldsFrom recordFrom uniWord complexWords writes put isLabel breach refusal follows written step isWritten shown look

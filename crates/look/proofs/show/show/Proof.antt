@@ -1,7 +1,7 @@
 -- `look::show::show` meets its contract.
 use borrow.Author.Needs.{needs}
 use borrow.Author.Tests.{not-true, not-false}
-use mathlib.Core.Path.{sym, _∙_}
+use mathlib.Core.Path.{_∙_}
 use Rattle.look.proofs.Words.{copied, shows-none, shows-one, shows-two}
 use Rattle.look.proofs.show.show.Statement.{statement}
 use Rattle.look.proofs.show.show.Tie as tie
