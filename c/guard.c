@@ -78,3 +78,8 @@ uint32_t tulipcricket_nearest(uint64_t re, uint64_t im, const uint8_t *points, s
 uint32_t tulipcricket_shelf(const uint8_t *sheet, size_t sheet_len, uint8_t *answer, size_t answer_len) {
     GUARDED(tulipcricket_shelf_unguarded(SLICE(sheet), SLICE(answer)));
 }
+
+uint32_t tulipcricket_look(const uint8_t *listing, size_t listing_len, const uint8_t *constants, size_t constants_len,
+                           const uint8_t *store, size_t store_len, uint64_t record, uint8_t *answer, size_t answer_len) {
+    GUARDED(tulipcricket_look_unguarded(SLICE(listing), SLICE(constants), SLICE(store), record, SLICE(answer)));
+}

@@ -40,6 +40,11 @@ uint32_t tulipcricket_nearest_unguarded(uint64_t re, uint64_t im, const uint8_t 
 TULIPCRICKET_NONNULL
 uint32_t tulipcricket_shelf_unguarded(const uint8_t *sheet, size_t sheet_len, uint8_t *answer, size_t answer_len);
 
+TULIPCRICKET_NONNULL
+uint32_t tulipcricket_look_unguarded(const uint8_t *listing, size_t listing_len, const uint8_t *constants,
+                                     size_t constants_len, const uint8_t *store, size_t store_len, uint64_t record,
+                                     uint8_t *answer, size_t answer_len);
+
 #ifdef __cplusplus
 }
 #endif

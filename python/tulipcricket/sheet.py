@@ -107,6 +107,10 @@ class Listing:
         after.played = answer.played
         return after
 
+    def look(self, store: Store, record: int) -> library.Looked:
+        """What the record would do, played outside a call on this store, which stays as it is. Raises Refused."""
+        return library.look(self.data, self.constants, store.data, record)
+
 
 class Sheet:
     """A sheet's bytes; where a formula made it, the line of each instruction, so that a refusal names it."""
