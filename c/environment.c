@@ -266,7 +266,7 @@ static void shelf(const Environment *e) {
 static void in(const Environment *e) {
     for (size_t i = 0; i < sizeof rows / sizeof *rows; i++) nearest(e, rows + i);
     for (size_t i = 0; i < sizeof cases / sizeof *cases; i++) play(e, cases + i);
-    for (size_t i = 0; i < sizeof cases / sizeof *cases; i++) look(e, cases + i);
+    for (size_t i = 0; i < sizeof cases / sizeof *cases; i += 5) look(e, cases + i); /* the first a Half, the last a ComplexBi */
     lower(e);
     peak(e);
     shelf(e);

@@ -1,7 +1,7 @@
 //! Looking before playing on listings of which document 02, f) says what is shown and what follows.
 
 use oracle::format::*;
-use oracle::look::{look, Looked};
+use oracle::look::{examples, look, Looked};
 use oracle::make::*;
 use oracle::names::{bi, uni};
 
@@ -91,6 +91,21 @@ fn a_branch_if_goes_by_the_store_lent() {
         assert_eq!([next(0, word), next(1, word)], [3, 1].map(|record| accepted(4, record, &[])));
     }
     assert_eq!(look(&listing(0), &[], &store(&[]), 2), accepted(4, 3, &[]));
+}
+
+#[test]
+fn every_record_of_the_seeds_names_what_follows() {
+    let found: Vec<(u32, u64, usize)> = examples()
+        .iter()
+        .map(|case| look(&case.listing, &case.constants, &case.store, case.start))
+        .map(|looked| (looked.number, looked.follows, looked.words.len()))
+        .collect();
+    let follows = [1, 3, 3, 4, 8, 6, 7, 16, 9, 5, 11, 12, 13, 14, 16, 16, 16];
+    let words = [0, 0, 0, 0, 0, 0, 1, 0, 0, 0, 1, 1, 1, 2, 0, 1, 0];
+    let mut expected: Vec<(u32, u64, usize)> =
+        follows.iter().zip(words).map(|(next, count)| (0, *next, count)).collect();
+    expected.push((STRAY, 0, 0));
+    assert_eq!(found, expected);
 }
 
 #[test]
