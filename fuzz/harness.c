@@ -301,11 +301,12 @@ static void is_written(const Play *p, uint64_t index) {
 }
 
 /* Looks with the slices of a play, which gives the same number and index. */
-static void check_look(const uint8_t *slices[3], const size_t lengths[4], uint64_t record) {
+static void check_look(const uint8_t *slices[3], const size_t lengths[4], uint64_t record, size_t answer_length) {
     static Play looked, played;
+    size_t for_look[4] = {lengths[0], lengths[1], lengths[2], answer_length};
     size_t for_play[4] = {lengths[0], lengths[1], lengths[2], TULIPCRICKET_PLAY_ANSWER};
-    look(&looked, slices, lengths, record, 0xa5);
-    if (lengths[3] != TULIPCRICKET_LOOK_ANSWER) {
+    look(&looked, slices, for_look, record, 0xa5);
+    if (answer_length != TULIPCRICKET_LOOK_ANSWER) {
         HOLDS(looked.number == 8 && filled(looked.answer.at, looked.answer.length, 0xa5));
         return;
     }
@@ -520,9 +521,8 @@ static void fuzz_play(const uint8_t *data, size_t size) {
                          lent_length(data[1], 1, TULIPCRICKET_PLAY_ANSWER, 8)};
     if (lengths[1] > sizeof constants) lengths[1] = 0;
     fill_store(store, data + 9, rest + 8 * words + listed, left - 8 * words - listed);
+    check_look(slices, lengths, start, lent_length(data[1], 1, TULIPCRICKET_LOOK_ANSWER, 8));
     check_play(slices, lengths, start);
-    lengths[3] = lent_length(data[1], 1, TULIPCRICKET_LOOK_ANSWER, 8);
-    check_look(slices, lengths, start);
 }
 
 int LLVMFuzzerTestOneInput(const uint8_t *data, size_t size) {
