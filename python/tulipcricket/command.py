@@ -1,4 +1,5 @@
-"""The command `run`: a formula and a table in, answers out, with a plot and a report where they are asked for.
+"""The commands of `python -m tulipcricket`, and `run`: a formula and a table in, answers out, with a plot and a report where they are asked
+for.
 
 Exit status: 0 answers given; 1 the formula, the table or the sheet is refused, or validation failed; 2 wrong usage, or a file that cannot
 be read or made.
@@ -9,22 +10,18 @@ from __future__ import annotations
 import argparse
 import sys
 import time
-from pathlib import Path
 from typing import Any, Dict, List, Mapping, NoReturn, Optional, Sequence, Tuple
 
-from . import plots, provenance, report
+from . import plots, provenance, readings, report
 from . import table as tables
 from .circuits import formula_text
-from .errors import FormulaError, LibraryMissing, TableError, TulipcricketError
+from .errors import FormulaError, LibraryMissing, TulipcricketError
+from .files import Commands, Unusable, add_bits, add_output, add_table, may_be_made, read_file, table_from, write_file
 from .formula import Formula, Run
 from .meaning import Value
 from .words import double_of
 
 PICTURES = (".svg", ".png", ".pdf")
-
-
-class Unusable(Exception):
-    """Wrong usage, or a file that cannot be read or made."""
 
 
 class Version(argparse.Action):
@@ -44,13 +41,18 @@ def parser() -> argparse.ArgumentParser:
     top = argparse.ArgumentParser(prog="tulipcricket", description="Answers of a formula, every bit by the proved library.")
     top.add_argument("--version", action=Version, help="print the commit, and stop")
     commands = top.add_subparsers(dest="command", required=True)
+    add_run(commands)
+    readings.add(commands)
+    return top
+
+
+def add_run(commands: Commands) -> None:
+    """The words of `run`."""
     run = commands.add_parser("run", help="play a formula at every line of a table", description=run_text())
     run.add_argument("files", nargs="*", metavar="FILE", help="FORMULA TABLE, or TABLE with --circuit; - is standard input")
-    run.add_argument("-o", "--output", default="-", metavar="FILE", help="where the answers go (standard output)")
-    run.add_argument("--force", action="store_true", help="replace files that exist")
-    run.add_argument("--bits", action="store_true", help="each answer's word too, as 16 hexadecimal digits")
-    run.add_argument("--separator", metavar="SIGN", help="what parts columns: , ; or tab (seen from the first line)")
-    run.add_argument("--decimal", default=".", choices=[".", ","], help="the decimal sign of the table and of the answers")
+    add_output(run)
+    add_bits(run)
+    add_table(run)
     run.add_argument("--column", action="append", default=[], metavar="NAME=HEADER", help="the table's column for a given name")
     run.add_argument("--circuit", metavar="CIRCUIT", help="a circuit as R0-p(R1,CPE1) in place of a formula file")
     run.add_argument("--values", metavar="LIST", help="the circuit's values in its order, parted by commas")
@@ -60,44 +62,12 @@ def parser() -> argparse.ArgumentParser:
     run.add_argument("--plot", action="append", default=[], metavar="FILE", help="Nyquist and Bode plot: .svg, .png or .pdf")
     run.add_argument("--report", metavar="FILE", help="one HTML file: formula, operations, answers, plots")
     run.add_argument("-x", "--over", metavar="NAME", help="the given name that plots are drawn over (the first real one)")
-    return top
+    run.set_defaults(call=run_command)
 
 
 def run_text() -> str:
     """What run does, for --help."""
     return "Plays a formula at every line of a table. Exit status: 0 answered, 1 refused, 2 wrong usage or a file."
-
-
-# files
-
-
-def read_file(name: str) -> bytes:
-    """The bytes of a file, or of standard input."""
-    try:
-        return sys.stdin.buffer.read() if name == "-" else Path(name).read_bytes()
-    except OSError as wrong:
-        raise Unusable(f"{name}: {wrong.strerror}") from None
-
-
-def may_be_made(name: str, force: bool) -> None:
-    """Refuses a file that exists, and a folder that does not, before any work is done."""
-    path = Path(name)
-    if name != "-" and path.exists() and not force:
-        raise Unusable(f"{name} exists; --force replaces it")
-    if name != "-" and not path.parent.is_dir():
-        raise Unusable(f"{name}: no folder {path.parent}")
-
-
-def write_file(name: str, data: bytes) -> None:
-    """Writes a file, or standard output."""
-    try:
-        if name == "-":
-            sys.stdout.buffer.write(data)
-            sys.stdout.buffer.flush()
-        else:
-            Path(name).write_bytes(data)
-    except OSError as wrong:
-        raise Unusable(f"{name}: {wrong.strerror}") from None
 
 
 class Bar:
@@ -148,15 +118,7 @@ def table_of(words: argparse.Namespace, formula: Formula, name: Optional[str]) -
         if formula.givens:
             raise Unusable(f"no table is said, and the formula is given {', '.join(formula.givens)}")
         return None
-    shown = name if name != "-" else "standard input"
-    try:
-        text = read_file(name).decode("utf-8-sig")
-    except UnicodeDecodeError:
-        raise TableError(shown, "this is not UTF-8") from None
-    separator = {None: None, "tab": "\t", "\\t": "\t"}.get(words.separator, words.separator)
-    if separator is not None and len(separator) != 1:
-        raise Unusable("a separator is one sign")
-    table = tables.Table(text, shown, separator, words.decimal)
+    table = table_from(words, name)
     tables.use_names(table, tables.renamed(words.column))
     return table
 
@@ -241,7 +203,7 @@ def main(arguments: Optional[Sequence[str]] = None) -> int:
     """The command; its exit status."""
     words = parser().parse_args(arguments)
     try:
-        run_command(words)
+        words.call(words)
     except FormulaError as refused:
         print(refused.shown(), file=sys.stderr)
         return 1
