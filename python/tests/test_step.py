@@ -14,8 +14,9 @@ from unittest import mock
 
 from tulipcricket import Formula, Listing, Refused, Store, lost, word_of
 from tulipcricket.command import main
-from tulipcricket.listing import records, word_name
+from tulipcricket.listing import records
 from tulipcricket.stepping import HELP, Bench
+from tulipcricket.texts import name_of
 
 HERE = Path(__file__).resolve().parent
 
@@ -49,7 +50,7 @@ class Texts(unittest.TestCase):
         """docs/SHELF.md, 2: registers, then pairs of places."""
         names = {0: "G0", 63: "G63", 64: "Ret", 65: "Temp", 66: "Stack 0 re", 577: "Stack 255 im", 578: "Mem 0 re", 587: "Mem 4 im",
                  1090: "Param 0 re", 1601: "Param 255 im"}
-        self.assertEqual({index: word_name(index) for index in names}, names)
+        self.assertEqual({index: name_of(index) for index in names}, names)
 
 
 def through(bench: Bench) -> List[int]:

@@ -1,29 +1,22 @@
-"""A listing's records as text, written from docs/SHELF.md, 2 and 3, in the form that `listing` prints; and the names of a store's words."""
+"""A listing's records as text, in the form that `listing` prints: the way back of paper.py, by the same tables."""
 
 from __future__ import annotations
 
 from typing import Dict, Iterator, List, NamedTuple, Tuple
 
-CLASSES = ("Stack", "Mem", "Param")
-UNI: Dict[int, str] = dict(enumerate((
-    "Neg", "Not", "Abs", "Root", "", "Recip", "Round", "Floor", "Ceiling", "Trunc", "", "", "", "Half", "IsZero", "", "Sign",
-)))
-BI: Dict[int, str] = dict(enumerate((
-    "Plus", "Minus", "Times", "Divide", "GreaterThan", "GreaterThanEqual", "LittleThan", "LittleThanEqual", "Equal", "NotEqual", "And", "",
-    "Or", "Xor",
-)))
-FUSED = {0: "MulAdd"}
-COMPLEX = {op: BI[op] + "Complex" for op in range(4)}
+from .paper import CLASSES, OTHERS, WITH_OPERATIONS
+from .texts import name_of
 
-LABEL, BRANCH, CALL, BRANCH_IF = 14, 15, 16, 17
-
-# kind: its name or the names of its operations, and its fields behind the operation: r a register, c a constant's index, p a place, n a byte
-OPERATIONS = {1: UNI, 2: BI, 7: FUSED, 13: COMPLEX}
-NAMES = {3: "Mov", 4: "Load", 5: "Save", 6: "LoadConst", 8: "IfElse", 11: "LoadComplex", 12: "SaveComplex", LABEL: "Label", BRANCH: "Branch",
-         CALL: "Call", BRANCH_IF: "BranchIf"}
-FIELDS = {1: "rr", 2: "rrr", 3: "rr", 4: "rp", 5: "rp", 6: "rc", 7: "rrrr", 8: "rrrp", 11: "rrp", 12: "rrp", 13: "rrrrrr", LABEL: "n",
-          BRANCH: "n", CALL: "n", BRANCH_IF: "rnn"}
+BRANCH, CALL = 15, 16
 SIZES = {"r": 1, "c": 2, "p": 3, "n": 1}
+
+FORMS: Dict[Tuple[int, int], Tuple[str, str]] = {
+    (kind, number): (name, fields) for kind, (operations, fields) in WITH_OPERATIONS.items() for name, number in operations.items()
+}
+"""Kind and operation: the operation's name, and the fields behind it."""
+
+OTHER_FORMS: Dict[int, Tuple[str, str]] = {kind: (name, fields) for name, (kind, fields) in OTHERS.items()}
+"""The kinds without an operation."""
 
 
 class Record(NamedTuple):
@@ -35,16 +28,11 @@ class Record(NamedTuple):
     @property
     def text(self) -> str:
         """The record as `listing` prints it: name or operation, then its fields."""
-        operations = OPERATIONS.get(self.kind)
-        if operations is None:
-            return " ".join([NAMES[self.kind], *self._shown(self.fields)])
-        return " ".join([operations[self.fields[0]], *self._shown(self.fields[1:])])
-
-    def _shown(self, rest: bytes) -> Iterator[str]:
-        for field in FIELDS[self.kind]:
-            size = SIZES[field]
-            yield shown(field, rest[:size])
-            rest = rest[size:]
+        if self.kind in OTHER_FORMS:
+            name, fields = OTHER_FORMS[self.kind]
+            return " ".join([name, *operands(fields, self.fields)])
+        name, fields = FORMS[self.kind, self.fields[0]]
+        return " ".join([name, *operands(fields, self.fields[1:])])
 
     @property
     def returns(self) -> bool:
@@ -52,39 +40,28 @@ class Record(NamedTuple):
         return self.kind == BRANCH and self.fields[0] == 0
 
 
+def operands(fields: str, data: bytes) -> Iterator[str]:
+    """Each field as text: a register, a place, a number."""
+    for field in fields:
+        size = SIZES[field]
+        yield shown(field, data[:size])
+        data = data[size:]
+
+
 def shown(field: str, data: bytes) -> str:
-    """One field as text."""
-    number = int.from_bytes(data, "little")
+    """One field."""
     if field == "r":
-        return register_name(number)
+        return name_of(data[0])
     if field == "p":
         return f"{CLASSES[data[0]]} {int.from_bytes(data[1:], 'little')}"
-    return str(number)
-
-
-def register_name(number: int) -> str:
-    """G0 to G63, Ret, Temp."""
-    return {64: "Ret", 65: "Temp"}.get(number, f"G{number}")
-
-
-def word_name(index: int) -> str:
-    """The name of a store's word: a register, or a place with its half."""
-    if index < 66:
-        return register_name(index)
-    kind, rest = divmod(index - 66, 512)
-    return f"{CLASSES[kind]} {rest // 2} {('re', 'im')[rest % 2]}"
+    return str(int.from_bytes(data, "little"))
 
 
 def records(listing: bytes) -> List[Record]:
     """The records of a listing that the player accepts."""
     found, at = [], 0
     while at < len(listing):
-        length, kind = two(listing, at)
+        length, kind = int.from_bytes(listing[at: at + 2], "little"), int.from_bytes(listing[at + 2: at + 4], "little")
         found.append(Record(kind, listing[at + 4: at + length]))
         at += length
     return found
-
-
-def two(listing: bytes, at: int) -> Tuple[int, int]:
-    """A record's length and kind."""
-    return int.from_bytes(listing[at: at + 2], "little"), int.from_bytes(listing[at + 2: at + 4], "little")

@@ -10,8 +10,9 @@ from typing import Callable, Dict, Iterator, List, NamedTuple, Optional, Tuple
 from . import library
 from .errors import Refused
 from .files import Commands, Unusable, read_file
-from .listing import CALL, records, word_name
+from .listing import CALL, records
 from .sheet import WORDS, Listing, Store
+from .texts import name_of
 from .words import hexadecimal, written
 
 HELP = """\
@@ -116,7 +117,7 @@ def differing(some: Tuple[int, ...], others: Tuple[int, ...]) -> Dict[int, int]:
 
 def line_of(index: int, word: int) -> str:
     """A word by name, bits and decimal."""
-    return f"  {word_name(index)} {hexadecimal(word)} {written(word)}"
+    return f"  {name_of(index)} {hexadecimal(word)} {written(word)}"
 
 
 def shown(bench: Bench) -> Iterator[str]:
@@ -137,7 +138,7 @@ def told(bench: Bench, name: str) -> Iterator[str]:
             yield line_of(index, word)
         return
     for index, word in enumerate(words(bench.store)):
-        if name in (word_name(index), word_name(index).rpartition(" ")[0]):
+        if name in (name_of(index), name_of(index).rpartition(" ")[0]):
             yield line_of(index, word)
 
 
