@@ -265,7 +265,16 @@ def sources() -> list[Path]:
 # ---- what a reader must believe
 
 # The entries, by crate; C functions, programs and `theorems` need not be named.
-ENTRIES = {"complexify": "lower", "player": "play", "thin_lower": "lower", "peak": "peak", "nearest": "nearest_point", "figures": "shelf", "pages": "pages"}
+ENTRIES = {
+    "complexify": "lower",
+    "player": "play",
+    "look": "look",
+    "thin_lower": "lower",
+    "peak": "peak",
+    "nearest": "nearest_point",
+    "figures": "shelf",
+    "pages": "pages",
+}
 
 
 def is_program(crate: str) -> bool:

@@ -21,6 +21,7 @@
 #define tulipcricket_nearest tulipcricket_nearest_unguarded
 #define tulipcricket_peak tulipcricket_peak_unguarded
 #define tulipcricket_shelf tulipcricket_shelf_unguarded
+#define tulipcricket_look tulipcricket_look_unguarded
 #define tulipcricket_pages tulipcricket_pages_unguarded
 #endif
 
@@ -163,6 +164,31 @@ static void play(const Environment *e, const Case *c) {
     words(e, c->what, store, after, TULIPCRICKET_STORE / 8);
 }
 
+/* Looking at the record of a case: the words that playing it writes, and the store as it was. */
+static void look(const Environment *e, const Case *c) {
+    static uint64_t store[TULIPCRICKET_STORE / 8], after[TULIPCRICKET_STORE / 8];
+    uint64_t answer[8], expected[8] = {0, 1, 1, 1, 4, c->expected[0]};
+    uint8_t constants[1] = {0};
+    char what[100];
+    snprintf(what, sizeof what, "looking at %s", c->what);
+    if (c->record[2] == 13) {
+        expected[3] = 2;
+        expected[6] = 5;
+        expected[7] = c->expected[1];
+    }
+    memset(store, LENT, sizeof store);
+    memcpy(store, c->given, sizeof c->given);
+    memcpy(after, store, sizeof store);
+    memset(answer, LENT, sizeof answer);
+    enter(e);
+    uint32_t number = tulipcricket_look(c->record, c->record[0], constants, 0, (const uint8_t *)store, sizeof store, 0,
+                                        (uint8_t *)answer, sizeof answer);
+    kept(e, "tulipcricket_look", leave());
+    holds(e, "a look's number", number == 0);
+    holds(e, "a look at a store", memcmp(store, after, sizeof store) == 0);
+    words(e, what, answer, expected, 8);
+}
+
 /* Lowering: document 01's sheet on paper, its listing, constants and answer. */
 static const uint8_t sheet[] = {
     69, 0, 32, 0, 0, [69] = 12, 0, 33, 0, 0, 0, 0, 0, 0, 0, 0, 0x40,
@@ -263,6 +289,7 @@ static void pages(const Environment *e) {
 static void in(const Environment *e) {
     for (size_t i = 0; i < sizeof rows / sizeof *rows; i++) nearest(e, rows + i);
     for (size_t i = 0; i < sizeof cases / sizeof *cases; i++) play(e, cases + i);
+    for (size_t i = 0; i < sizeof cases / sizeof *cases; i += 5) look(e, cases + i); /* the first a Half, the last a ComplexBi */
     lower(e);
     peak(e);
     shelf(e);
@@ -310,6 +337,10 @@ static void empty(void) {
           tulipcricket_nearest(0, 0, none, 0, end, sizeof played) == 0 && memcmp(played, zeros, sizeof played) == 0);
     holds(&e, "peak of no run", tulipcricket_peak(none, 0, 1, none, 0) == 0 && tulipcricket_peak(none, 0, 0, none, 0) == 12);
     holds(&e, "shelf of nothing at all", tulipcricket_shelf(none, 0, none, 0) == 8);
+    holds(&e, "look at nothing at all", tulipcricket_look(none, 0, none, 0, none, 0, 0, none, 0) == 8);
+    holds(&e, "look at the end of no records",
+          tulipcricket_look(none, 0, none, 0, store, sizeof store, 0, answer, TULIPCRICKET_LOOK_ANSWER) == 0 &&
+              memcmp(lowered, zeros, TULIPCRICKET_LOOK_ANSWER) == 0);
     holds(&e, "pages of nothing at all", tulipcricket_pages(none, 0, none, 0, none, 0, none, 0) == 8);
     holds(&e, "no page of no records",
           tulipcricket_pages(none, 0, none, 0, none, 0, end, sizeof played) == 0 && memcmp(played, zeros, sizeof played) == 0);

@@ -79,6 +79,11 @@ uint32_t tulipcricket_shelf(const uint8_t *sheet, size_t sheet_len, uint8_t *ans
     GUARDED(tulipcricket_shelf_unguarded(SLICE(sheet), SLICE(answer)));
 }
 
+uint32_t tulipcricket_look(const uint8_t *listing, size_t listing_len, const uint8_t *constants, size_t constants_len,
+                           const uint8_t *store, size_t store_len, uint64_t record, uint8_t *answer, size_t answer_len) {
+    GUARDED(tulipcricket_look_unguarded(SLICE(listing), SLICE(constants), SLICE(store), record, SLICE(answer)));
+}
+
 uint32_t tulipcricket_pages(const uint8_t *listing, size_t listing_len, const uint8_t *constants, size_t constants_len,
                             uint8_t *pages, size_t pages_len, uint8_t *answer, size_t answer_len) {
     GUARDED(tulipcricket_pages_unguarded(SLICE(listing), SLICE(constants), SLICE(pages), SLICE(answer)));

@@ -12,7 +12,8 @@
  *   5 missing constant  6 barred operand  7 listing full      8 wrong setup     9 stray jump
  *  10 misplaced label  11 unequal records (labels and branches)  14 sheet too long
  * Lowering never gives 9; playing never gives 6, 7, 10, 11 or 14. Of document 02 the running peak returns 0, 8 or
- * 12, the nearest point 0, 8 or 13, the shelf figures what lowering returns, pages what playing returns or 7.
+ * 12, the nearest point 0, 8 or 13, the shelf figures what lowering returns, looking at a record what playing returns,
+ * pages that or 7.
  *
  * Lowering lists what the Rust lists, faults too. In plain mode a LoadMath Divide of a real register by a complex place gives a wrong
  * quotient: 6 / (1 + i) plays as 6 - 3i. Load the place into a general register and Divide by that. docs/DIFFERENCES.md has more.
@@ -39,6 +40,7 @@ enum {
     TULIPCRICKET_POINTS_LIMIT = 8192,    /* bytes of the reference points: 512 of two words */
     TULIPCRICKET_NEAREST_ANSWER = 24,
     TULIPCRICKET_SHELF_ANSWER = 40,
+    TULIPCRICKET_LOOK_ANSWER = 64,
     TULIPCRICKET_PAGE = 4380,            /* bytes of a page: 60 lines of 72 characters and a line feed */
     TULIPCRICKET_PAGES_LIMIT = 976740,   /* bytes of the pages of the longest listing with 256 constants: 223 pages */
     TULIPCRICKET_PAGES_ANSWER = 24
@@ -132,6 +134,28 @@ uint32_t tulipcricket_nearest(uint64_t re, uint64_t im, const uint8_t *points, s
  * Refused: number and index are those of lowering with 65,536 bytes, and the figures 0. Where the answer is not 40 bytes it is as lent, and
  * the number 8. */
 uint32_t tulipcricket_shelf(const uint8_t *sheet, size_t sheet_len, uint8_t *answer, size_t answer_len);
+
+/* Looks at one record before it is played: which words it would write, and which record would follow.
+ *
+ * listing, constants, store  as for playing; the store is only read.
+ * record     the record to look at; the count of records is the end, where nothing is written.
+ * answer     64 bytes:
+ *              0  number
+ *              8  index: of the refused record; accepted, the count of records
+ *             16  the record that follows; the count of records is the end
+ *             24  how many words the record writes: 0, 1 or 2
+ *             32  store index of the word written first; 0 where there is none
+ *             40  the bits that it then holds; 0 where there is none
+ *             48  store index of the other word, likewise
+ *             56  its bits
+ *
+ * These words put into the store give what playing this one record outside a call gives. A word is told even where its bits stay; one that is
+ * written twice is told once, with the later bits. Label, Branch, BranchIf and Call write none; after a Call follows Label 1, and after a
+ * Branch 0, one in the block too, the end.
+ * Refused: number and index are those of playing from this record, all else is 0. By 8 also where constants or store are no whole number of
+ * words. Where the answer is not 64 bytes it is as lent, and the number 8. */
+uint32_t tulipcricket_look(const uint8_t *listing, size_t listing_len, const uint8_t *constants, size_t constants_len,
+                           const uint8_t *store, size_t store_len, uint64_t record, uint8_t *answer, size_t answer_len);
 
 /* Lays a listing out on pages of text: a line for each constant, then one for each record.
  *

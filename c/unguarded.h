@@ -41,6 +41,11 @@ TULIPCRICKET_NONNULL
 uint32_t tulipcricket_shelf_unguarded(const uint8_t *sheet, size_t sheet_len, uint8_t *answer, size_t answer_len);
 
 TULIPCRICKET_NONNULL
+uint32_t tulipcricket_look_unguarded(const uint8_t *listing, size_t listing_len, const uint8_t *constants,
+                                     size_t constants_len, const uint8_t *store, size_t store_len, uint64_t record,
+                                     uint8_t *answer, size_t answer_len);
+
+TULIPCRICKET_NONNULL
 uint32_t tulipcricket_pages_unguarded(const uint8_t *listing, size_t listing_len, const uint8_t *constants,
                                       size_t constants_len, uint8_t *pages, size_t pages_len, uint8_t *answer,
                                       size_t answer_len);

@@ -249,6 +249,82 @@ static uint32_t check_play(const uint8_t *slices[3], const size_t lengths[4], ui
     return first.number;
 }
 
+/* Looking */
+
+static void look(Play *p, const uint8_t *slices[3], const size_t lengths[4], uint64_t record, uint8_t fill) {
+    lend_copy(&p->listing, slices[0], lengths[0], fill);
+    lend_copy(&p->constants, slices[1], lengths[1], fill);
+    lend_copy(&p->store, slices[2], lengths[2], fill);
+    lend(&p->answer, lengths[3], fill);
+    p->number = tulipcricket_look(p->listing.at, p->listing.length, p->constants.at, p->constants.length, p->store.at,
+                                  p->store.length, record, p->answer.at, p->answer.length);
+    take_back(&p->listing, fill);
+    take_back(&p->constants, fill);
+    take_back(&p->store, fill);
+    take_back(&p->answer, fill);
+    HOLDS(same(&p->listing, slices[0]) && same(&p->constants, slices[1]) && same(&p->store, slices[2]));
+}
+
+/* Where a record of an accepted listing stands; its end where there is none of that index. */
+static const uint8_t *record_at(const Lent *listing, uint64_t index) {
+    size_t at = 0;
+    for (; index > 0 && at < listing->length; index--) at += two(listing->at + at);
+    return listing->at + at;
+}
+
+/* After a jump that goes follows its Label, or with label 0 the end; after any other record the next one. */
+static void is_followed(const Play *p, uint64_t index) {
+    const uint8_t *record = record_at(&p->listing, index);
+    size_t kind = two(record + 2), label = record[kind == 17 ? 5 : 4];
+    uint64_t records = word_at(p->answer.at + 8), next = word_at(p->answer.at + 16);
+    int goes = kind == 15 || kind == 16 || (kind == 17 && (word_at(p->store.at + 8 * record[4]) != 0) != record[6]);
+    const uint8_t *there = record_at(&p->listing, next);
+    HOLDS(goes || next == index + 1);
+    HOLDS(!goes || label != 0 || next == records);
+    HOLDS(!goes || label == 0 || (next < records && two(there + 2) == 14 && there[4] == label));
+}
+
+/* The words told, put into the store, give what playing the record alone gives. They are as many as the record writes. */
+static void is_written(const Play *p, uint64_t index) {
+    static Play alone;
+    uint8_t marks[WORDS] = {0};
+    const uint8_t *answer = p->answer.at, *record = record_at(&p->listing, index);
+    const uint8_t *slices[3] = {record, p->constants.at, p->store.at};
+    int jumps = two(record + 2) >= 14;
+    size_t lengths[4] = {jumps ? 0 : two(record), p->constants.length, TULIPCRICKET_STORE, TULIPCRICKET_PLAY_ANSWER}, marked = 0;
+    play(&alone, slices, lengths, 0, 0xa5);
+    HOLDS(alone.number == 0);
+    mark(marks, record);
+    for (size_t i = 0; i < WORDS; i++) marked += marks[i];
+    HOLDS(word_at(answer + 24) == marked && (marked < 2 || word_at(answer + 32) != word_at(answer + 48)));
+    for (size_t i = 0; i < 2; i++) {
+        uint64_t at = word_at(answer + 32 + 16 * i), bits = word_at(answer + 40 + 16 * i);
+        HOLDS(i < marked ? at < WORDS && marks[at] && word_at(alone.store.at + 8 * at) == bits : at == 0 && bits == 0);
+    }
+}
+
+/* Looks with the slices of a play, which gives the same number and index. */
+static void check_look(const uint8_t *slices[3], const size_t lengths[4], uint64_t record, size_t answer_length) {
+    static Play looked, played;
+    size_t for_look[4] = {lengths[0], lengths[1], lengths[2], answer_length};
+    size_t for_play[4] = {lengths[0], lengths[1], lengths[2], TULIPCRICKET_PLAY_ANSWER};
+    look(&looked, slices, for_look, record, 0xa5);
+    if (answer_length != TULIPCRICKET_LOOK_ANSWER) {
+        HOLDS(looked.number == 8 && filled(looked.answer.at, looked.answer.length, 0xa5));
+        return;
+    }
+    play(&played, slices, for_play, record, 0x5a);
+    HOLDS(looked.number == played.number && memcmp(looked.answer.at, played.answer.at, 16) == 0);
+    if (looked.number != 0) {
+        HOLDS(filled(looked.answer.at + 16, TULIPCRICKET_LOOK_ANSWER - 16, 0));
+    } else if (record == word_at(looked.answer.at + 8)) {
+        HOLDS(word_at(looked.answer.at + 16) == record && filled(looked.answer.at + 24, TULIPCRICKET_LOOK_ANSWER - 24, 0));
+    } else {
+        is_followed(&looked, record);
+        is_written(&looked, record);
+    }
+}
+
 /* Whether a lowered listing has a branch to a label from 3 on that does not stand in it. */
 static int awaits(const uint8_t *listing, size_t length) {
     uint8_t awaited[256] = {0};
@@ -513,6 +589,7 @@ static void fuzz_play(const uint8_t *data, size_t size) {
                          lent_length(data[1], 1, TULIPCRICKET_PLAY_ANSWER, 8)};
     if (lengths[1] > sizeof constants) lengths[1] = 0;
     fill_store(store, data + 9, rest + 8 * words + listed, left - 8 * words - listed);
+    check_look(slices, lengths, start, lent_length(data[1], 1, TULIPCRICKET_LOOK_ANSWER, 8));
     check_play(slices, lengths, start);
     check_pages(slices, lengths, (int)(start % 3) - 1, lent_length(data[1], 1, TULIPCRICKET_PAGES_ANSWER, 8));
 }

@@ -12,6 +12,7 @@ pub mod flow;
 pub mod format;
 pub mod inputs;
 pub mod lists;
+pub mod look;
 pub mod machine;
 pub mod make;
 pub mod meaning;

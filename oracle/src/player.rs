@@ -338,6 +338,23 @@ fn work(record: Record, constants: &[u64], store: &mut [u64]) {
     }
 }
 
+/// The words that a record writes, as store indices in the order written.
+fn destinations(record: Record) -> Vec<usize> {
+    match record {
+        Record::Uni { dst, .. }
+        | Record::Bi { dst, .. }
+        | Record::Mov { dst, .. }
+        | Record::Load { dst, .. }
+        | Record::LoadConst { dst, .. }
+        | Record::MulAdd { dst, .. }
+        | Record::IfElse { dst, .. } => vec![dst as usize],
+        Record::Save { place, .. } => vec![word_of(place)],
+        Record::LoadComplex { xd, yd, .. } | Record::ComplexBi { xd, yd, .. } => vec![xd as usize, yd as usize],
+        Record::SaveComplex { place, .. } => vec![word_of(place), word_of(place) + 1],
+        Record::Label(_) | Record::Branch(_) | Record::Call(_) | Record::BranchIf { .. } => Vec::new(),
+    }
+}
+
 /// Plays the record at `at`: the next one's index, `None` where a Branch 0 ends the play. `back` is where a Call goes on.
 fn step(
     records: &[Record],
@@ -399,6 +416,30 @@ pub fn play(listing: &[u8], constants: &[u64], store: &mut [u64], start: u64) ->
             Played { number: 0, index: records.len() as u64, played }
         }
     }
+}
+
+/// One record, played outside a call on a copy of a store.
+pub struct Single {
+    /// Records of the listing.
+    pub records: usize,
+    /// The words that it writes, as store indices in the order written.
+    pub written: Vec<usize>,
+    /// The copy afterwards.
+    pub store: Vec<u64>,
+    /// The next record; the count of records where the play ends.
+    pub next: usize,
+}
+
+/// Plays the record `at` alone; at the end of the listing none. Its refusal where a play from there has one.
+pub fn play_one(listing: &[u8], constants: &[u64], store: &[u64], at: u64) -> Result<Single, (u32, u64)> {
+    let records = accept(listing, constants.len(), store.len(), at)?;
+    let (count, at) = (records.len(), at as usize);
+    let mut copy = store.to_vec();
+    if at == count {
+        return Ok(Single { records: count, written: Vec::new(), store: copy, next: count });
+    }
+    let next = step(&records, constants, &mut copy, at, &mut None).unwrap_or(count);
+    Ok(Single { records: count, written: destinations(records[at]), store: copy, next })
 }
 
 /// A play from record 0 that stops where it is told.

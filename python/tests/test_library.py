@@ -82,6 +82,20 @@ class Functions(unittest.TestCase):
             Listing(LISTING, b"").play(Store())
         self.assertEqual((caught.exception.number, caught.exception.index), (5, 0))
 
+    def test_look(self) -> None:
+        """Each record of the C example, the end, and 9 past it."""
+        listing, store = Listing(LISTING, bytes.fromhex("0000000000000040")), Store({"Mem 3": 3 + 4j, "G4": 2.0, "G6": 3.0})
+        before = store.data
+        self.assertEqual(listing.look(store, 0), (5, 1, ((4, word_of(2.0)),)))
+        self.assertEqual(listing.look(store, 1), (5, 2, ((6, word_of(3.0)), (7, word_of(4.0)))))
+        self.assertEqual(listing.look(store, 3), (5, 4, ((4, word_of(6.0)),)))
+        self.assertEqual(listing.look(store, 4), (5, 5, ((586, word_of(2.0)), (587, 0))))
+        self.assertEqual(listing.look(store, 5), (5, 5, ()))
+        with self.assertRaises(Refused) as caught:
+            listing.look(store, 6)
+        self.assertEqual((caught.exception.number, caught.exception.index), (9, 6))
+        self.assertEqual(store.data, before)
+
     def test_pages(self) -> None:
         """One page of the C example; no page of nothing; the most that a listing can have; refused as playing is."""
         page = Sheet(SHEET).lower().pages()

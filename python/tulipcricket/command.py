@@ -11,7 +11,7 @@ import argparse
 import sys
 from typing import Any, Dict, List, Mapping, NoReturn, Optional, Sequence, Tuple
 
-from . import plots, provenance, readings, report, shelf
+from . import plots, provenance, readings, report, shelf, stepping
 from . import table as tables
 from .circuits import formula_text
 from .errors import FormulaError, LibraryMissing, TulipcricketError
@@ -43,6 +43,7 @@ def parser() -> argparse.ArgumentParser:
     commands = top.add_subparsers(dest="command", required=True)
     add_run(commands)
     readings.add(commands)
+    stepping.add(commands)
     shelf.add(commands)
     return top
 

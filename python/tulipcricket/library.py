@@ -23,6 +23,7 @@ PLAY_ANSWER = 24
 POINTS_LIMIT = 8192
 NEAREST_ANSWER = 24
 SHELF_ANSWER = 40
+LOOK_ANSWER = 64
 PAGE = 4380
 PAGES_LIMIT = 976740
 PAGES_ANSWER = 24
@@ -44,6 +45,7 @@ _ARGUMENTS = {
     "peak": _SLICE + _WORD + _SLICE,
     "nearest": _WORD * 2 + _SLICE * 2,
     "shelf": _SLICE * 2,
+    "look": _SLICE * 3 + _WORD + _SLICE,
     "pages": _SLICE * 4,
 }
 
@@ -177,6 +179,24 @@ def shelf(sheet: bytes) -> Shelf:
     if number != 0:
         raise Refused(number, index)
     return Shelf(index, listing, constants, records)
+
+
+class Looked(NamedTuple):
+    """What one record would do: the count of records, the record that follows, and each word written, its store index and its bits."""
+
+    records: int
+    follows: int
+    words: Tuple[Tuple[int, int], ...]
+
+
+def look(listing: bytes, constants: bytes, store: bytes, record: int) -> Looked:
+    """tulipcricket_look. Raises Refused with playing's number and index."""
+    answer = ctypes.create_string_buffer(LOOK_ANSWER)
+    number = library().tulipcricket_look(listing, len(listing), constants, len(constants), store, len(store), record, answer, LOOK_ANSWER)
+    _, index, follows, count, *words = struct.unpack("<8Q", answer.raw)
+    if number != 0:
+        raise Refused(number, index)
+    return Looked(index, follows, tuple(zip(words[::2], words[1::2]))[:count])
 
 
 def pages(listing: bytes, constants: bytes) -> str:

@@ -19,6 +19,7 @@ UNI = {"Neg": 0, "Not": 1, "Abs": 2, "Root": 3, "Recip": 5, "Round": 6, "Floor":
 BI = {"Plus": 0, "Minus": 1, "Times": 2, "Divide": 3, "GreaterThan": 4, "GreaterThanEqual": 5, "LittleThan": 6, "LittleThanEqual": 7,
       "Equal": 8, "NotEqual": 9, "And": 10, "Or": 12, "Xor": 13}
 COMPLEX = {"PlusComplex": 0, "MinusComplex": 1, "TimesComplex": 2, "DivideComplex": 3}
+WITH_OPERATIONS = {1: (UNI, "rr"), 2: (BI, "rrr"), 7: ({"MulAdd": 0}, "rrrr"), 13: (COMPLEX, "rrrrrr")}
 OTHERS = {"Mov": (3, "rr"), "Load": (4, "rp"), "Save": (5, "rp"), "LoadConst": (6, "rc"), "IfElse": (8, "rrrp"), "LoadComplex": (11, "rrp"),
           "SaveComplex": (12, "rrp"), "Label": (14, "n"), "Branch": (15, "n"), "Call": (16, "n"), "BranchIf": (17, "rnn")}
 """Kind and fields: register, place, constant, a number of one byte."""
@@ -32,7 +33,7 @@ class NoPages(TulipcricketError):
 
 def form_of(name: str) -> Tuple[int, bytes, str]:
     """The kind of a name, its operation's byte where it has one, and its fields. Raises KeyError."""
-    for kind, operations, fields in ((1, UNI, "rr"), (2, BI, "rrr"), (7, {"MulAdd": 0}, "rrrr"), (13, COMPLEX, "rrrrrr")):
+    for kind, (operations, fields) in WITH_OPERATIONS.items():
         if name in operations:
             return kind, bytes([operations[name]]), fields
     return OTHERS[name][0], b"", OTHERS[name][1]

@@ -107,6 +107,10 @@ class Listing:
         after.played = answer.played
         return after
 
+    def look(self, store: Store, record: int) -> library.Looked:
+        """What the record would do, played outside a call on this store, which stays as it is. Raises Refused."""
+        return library.look(self.data, self.constants, store.data, record)
+
     def pages(self) -> str:
         """The listing and its constants as pages of 60 lines, 72 characters and a line feed each. Raises Refused."""
         return library.pages(self.data, self.constants)

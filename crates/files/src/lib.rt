@@ -7,6 +7,8 @@ ghost use Rattle.io.specs.Counts.{Counts};
 ghost use Rattle.libc.specs.Io.{Status};
 ghost use Rattle.files.specs.Most.{atMost};
 
+pub mod start;
+
 // Says on standard error what failed, and why, as errno has it.
 fn fail(name: &[u8]) {
     io::write_all(libc::STDERR_FILENO, b"tulipcricket: ");

@@ -3,12 +3,9 @@
 ghost use Rattle.text.specs.Line.{Prints};
 ghost use Rattle.interface.specs.Calls.{playCall};
 ghost use Rattle.play_listing.specs.Plays.{answerLine, Plays};
-
-mod start;
-
+use files::start::start_of;
 use interface::tulipcricket_play_unguarded;
 use reports::played_line;
-use start::start_of;
 use text::line::Line;
 use words::word_at;
 

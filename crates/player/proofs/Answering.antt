@@ -1,6 +1,5 @@
 -- What refuses a play by what the passes find, and the play by it: refused, or by the positions that were found.
-use Prim.Native.Nat.{ℕ, _≤_, _<_}
-use native.Mathlib.Omega.{arith}
+use Prim.Native.Nat.{ℕ, _≤_}
 use mathlib.Core.Path.{_≡_, refl, sym, ap, _∙_, subst}
 use mathlib.Core.List.{List}
 use lib.ListN.{length, drop}
@@ -13,7 +12,7 @@ use Rattle.player_machine.specs.Refusal.{Refusal, refusal, answerBy}
 use Rattle.player_machine.proofs.Refusing.{Accepted, refused, accepted}
 use Rattle.player.specs.declared.Verdict.{Verdict}
 use Rattle.player.specs.declared.passes.Examination.{Examination}
-use Rattle.player.specs.Positions.{left, fault, onFrom, Behind, BlockStart, Examined, Judged, Played}
+use Rattle.player.specs.Positions.{left, onFrom, Behind, Examined, Judged, Played}
 
 -- a refusal, by the number that is not 0
 pub turned-away : {s : List ℕ} {constants start words : ℕ} {v : Verdict} {number index : ℕ}

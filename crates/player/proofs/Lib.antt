@@ -1,6 +1,6 @@
-mod Encoding
+pub mod Encoding
 mod Steps
 mod Walks
-mod Looks
+pub mod Looks
 mod Rules
-mod Answering
+pub mod Answering

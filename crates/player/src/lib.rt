@@ -6,8 +6,8 @@ ghost use Rattle.player.specs.Positions.{Judged};
 ghost use Rattle.player.specs.Values.{whole};
 
 mod jumps;
-mod passes;
-mod run;
+pub mod passes;
+pub mod run;
 
 use jumps::breach_of;
 use passes::examine;

@@ -51,7 +51,7 @@ fn reached(done: bool, at: usize, played: usize) -> Progress
 }
 
 // Whether the BranchIf that bytes begin with branches: the condition word against zero, by `is_else`.
-fn branches_on(store: &[u64], s: &[u8]) -> bool
+pub fn branches_on(store: &[u64], s: &[u8]) -> bool
     ensures { λ r. ⌜ r ≡ branches (eqb (byteAt (now (s .entry)) 6) 1) (at (now (store .entry)) (byteAt (now (s .entry)) 4)) ⌝ }
 {
     let w = get_register(store, byte(s, 4));

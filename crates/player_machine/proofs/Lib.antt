@@ -4,3 +4,5 @@ pub mod Drawing
 pub mod Refusing
 pub mod Keeping
 pub mod Stepping
+pub mod Showing
+pub mod Looking

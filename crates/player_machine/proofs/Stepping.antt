@@ -20,11 +20,11 @@ use Rattle.player_machine.proofs.Bound.{bound-drop}
 use Rattle.player_machine.proofs.Keeping.{RulesKept, kept-tail, kept-seek, kept-drop, kept-call, worked, Shaped, shaped}
 
 -- the record at an index is the first of those from it on
-abbrev head? : List Record → Option Record
+abbrev pub head? : List Record → Option Record
 head? [] = none
 head? (r ∷ rs) = some r
 
-at-head : (rs : List Record) (i : ℕ) → getElem? rs i ≡ head? (drop i rs)
+pub at-head : (rs : List Record) (i : ℕ) → getElem? rs i ≡ head? (drop i rs)
 at-head [] zero = refl
 at-head [] (suc i) = refl
 at-head (r ∷ rs) zero = refl
@@ -36,7 +36,7 @@ drop-suc [] (suc i) = refl
 drop-suc (r ∷ rs) zero = refl
 drop-suc (r ∷ rs) (suc i) = drop-suc rs i
 
-behind-it : {r : Record} {rest : List Record} (rs : List Record) (i : ℕ) → drop i rs ≡ r ∷ rest → drop (suc i) rs ≡ rest
+pub behind-it : {r : Record} {rest : List Record} (rs : List Record) (i : ℕ) → drop i rs ≡ r ∷ rest → drop (suc i) rs ≡ rest
 behind-it rs i e = drop-suc rs i ∙ ap (drop 1) e
 
 -- the index of a Label
@@ -51,7 +51,7 @@ unfolding seek
 before-seek l [] = refl
 before-seek l (r ∷ rs) = before-by l r rs (isLabel l r) refl (before-seek l rs)
 
-label-seek : (rs : List Record) (n l : ℕ) → drop (labelFrom rs n l) rs ≡ seek l (drop n rs)
+pub label-seek : (rs : List Record) (n l : ℕ) → drop (labelFrom rs n l) rs ≡ seek l (drop n rs)
 label-seek rs n l = sym (drop-drop (before l (drop n rs)) n rs) ∙ before-seek l (drop n rs)
 
 ticks-ticks : (m n : ℕ) (e : End) → ticks m (ticks n e) ≡ ticks (m + n) e

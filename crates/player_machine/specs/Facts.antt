@@ -25,7 +25,7 @@ use Rattle.player_machine.specs.Jumps.{breach}
 use Rattle.player_machine.specs.Answer.{Answer, answer}
 
 -- a store of zeros
-abbrev blank : Store
+abbrev pub blank : Store
 blank = replicate 1602 0
 
 -- the answer's three numbers, then the words at some indices
@@ -43,30 +43,30 @@ abbrev refused : List ℕ → List ℕ
 refused bytes = shown (answer bytes (0 ∷ []) 0 blank) []
 
 -- records
-abbrev const : ℕ → ℕ → Record
+abbrev pub const : ℕ → ℕ → Record
 const dst idx = Record.Work (Work.LoadConst dst idx)
 
-abbrev neg : ℕ → ℕ → Record
+abbrev pub neg : ℕ → ℕ → Record
 neg dst s1 = Record.Work (Work.Uni UniOp.Neg dst s1)
 
 -- 1, 2, 3, -3 and -0
-abbrev one : ℕ
+abbrev pub one : ℕ
 one = 0x3ff0_0000_0000_0000
 
-abbrev two : ℕ
+abbrev pub two : ℕ
 two = 0x4000_0000_0000_0000
 
-abbrev three : ℕ
+abbrev pub three : ℕ
 three = 0x4008_0000_0000_0000
 
 abbrev minusThree : ℕ
 minusThree = 0xc008_0000_0000_0000
 
-abbrev minusZero : ℕ
+abbrev pub minusZero : ℕ
 minusZero = 0x8000_0000_0000_0000
 
 -- the root block, cut short: it negates G4; the play jumps over it
-abbrev called : List Record
+abbrev pub called : List Record
 called =
     Record.Branch 2
     ∷ Record.Label 1
@@ -84,7 +84,7 @@ abbrev branchIf : ℕ → Record
 branchIf l = Record.BranchIf 4 l false
 
 -- one formula or another, by that word
-abbrev swept : Bool → List Record
+abbrev pub swept : Bool → List Record
 swept isElse =
     const 4 0 ∷ Record.BranchIf 4 3 isElse ∷ const 5 1 ∷ Record.Branch 4 ∷ Record.Label 3 ∷ const 5 2 ∷ Record.Label 4 ∷ []
 
@@ -195,11 +195,11 @@ table =
     ∷ (played (Record.Label 1 ∷ neg 4 4 ∷ branchIf 3 ∷ Record.Branch 0 ∷ Record.Label 3 ∷ []) [] 0 [], 9 ∷ 2 ∷ 0 ∷ [])
     ∷ []
 
-abbrev given : List (List ℕ × List ℕ) → List (List ℕ)
+abbrev pub given : List (List ℕ × List ℕ) → List (List ℕ)
 given [] = []
 given (row ∷ rows) = row .0 ∷ given rows
 
-abbrev wanted : List (List ℕ × List ℕ) → List (List ℕ)
+abbrev pub wanted : List (List ℕ × List ℕ) → List (List ℕ)
 wanted [] = []
 wanted (row ∷ rows) = row .1 ∷ wanted rows
 

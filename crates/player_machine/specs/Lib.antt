@@ -5,4 +5,7 @@ pub mod Refusal
 pub mod Count
 pub mod Draws
 pub mod Step
+pub mod Look
+pub mod Looked
 pub mod Facts
+pub mod LookFacts

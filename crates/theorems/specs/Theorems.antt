@@ -10,6 +10,9 @@ use Rattle.float.specs.Laws.{RootLaw, OneRoot, IntegralLaw, MulAddLaw, IfElseLa
 use Rattle.player_machine.specs.Count.{most, Bounds}
 use Rattle.player_machine.specs.Step.{PlaysBySteps}
 use Rattle.player_machine.specs.Draws.{draws, fills, Confined}
+use Rattle.player_machine.specs.Refusal.{refusal, Refused}
+use Rattle.player_machine.specs.Look.{look}
+use Rattle.player_machine.specs.Looked.{Looked, bench, LookedOn}
 use Rattle.lowering.specs.declared.realness.Realness.{Realness}
 use Rattle.leftovers.specs.Leftovers.{Leftover}
 use Rattle.leftovers.specs.Kept.{Kept, Parted}
@@ -59,6 +62,12 @@ pub record Theorems : Type 0 where
   pub bound : Bounds most
   -- the machine by steps plays as the machine does
   pub bySteps : PlaysBySteps most
+  -- what refuses a play, as a number and an index alone
+  pub refused : Refused refusal
+  -- "It equals playing that record on a copy."
+  pub looked : Looked look
+  -- looking and writing, again and again, is the play's way
+  pub lookedOn : LookedOn bench
   -- "These equal what lowering and playing report."
   pub figures : FiguresReported shelf
   -- assembling the text of a readable sheet gives its bytes again

@@ -6,7 +6,7 @@ use std::path::Path;
 
 use oracle::inputs::{of_lowering, of_play, variants};
 use oracle::random::{self, Rng};
-use oracle::{boundary, branches};
+use oracle::{boundary, branches, look};
 
 /// Up to `count` of the cases, evenly spread.
 fn spread<T: Clone>(cases: &[T], count: usize) -> Vec<T> {
@@ -46,6 +46,7 @@ fn main() {
     plays.extend(spread(&boundary::jump_rows(4), count / 2));
     plays.push(boundary::all_operations(random::SPECIAL[2], random::SPECIAL[19], random::SPECIAL[30]));
     plays.extend((0..count).map(|_| random::to_play(&mut rng)));
+    plays.extend(look::examples());
     plays.extend(branches::play_examples().into_iter().map(|(case, _)| case));
     plays.extend((0..count).map(|_| random::branching_to_play(&mut rng)));
     write(Path::new(&folder), "play", &with_variants(plays.iter().filter_map(of_play).collect()));

@@ -1,7 +1,7 @@
-//! Lowers document 01's sheet on paper (Mem 4 = 2 * Mem 3) and plays it on Mem 3 = 3 + 4i.
+//! Lowers document 01's sheet on paper (Mem 4 = 2 * Mem 3), looks at record 1 and plays the listing on Mem 3 = 3 + 4i.
 
 use tulipcricket::sheet::{Bi, Sheet};
-use tulipcricket::{lower, play, Class, Refused, Store, LISTING_LIMIT};
+use tulipcricket::{look, lower, play, Class, Refused, Store, LISTING_LIMIT};
 
 fn main() -> Result<(), Refused> {
     let mut sheet = Sheet::new(false);
@@ -10,6 +10,10 @@ fn main() -> Result<(), Refused> {
     let lowered = lower(&sheet.bytes(), LISTING_LIMIT)?;
     let mut store = Store::new();
     store.set_place(Class::Mem, 3, (3.0, 4.0));
+    let looked = look(&lowered.listing, &lowered.constants, &store, 1)?;
+    let written: Vec<String> =
+        looked.words.iter().map(|(i, bits)| format!("G{i} = {}", f64::from_bits(*bits))).collect();
+    println!("record 1 writes {}; next {}", written.join(", "), looked.follows);
     let answer = play(&lowered.listing, &lowered.constants, &mut store, 0)?;
     let (real, imaginary) = store.place(Class::Mem, 4);
     println!("Mem 4 = {real} + {imaginary}i after {} records", answer.played);

@@ -1,5 +1,6 @@
-//! Tulipcricket from Rust: `lower` a sheet to a listing, `play` the listing on a store, lay it out on `pages`, the `shelf` figures of a sheet,
-//! the running `peak` of answers, the reference point `nearest` to one. The C functions that do the work are proved; this wrapper, which lends them slices of the
+//! Tulipcricket from Rust: `lower` a sheet to a listing, `play` the listing on a store, `look` at one of its records, lay it out on `pages`,
+//! the `shelf` figures of a sheet, the running `peak` of answers, the reference point `nearest` to one. The C functions that do the work are
+//! proved; this wrapper, which lends them slices of the
 //! right lengths, is not.
 //!
 //! The library is `libtulipcricket.a`, which `c/library` makes; see build.rs for where it is looked for. Its answers do not depend on the
@@ -154,6 +155,30 @@ pub fn play(listing: &[u8], constants: &[u64], store: &mut Store, start: u64) ->
     let refusal = c::play(listing, &to_bytes(constants), &mut store.bytes, start, &mut answer);
     accepted(refusal, number(&answer, 8))?;
     Ok(Played { records: number(&answer, 8), played: number(&answer, 16) })
+}
+
+/// What one record would do.
+#[derive(Clone, Debug, PartialEq, Eq)]
+pub struct Looked {
+    /// Records of the listing.
+    pub records: u64,
+    /// The record that follows; the count of records where the play ends.
+    pub follows: u64,
+    /// The words that the record writes, at most two, in the order written: the store's index, and the bits that the word then holds.
+    pub words: Vec<(usize, u64)>,
+}
+
+/// Looks at one record of a listing before it is played, on a store that stays as it is. The refusals are those of `play` from that record.
+pub fn look(listing: &[u8], constants: &[u64], store: &Store, record: u64) -> Result<Looked, Refused> {
+    let mut answer = [0; 64];
+    let refusal = c::look(listing, &to_bytes(constants), &store.bytes, record, &mut answer);
+    accepted(refusal, number(&answer, 8))?;
+    let word = |i: usize| (number(&answer, 32 + 16 * i) as usize, number(&answer, 40 + 16 * i));
+    Ok(Looked {
+        records: number(&answer, 8),
+        follows: number(&answer, 16),
+        words: (0..number(&answer, 24) as usize).map(word).collect(),
+    })
 }
 
 /// A listing and its constants as pages of text, `PAGE` bytes each: first a line for each constant, then one for each record. The refusals are

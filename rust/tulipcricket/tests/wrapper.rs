@@ -2,7 +2,8 @@
 
 use tulipcricket::sheet::{Arith, Bi, Fused, Sheet, Uni, RET};
 use tulipcricket::{
-    lower, nearest, pages, peak, play, shelf, Class, Lowered, Refused, Shelf, Store, Why, LISTING_LIMIT, PAGE,
+    look, lower, nearest, pages, peak, play, shelf, Class, Looked, Lowered, Refused, Shelf, Store, Why, LISTING_LIMIT,
+    PAGE,
 };
 
 fn paper() -> Vec<u8> {
@@ -73,6 +74,44 @@ fn a_refused_play_leaves_the_store() {
     assert_eq!(play(&found.listing, &[], &mut store, 0), Err(Refused { why: Why::MissingConstant, index: 0 }));
     assert!(store == before);
     assert_eq!(stray.to_string(), "refused 9 6 (StrayJump)");
+}
+
+#[test]
+fn a_look_shows_what_a_record_writes_and_what_follows() {
+    let (found, mut store) = (lowered(), Store::new());
+    store.set_place(Class::Mem, 3, (3.0, 4.0));
+    let before = store.clone();
+    let at = |record| look(&found.listing, &found.constants, &store, record);
+    let shows = |follows, words: &[(usize, f64)]| {
+        let words = words.iter().map(|(i, value)| (*i, value.to_bits())).collect();
+        Ok(Looked { records: 5, follows, words })
+    };
+    assert_eq!(at(0), shows(1, &[(4, 2.0)])); // LoadConst G4 0
+    assert_eq!(at(1), shows(2, &[(6, 3.0), (7, 4.0)])); // LoadComplex G6 G7 Mem 3
+    assert_eq!(at(4), shows(5, &[(586, 0.0), (587, 0.0)])); // SaveComplex G4 G5 Mem 4, on what stands there now
+    assert_eq!(at(5), shows(5, &[]));
+    assert_eq!(at(6), Err(Refused { why: Why::StrayJump, index: 6 }));
+    assert_eq!(look(&found.listing, &[], &store, 5), Err(Refused { why: Why::MissingConstant, index: 0 }));
+    assert!(store == before);
+}
+
+#[test]
+fn looking_and_writing_is_playing() {
+    let found = lower(&above_a_corner(), LISTING_LIMIT).unwrap();
+    let mut store = Store::new();
+    store.set_place(Class::Mem, 3, (3.0, 4.0));
+    store.set_place(Class::Mem, 5, (2.0, 0.0));
+    let (mut played, mut record) = (store.clone(), 0);
+    let answer = play(&found.listing, &found.constants, &mut played, 0).unwrap();
+    let mut looks = 0;
+    while record < answer.records {
+        let looked = look(&found.listing, &found.constants, &store, record).unwrap();
+        looked.words.iter().for_each(|(index, bits)| store.set_word(*index, *bits));
+        record = looked.follows;
+        looks += 1;
+    }
+    assert!(store == played);
+    assert_eq!(looks, answer.played);
 }
 
 #[test]

@@ -7,6 +7,8 @@ use Rattle.float.proofs.ByMends.{root-by-mends}
 use Rattle.player_machine.proofs.Bound.{answer-bound}
 use Rattle.player_machine.proofs.Stepping.{by-steps}
 use Rattle.player_machine.proofs.Drawing.{confined}
+use Rattle.player_machine.proofs.Refusing.{refused}
+use Rattle.player_machine.proofs.Looking.{looked, looked-on}
 use Rattle.leftovers.proofs.Words.{parted}
 use Rattle.entries.proofs.Demand.{entries-demand-3}
 use Rattle.entries.proofs.Examples.{needed, met, jumped-over, cleared}
@@ -40,6 +42,9 @@ returns c =
       parted = parted;
       bound = answer-bound;
       bySteps = by-steps;
+      refused = refused;
+      looked = looked;
+      lookedOn = looked-on;
       figures = figures;
       roundTrip = round-trip;
       confined = confined;

@@ -1,7 +1,7 @@
-// The start record, from its decimal digits.
+// A record's index, from its decimal digits.
 ghost use mathlib.Core.Path.{_≡_};
 ghost use mathlib.Core.Bool.{false};
-ghost use Rattle.play_listing.specs.Start.{startOf};
+ghost use Rattle.files.specs.Start.{startOf};
 
 // Whether the text is a number, and that number.
 pub struct Start {
@@ -19,7 +19,7 @@ fn none() -> Start
 }
 
 // Digits alone, at least one, of a number below 2^64.
-pub(crate) fn start_of(s: &[u8]) -> Start
+pub fn start_of(s: &[u8]) -> Start
     ensures { λ r. ⌜ r ≡ startOf (now (s .entry)) ⌝ }
 {
     if s.len() == 0 {

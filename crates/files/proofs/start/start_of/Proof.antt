@@ -1,13 +1,13 @@
--- `start::start_of` meets its contract. The invariant: what the digits behind the position spell after the number so far is the whole.
+-- `files::start::start_of` meets its contract. The invariant: what the digits behind the position spell after the number so far is the whole.
 use borrow.Author.Needs.{needs}
 use native.Mathlib.Omega.{arith}
 use Prim.Native.Nat.{_-_}
 use mathlib.Core.Path.{_≡_, refl, sym, _∙_}
 use lib.ListN.{length, drop}
-use Rattle.play_listing.specs.Start.{startFrom}
-use Rattle.play_listing.proofs.Digits.{no-digit, some-digit, below, above, large, digit, spelled}
-use Rattle.play_listing.proofs.start.start_of.Statement.{statement}
-use Rattle.play_listing.proofs.start.start_of.Tie as tie
+use Rattle.files.specs.Start.{startFrom}
+use Rattle.files.proofs.Digits.{no-digit, some-digit, below, above, large, digit, spelled}
+use Rattle.files.proofs.start.start_of.Statement.{statement}
+use Rattle.files.proofs.start.start_of.Tie as tie
 
 abbrev Inv-loop : tie.InvT-loop
 Inv-loop s n₀ i₀ n i = startFrom n (drop i s) ≡ startFrom 0 s

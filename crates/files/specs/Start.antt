@@ -1,10 +1,10 @@
--- The start record's index, from its decimal digits.
+-- A record's index, from the decimal digits of an argument.
 use Prim.Native.Nat.{ℕ, _+_, _-_, _*_}
 use mathlib.Core.Bool.{true, false, cond}
 use mathlib.Core.List.{List, [], _∷_}
 use lib.ListN.{length}
 use lib.Dec.{ltb, eqb}
-use Rattle.play_listing.specs.declared.start.Start.{Start}
+use Rattle.files.specs.declared.start.Start.{Start}
 
 abbrev pub noStart : Start
 noStart = record { ok = false; number = 0 }

@@ -7,7 +7,7 @@ use native.Mathlib.Numerals.{add-one}
 use borrow.Author.Tests.{lt-ltb, le-ltb, eq-eqb, ne-eqb}
 use lib.ListN.{length, drop, getD, drop-of-length-le}
 use lib.Seq.{drop-cons}
-use Rattle.play_listing.specs.Start.{noStart, startFrom, startOf}
+use Rattle.files.specs.Start.{noStart, startFrom, startOf}
 
 module _ (s : List ℕ) where
   pub no-digit : length s ≡ 0 → noStart ≡ startOf s

@@ -1,0 +1,5 @@
+mod Following
+mod Fills
+mod Words
+mod Looks
+mod Calls
