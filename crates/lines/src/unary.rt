@@ -115,8 +115,7 @@ pub fn minding_half_lines(out: &mut [u8], at: usize, x: bool, d: u8, a: u8) -> u
     if x {
         return uni(out, at, UniOp::Half, Part::Re(d), Part::Re(a));
     }
-    let at = uni(out, at, UniOp::Half, Part::Im(d), Part::Im(a));
-    uni(out, at, UniOp::Half, Part::Re(d), Part::Re(a))
+    half_lines(out, at, d, a)
 }
 
 // `real`: the same lines of a real register

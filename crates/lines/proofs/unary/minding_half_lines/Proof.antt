@@ -1,6 +1,5 @@
 -- `lines::unary::minding_half_lines` meets its contract.
 use borrow.Author.Needs.{needs}
-use Rattle.lines.specs.Lists.{_▹_}
 use Rattle.lowering.specs.Lines.{mindingHalfLines}
 use Rattle.lines.proofs.unary.minding_half_lines.Statement.{statement}
 use Rattle.lines.proofs.unary.minding_half_lines.Tie as tie
@@ -12,5 +11,5 @@ minding-half-lines-spec =
     (tie.spec
     (λ c κs. search needs) (λ c. search needs)
     (λ c. simp (c .before .before .before .before .if1 .taken) (c .before .before .uni .ensures))
-    (λ c κs. search needs) (λ c κs. search needs) (λ c. search needs)
-    (λ c. simp (c .before .before .before .before .before .before .before .before .if1 .left) (c .before .before .before .before .before .before .uni2 .ensures ▹ c .before .before .uni3 .ensures)))
+    (λ c κs. search needs) (λ c. search needs)
+    (λ c. simp (c .before .before .before .before .if1 .left) (c .before .before .half-lines .ensures)))
