@@ -114,7 +114,7 @@ fn headers() -> Vec<Vec<u8>> {
     let good = make::header(false, &NONE);
     let mut found: Vec<Vec<u8>> = (0..=good.len()).map(|length| good[..length].to_vec()).collect();
     for (at, bytes) in
-        [(0, [68, 69, 70, 0]), (1, [0, 1, 2, 255]), (2, [31, 32, 33, 0]), (3, [0, 1, 2, 255]), (4, [0, 1, 2, 255])]
+        [(0, [68, 69, 70, 0]), (1, [0, 1, 2, 255]), (2, [31, 32, 33, 0]), (3, [0, 1, 2, 255]), (4, [1, 2, 3, 255])]
     {
         for byte in bytes {
             let mut copy = good.clone();
@@ -132,7 +132,7 @@ fn constants() -> Vec<Vec<u8>> {
     for count in [0, 1, 250, 251, 252, 253] {
         let row: Vec<u64> = (0..count).collect();
         for record in [Vec::new(), make::load_const(3, 250), make::load_const(3, 251), make::uni(uni::ABS, 3, 4)] {
-            found.extend([false, true].map(|stable| make::sheet(stable, &NONE, &row, std::slice::from_ref(&record))));
+            found.extend(MODES.map(|mode| make::sheet(mode, &NONE, &row, std::slice::from_ref(&record))));
         }
         for length in 0..14 {
             let mut cut = make::sheet(false, &NONE, &row, &[]);
@@ -154,7 +154,7 @@ fn filled(first: Vec<u8>, nops: usize) -> ToLower {
 }
 
 /// A sheet of every operation on one and on two registers, of complex registers and of a real one.
-fn every_operation(stable: bool) -> ToLower {
+fn every_operation(mode: u8) -> ToLower {
     let mut row = Vec::new();
     for op in SHEET_UNI {
         row.extend([make::uni(op, 3, 1), make::load_const(4, 0), make::uni(op, 5, 4)]);
@@ -162,14 +162,14 @@ fn every_operation(stable: bool) -> ToLower {
     for op in SHEET_BI {
         row.extend([make::bi(op, 3, 1, 2), make::load_const(4, 0), make::bi(op, 5, 4, 4)]);
     }
-    whole(make::sheet(stable, &NONE, &[TWO], &row))
+    whole(make::sheet(mode, &NONE, &[TWO], &row))
 }
 
 /// What every list of sheets has: every operation, and the longest sheet, the most room, the words of the constants slice, and their
 /// neighbours.
 pub fn kept_sheets() -> Vec<ToLower> {
     let mut found = vec![filled(make::uni(0, 1, 2), 4077), filled(make::bi(0, 1, 2, 3), 4077)];
-    found.extend([false, true].map(every_operation));
+    found.extend(MODES.map(every_operation));
     for room in [65_535, 65_536, 65_537] {
         found.push(ToLower { sheet: paper(), room, table: TABLE });
     }
@@ -182,11 +182,11 @@ pub fn kept_sheets() -> Vec<ToLower> {
 fn limits() -> Vec<ToLower> {
     let mut found = kept_sheets();
     found.extend([filled(make::mov(1, 2), 4077), filled(make::nop(), 4078)]);
-    for stable in [false, true] {
+    for mode in MODES {
         let row = vec![make::uni(uni::ABS, 1, 2); 2330];
-        found.push(whole(make::sheet(stable, &NONE, &[], &row)));
+        found.push(whole(make::sheet(mode, &NONE, &[], &row)));
         let row = vec![make::uni(uni::ROOT, 1, 2); 2330];
-        found.push(whole(make::sheet(stable, &NONE, &[], &row)));
+        found.push(whole(make::sheet(mode, &NONE, &[], &row)));
     }
     for room in 0..=42 {
         found.push(ToLower { sheet: paper(), room, table: TABLE });
@@ -197,11 +197,11 @@ fn limits() -> Vec<ToLower> {
 /// An instruction that needs room or is barred, after the room is nearly used up.
 fn rooms() -> Vec<ToLower> {
     let mut found = Vec::new();
-    for stable in [false, true] {
+    for mode in MODES {
         for record in
             [make::uni(uni::ROOT, 1, 2), make::uni(uni::ABS, 1, 2), make::bi(3, 1, 2, 3), make::nop(), make::mov(3, 3)]
         {
-            let sheet = make::sheet(stable, &NONE, &[TWO], &[make::load_const(2, 0), record]);
+            let sheet = make::sheet(mode, &NONE, &[TWO], &[make::load_const(2, 0), record]);
             found.extend((0..=360).map(|room| ToLower { sheet: sheet.clone(), room, table: TABLE }));
         }
     }
@@ -232,7 +232,7 @@ fn barred_sheets() -> Vec<ToLower> {
             let real = [1, RET, TEMP].into_iter().enumerate().filter(|(i, _)| bits >> i & 1 == 1);
             let mut row: Vec<Vec<u8>> = real.map(|(_, r)| make::load_const(r, 0)).collect();
             row.push(record.clone());
-            found.extend([false, true].map(|stable| whole(make::sheet(stable, &places, &[TWO], &row))));
+            found.extend(MODES.map(|mode| whole(make::sheet(mode, &places, &[TWO], &row))));
         }
     }
     found
@@ -246,8 +246,8 @@ pub fn sheets() -> Vec<ToLower> {
         found.push(whole(make::sheet(true, &NONE, &[TWO], &[record, make::nop()])));
     }
     for record in each_field(&sheet_records()).into_iter().chain(two_faults(&sheet_records())) {
-        for stable in [false, true] {
-            found.push(whole(make::sheet(stable, &NONE, &[TWO], &[make::mov(1, 2), record.clone()])));
+        for mode in MODES {
+            found.push(whole(make::sheet(mode, &NONE, &[TWO], &[make::mov(1, 2), record.clone()])));
         }
     }
     found.extend(limits());
