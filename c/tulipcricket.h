@@ -10,7 +10,7 @@
  * Lowering and playing return the number of documents 01 and 02, which is also the first number of the answer:
  *   0 accepted          1 torn record     2 unknown work      3 bad register    4 bad place
  *   5 missing constant  6 barred operand  7 listing full      8 wrong setup     9 stray jump
- *  10 misplaced label or branch          11 unequal records at a label
+ *  10 misplaced label  11 unequal records (labels and branches)
  * Lowering never gives 9; playing never gives 6, 7, 10 or 11. Of document 02 the running peak returns 0, 8 or
  * 12, the nearest point 0, 8 or 13, the shelf figures what lowering returns.
  *
@@ -27,6 +27,8 @@
 extern "C" {
 #endif
 
+#define TULIPCRICKET_VERSION "0.1.0" /* of this header; of the library: tulipcricket_version() */
+
 enum {
     TULIPCRICKET_SHEET_LIMIT = 16384,    /* bytes of a sheet */
     TULIPCRICKET_LISTING_LIMIT = 65536,  /* bytes of a listing */
@@ -38,6 +40,12 @@ enum {
     TULIPCRICKET_NEAREST_ANSWER = 24,
     TULIPCRICKET_SHELF_ANSWER = 40
 };
+
+/* The library's version, such as "0.1.0". */
+const char *tulipcricket_version(void);
+
+/* The word of a number that a function returned, such as "torn record" for 1; "unknown number" for one that none returns. */
+const char *tulipcricket_word(uint32_t number);
 
 /* Lowers a sheet to a listing and its constants.
  *

@@ -3,7 +3,18 @@
 The numbers in the headings are the paper's. Names are the paper's words,
 in small letters where they are functions. There is no floating-point
 number anywhere: a word is a whole number from 0 to 2^64 - 1.
+
+python3 player.py [FOLDER] tries a folder on the shelf (its last part).
 """
+
+import csv
+import hashlib
+import io
+import os
+import re
+import stat
+import sys
+import zlib
 
 # 1. WORDS
 
@@ -640,3 +651,211 @@ def play(listing, constants, store, start):
     except Refused as refused:
         return refused.number, refused.index, 0
     return 0, len(records), play_records(records, constants, store, start)
+
+
+# A FOLDER ON THE SHELF: python3 player.py [FOLDER]
+#
+# Compares the folder's files with its MANIFEST, plays every point of its
+# file points again, and compares the tables. It is no part of the paper;
+# CHECK.txt of such a folder says how to use it. It writes nothing.
+
+SIGNS = {"comma": ",", "semicolon": ";", "tab": "\t", "point": "."}
+NAMED = {"inf": INFINITY, "+inf": INFINITY, "-inf": with_sign(1, INFINITY), "nan": Q}
+
+
+class Damaged(Exception):
+    """What is wrong with the folder, in words."""
+
+
+def opened(folder, name):
+    """A plain file of the folder; a link is not followed."""
+    path = os.path.join(folder, name)
+    if not re.match(r"[A-Za-z0-9][A-Za-z0-9._-]*\Z", name) or not stat.S_ISREG(os.lstat(path).st_mode):
+        raise Damaged(ascii(name) + " is no plain file")
+    return open(path, "rb")
+
+
+def sums(file):
+    """A file's length, Adler-32 and SHA-256, as MANIFEST has them."""
+    length, adler, sha = 0, 1, hashlib.sha256()
+    for block in iter(lambda: file.read(1 << 20), b""):
+        length, adler = length + len(block), zlib.adler32(block, adler)
+        sha.update(block)
+    return "%d %08x %s" % (length, adler, sha.hexdigest())
+
+
+def manifest(folder):
+    """The sums of each file by name, and the folder's name."""
+    with opened(folder, "MANIFEST") as file:
+        data = file.read(1 << 20)
+    lines = data.decode("utf-8", "replace").split("\n")
+    above = data[: data.rfind(b"\n", 0, len(data) - 1) + 1]
+    name = lines[1][len("folder "):] if len(lines) > 3 else ""
+    last = "%s MANIFEST of %s" % (sums(io.BytesIO(above)), name)
+    if lines[:2] != ["tulipcricket manifest 1", "folder " + name] or lines[-2:] != [last, ""]:
+        raise Damaged("MANIFEST is damaged: its last line does not fit the others")
+    return {line.rsplit(" ", 1)[1]: line.rsplit(" ", 1)[0] for line in lines[2:-2]}, name
+
+
+def files_as_listed(folder, listed):
+    """Every file has the sums of the manifest, none is missing or added."""
+    there = set(os.listdir(folder))
+    for name in sorted(there.symmetric_difference(set(listed) | {"MANIFEST"})):
+        yield ascii(name) + (" is not in the manifest" if name in there else " is missing")
+    for name in sorted(there.intersection(listed)):
+        try:
+            with opened(folder, name) as file:
+                if sums(file) != listed[name]:
+                    yield name + " differs from the manifest"
+        except Damaged as damaged:
+            yield str(damaged)
+
+
+def read_word(text, decimal, as_words):
+    """The word of a cell: a decimal becomes one by NEAR, lost 3 is Q with the mark 3."""
+    if as_words:
+        return int(text, 16)
+    if text.lower() in NAMED:
+        return NAMED[text.lower()]
+    lost = re.match(r"(?i)lost\s+([0-9]+)\Z", text)
+    if lost:
+        return Q + int(lost.group(1))
+    parts = re.match(r"([+-]?)([0-9]*)\.?([0-9]*)(?:[eE]([+-]?[0-9]+))?\Z", text.replace(decimal, "."))
+    s, whole, broken, power = parts.groups()
+    n = int(whole + broken or "x")
+    # beyond 10^400, and below 10^-400, every decimal has the same word
+    tens = max(min(int(power or 0) - len(broken), 400), -400 - len(whole + broken))
+    return near(1 if s == "-" else 0, n * 10 ** max(tens, 0), 10 ** max(-tens, 0))
+
+
+class Points:
+    """The file points: what its head says, then a line for each play."""
+
+    def __init__(self, file):
+        self.file, self.put, self.answer, self.line = file, [], [], 0
+        for words in iter(lambda: self.next_line().split(" ", 2), ["points"]):
+            if words[0] == "start":
+                self.start = int(words[1])
+            elif words[0] == "table":
+                self.table = words[1:] if words[1:] == ["none"] else [words[1]] + words[2].split(" ")
+            elif words[0] in ("put", "answer"):
+                getattr(self, words[0]).append((int(words[1]), words[2]))
+            elif words != ["tulipcricket", "points", "1"]:
+                raise Damaged("points: line %d is not understood" % self.line)
+
+    def next_line(self):
+        self.line += 1
+        line = self.file.readline(1 << 17)
+        if not line.endswith(b"\n"):
+            raise Damaged("points: line %d is not whole" % self.line)
+        return line.decode("utf-8")[:-1]
+
+    def __iter__(self):
+        for line in iter(lambda: self.file.readline(1 << 17), b""):
+            self.line += 1
+            yield line.decode("ascii", "replace")
+
+
+def rows(folder, points, name):
+    """The rows of a table; it is read line by line."""
+    separator = SIGNS.get(points.table[0]) or chr(int(points.table[0][2:], 16))
+    with io.TextIOWrapper(opened(folder, name), "utf-8-sig", newline="\n") as file:
+        for line in file:
+            for part in line.splitlines():
+                if part.strip() and not part.lstrip().startswith("#"):
+                    yield next(csv.reader([part], delimiter=separator))
+
+
+def cells(folder, points, name, headers):
+    """The words of these columns, row by row."""
+    table = rows(folder, points, name)
+    there = [cell.strip() for cell in next(table)]
+    at = [there.index(header) for header in headers]
+    for row in table:
+        yield [read_word(row[i].strip(), SIGNS[points.table[1]], points.table[2] == "words" and name == "given.csv") for i in at]
+
+
+class Plays:
+    """What is played, and the tables beside it, where there are any."""
+
+    def __init__(self, folder, points):
+        self.points = points
+        with opened(folder, "listing") as file:
+            self.listing = file.read(MOST_BYTES + 1)
+        self.constants, self.before = words_of(folder, "constants"), words_of(folder, "before")
+        self.tables = []
+        if points.table != ["none"]:
+            headers = [text.split("=", 1)[1] for _, text in points.put]
+            self.tables = [("given.csv", cells(folder, points, "given.csv", headers)),
+                           ("z.csv", cells(folder, points, "z.csv", [text for _, text in points.answer]))]
+
+    def again(self, put):
+        """The words of the answer, and the line of points, worked out."""
+        store = list(self.before)
+        for (index, _), word in zip(self.points.put, put):
+            store[index] = word
+        came_back = play(self.listing, self.constants, store, self.points.start)
+        answer = [store[index] for index, _ in self.points.answer]
+        words = ["%016x" % word for word in put] + ["="] + ["%016x" % word for word in answer] + ["="]
+        return answer, " ".join(words + ["%d" % number for number in came_back] + ["%08x\n" % checksum(file_of(store))])
+
+    def differ(self, line):
+        """What differs at one line of points: the play, the tables."""
+        put = [int(word, 16) for word in line.split("=")[0].split()]
+        answer, again = self.again(put)
+        if again != line:
+            yield "points: line %d differs; played again it is %s" % (self.points.line, again.strip())
+        for (name, table), words in zip(self.tables, (put, answer)):
+            there = next(table, [])
+            if len(there) != len(words) or not all(map(as_told, there, words)):
+                yield "%s and line %d of points differ" % (name, self.points.line)
+
+    def left(self):
+        """Tables with more lines than points."""
+        for name, table in self.tables:
+            if next(table, None) is not None:
+                yield name + " has more lines than points"
+
+
+def words_of(folder, name):
+    with opened(folder, name) as file:
+        data = file.read(MOST_BYTES + 1)
+    return [int.from_bytes(data[i:i + 8], "little") for i in range(0, len(data), 8)]
+
+
+def as_told(told, word):
+    """A cell tells a word; of a NaN it tells the mark alone."""
+    return told == word or is_nan(told) and is_nan(word) and (told - word) % NAN_BIT == 0
+
+
+def differences(folder, said):
+    """All that differs, in words."""
+    listed, said["name"] = manifest(folder)
+    yield from files_as_listed(folder, listed)
+    said["files"] = len(listed)
+    with opened(folder, "points") as file:
+        plays = Plays(folder, Points(file))
+        for line in plays.points:
+            yield from plays.differ(line)
+            said["played"] += 1
+        yield from plays.left()
+
+
+def main(folder):
+    said, count = {"name": folder, "files": 0, "played": 0}, 0
+    try:
+        for difference in differences(folder, said):
+            count += 1
+            if count <= 20:
+                print("differs: " + difference)
+    except Exception as wrong:  # a folder that is damaged can be wrong in any way
+        count += 1
+        print("differs: the rest could not be tried: %s %s" % (type(wrong).__name__, ascii(str(wrong))))
+    print("files: %d in the manifest; points: %d played again" % (said["files"], said["played"]))
+    print("not repeated here: formula to sheet, sheet to listing (SHEET.txt)")
+    print("%s: %s" % (said["name"], "%d differ" % count if count else "as it was shelved"))
+    return 1 if count else 0
+
+
+if __name__ == "__main__":
+    sys.exit(main(sys.argv[1] if len(sys.argv) > 1 else os.path.dirname(os.path.abspath(__file__))))

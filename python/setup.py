@@ -1,4 +1,4 @@
-"""Puts the shared library and the commit's name into the package; setup.cfg has all else."""
+"""Puts the shared library, what goes into shelf folders, and the names of commit and kit into the package; setup.cfg has all else."""
 
 import shutil
 import subprocess
@@ -9,6 +9,8 @@ from setuptools.command.build_py import build_py
 
 ROOT = Path(__file__).resolve().parent.parent
 LIBRARY = ROOT / "target" / "staticlib" / "libtulipcricket.so"
+DATA = {"SHELF.txt": "docs/SHELF.md", "SHEET.txt": "docs/SHEET.md", "player.py": "drill/player.py"}
+"""What goes into shelf folders, and where it stands (tulipcricket/kept.py)."""
 
 
 class WithLibrary(build_py):
@@ -22,6 +24,11 @@ class WithLibrary(build_py):
         folder = Path(self.build_lib) / "tulipcricket"
         shutil.copy2(LIBRARY, folder / LIBRARY.name)
         (folder / "commit").write_text(commit())
+        (folder / "kit").write_text("".join(LIBRARY.with_suffix(".built").read_text().splitlines(True)[1:]))
+        (folder / "data").mkdir(exist_ok=True)
+        for name, place in DATA.items():
+            if (ROOT / place).is_file():
+                shutil.copy2(ROOT / place, folder / "data" / name)
 
 
 def commit() -> str:

@@ -168,7 +168,7 @@ class Commands(unittest.TestCase):
         with contextlib.redirect_stdout(said), self.assertRaises(SystemExit) as caught:
             main(["--version"])
         self.assertEqual(caught.exception.code, 0)
-        self.assertRegex(said.getvalue(), r"\Atulipcricket, commit ([0-9a-f]{40}(-dirty)?|unknown)\n\Z")
+        self.assertRegex(said.getvalue(), r"\Atulipcricket [0-9.]+, commit ([0-9a-f]{40}(-dirty)?|unknown)\n\Z")
 
     def test_missing_library(self) -> None:
         """Said with status 2."""

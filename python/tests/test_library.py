@@ -21,9 +21,9 @@ class Header(unittest.TestCase):
     @unittest.skipUnless(HEADER.exists(), "not in the repository")
     def test_all_functions(self) -> None:
         """Header, version script and package name the same functions."""
-        functions = set(re.findall(r"^uint32_t (tulipcricket_\w+)\(", HEADER.read_text(), re.M))
+        functions = set(re.findall(r"^(?:uint32_t |const char \*)(tulipcricket_\w+)\(", HEADER.read_text(), re.M))
         script = set(re.findall(r"^\s+(tulipcricket_\w+);", (ROOT / "c" / "tulipcricket.map").read_text(), re.M))
-        bound = {"tulipcricket_" + name for name in library._ARGUMENTS}
+        bound = {"tulipcricket_" + name for name in [*library._ARGUMENTS, *library._TEXTS]}
         self.assertEqual(functions, script)
         self.assertEqual(functions, bound)
         self.assertGreaterEqual(len(functions), 5)

@@ -9,16 +9,16 @@ from __future__ import annotations
 
 import argparse
 import sys
-import time
 from typing import Any, Dict, List, Mapping, NoReturn, Optional, Sequence, Tuple
 
-from . import plots, provenance, readings, report
+from . import plots, provenance, readings, report, shelf
 from . import table as tables
 from .circuits import formula_text
 from .errors import FormulaError, LibraryMissing, TulipcricketError
 from .files import Commands, Unusable, add_bits, add_output, add_table, may_be_made, read_file, table_from, write_file
 from .formula import Formula, Run
 from .meaning import Value
+from .progress import Bar
 from .words import double_of
 
 PICTURES = (".svg", ".png", ".pdf")
@@ -32,7 +32,7 @@ class Version(argparse.Action):
 
     def __call__(self, top: argparse.ArgumentParser, *_: object) -> NoReturn:
         """Ends the command."""
-        print(f"tulipcricket, commit {provenance.commit()}")
+        print(f"tulipcricket {provenance.release()}, commit {provenance.commit()}")
         top.exit()
 
 
@@ -43,6 +43,7 @@ def parser() -> argparse.ArgumentParser:
     commands = top.add_subparsers(dest="command", required=True)
     add_run(commands)
     readings.add(commands)
+    shelf.add(commands)
     return top
 
 
@@ -68,24 +69,6 @@ def add_run(commands: Commands) -> None:
 def run_text() -> str:
     """What run does, for --help."""
     return "Plays a formula at every line of a table. Exit status: 0 answered, 1 refused, 2 wrong usage or a file."
-
-
-class Bar:
-    """A bar of progress on a terminal, where it takes longer than a second."""
-
-    def __init__(self) -> None:
-        self.terminal = sys.stderr.isatty()
-        self.began = self.last = time.monotonic()
-
-    def __call__(self, done: int, count: int) -> None:
-        """So many points of all are done."""
-        now = time.monotonic()
-        if not self.terminal or now - self.began < 1 or (now - self.last < 0.1 and done < count):
-            return
-        self.last = now
-        filled = 40 * done // count
-        sys.stderr.write(f"\r[{'#' * filled}{'.' * (40 - filled)}] {done} of {count}{chr(10) if done == count else ''}")
-        sys.stderr.flush()
 
 
 # the run
@@ -199,11 +182,22 @@ def doubles(given: Mapping[str, List[Value]]) -> Dict[str, List[float]]:
     return {name: [double_of(value[0]) for value in values] for name, values in given.items()}
 
 
+def parsed(top: argparse.ArgumentParser, arguments: Optional[Sequence[str]]) -> argparse.Namespace:
+    """The words of a call; files may stand after options too."""
+    words, rest = top.parse_known_args(arguments)
+    takes = isinstance(getattr(words, "files", None), list)
+    if rest and (not takes or any(one.startswith("-") and one != "-" for one in rest)):
+        top.error(f"unrecognized arguments: {' '.join(rest)}")
+    if takes:
+        words.files += rest
+    return words
+
+
 def main(arguments: Optional[Sequence[str]] = None) -> int:
     """The command; its exit status."""
-    words = parser().parse_args(arguments)
+    words = parsed(parser(), arguments)
     try:
-        words.call(words)
+        return words.call(words) or 0
     except FormulaError as refused:
         print(refused.shown(), file=sys.stderr)
         return 1
@@ -215,4 +209,5 @@ def main(arguments: Optional[Sequence[str]] = None) -> int:
         return 1
     except BrokenPipeError:
         return 2
-    return 0
+    except KeyboardInterrupt:
+        return 130

@@ -15,8 +15,8 @@ WORDS = {
     7: "listing full",
     8: "wrong setup",
     9: "stray jump",
-    10: "misplaced label or branch",
-    11: "unequal records at a label",
+    10: "misplaced label",
+    11: "unequal records",
     12: "wrong window",
     13: "wrong points",
 }

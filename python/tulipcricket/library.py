@@ -25,6 +25,12 @@ SHELF_ANSWER = 40
 NAME = "libtulipcricket.so"
 VARIABLE = "TULIPCRICKET_LIBRARY"
 
+_TEXTS = {
+    "version": [],
+    "word": [ctypes.c_uint32],
+}
+"""The functions that give text."""
+
 _SLICE = [ctypes.c_char_p, ctypes.c_size_t]
 _WORD = [ctypes.c_uint64]
 _ARGUMENTS = {
@@ -45,19 +51,38 @@ def places() -> List[Path]:
     return [here / NAME, here.parent.parent / "target" / "staticlib" / NAME]
 
 
+def found() -> Optional[Path]:
+    """The library's file; None where it is not there."""
+    return next((path for path in places() if path.is_file()), None)
+
+
 @lru_cache(maxsize=None)
 def library() -> ctypes.CDLL:
     """The shared library, loaded once."""
-    for path in places():
-        if path.is_file():
-            loaded = ctypes.CDLL(str(path))
-            for name, arguments in _ARGUMENTS.items():
-                function = getattr(loaded, "tulipcricket_" + name)
-                function.argtypes = arguments
-                function.restype = ctypes.c_uint32
-            return loaded
+    path = found()
+    if path is not None:
+        loaded = ctypes.CDLL(str(path))
+        for name, arguments in _ARGUMENTS.items():
+            function = getattr(loaded, "tulipcricket_" + name)
+            function.argtypes = arguments
+            function.restype = ctypes.c_uint32
+        for name, numbers in _TEXTS.items():
+            function = getattr(loaded, "tulipcricket_" + name)
+            function.argtypes = numbers
+            function.restype = ctypes.c_char_p
+        return loaded
     tried = ", ".join(str(path) for path in places())
     raise LibraryMissing(f"{NAME} is not there; c/library makes it (looked for: {tried}; {VARIABLE} names another file)")
+
+
+def version() -> str:
+    """tulipcricket_version."""
+    return str(library().tulipcricket_version().decode())
+
+
+def word(number: int) -> str:
+    """tulipcricket_word: the words of a number that a function returned."""
+    return str(library().tulipcricket_word(number).decode())
 
 
 @dataclass(frozen=True)
