@@ -146,7 +146,7 @@ fn any_instruction(rng: &mut Rng, p: &Pools) -> Vec<u8> {
     let constant = rng.below(p.constants.max(1)) as u16;
     let op = rng.below(4) as u8;
     match rng.below(20) {
-        0 if p.mode == MINDING => make::bi(bi::DIVIDE, TEMP, a, b),
+        0 if p.mode == MINDING && !rng.once_in(5) => make::bi(bi::DIVIDE, TEMP, a, b),
         1 if p.mode == MINDING || rng.once_in(2) => make::uni(uni::HALF, a, b),
         0 => make::nop(),
         1..=4 => make::uni(rng.pick(&SHEET_UNI), a, b),
