@@ -13,7 +13,7 @@ from itertools import product
 from pathlib import Path
 from tempfile import TemporaryDirectory
 
-from sheets import KINDS, MEM, OPERATIONS, PARAM, RET, STACK, TEMP, Case, lower, read
+from sheets import KINDS, MEM, MODES, OPERATIONS, PARAM, RET, STACK, TEMP, Case, lower, read
 
 FRONT = Path(__file__).resolve().parent.parent / "bin" / "tulipcricket"
 NUMBERS = {name: (number, length) for number, (name, _, length) in KINDS.items()}
@@ -82,7 +82,7 @@ def is_accepted(sheet: bytes) -> bool:
 
 def sheets() -> Iterator[bytes]:
     """The forms that are not refused, some thirty a sheet."""
-    for mode in (0, 1):
+    for mode in MODES:
         sheet, at, count = header(mode), 0, 0
         for instruction in instructions():
             for reals in holdings(instruction):

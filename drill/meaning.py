@@ -11,7 +11,7 @@ from collections.abc import Callable
 from typing import NamedTuple
 
 import player
-from sheets import MEM, PARAM, RET, STACK, TEMP, read, setup
+from sheets import MEM, MINDING, PARAM, PLAIN, RET, STACK, TEMP, read, setup
 
 Word = int | None
 
@@ -216,8 +216,8 @@ def roots(a: C, stable: bool) -> tuple[C, C]:
 class State:
     """The values of 32 registers and 768 places while a sheet is gone through."""
 
-    def __init__(self, stable: bool, real_places: bytes, constants: list[int], store: list[int]) -> None:
-        self.stable, self.constants = stable, constants
+    def __init__(self, mode: int, real_places: bytes, constants: list[int], store: list[int]) -> None:
+        self.stable, self.minding, self.constants = mode != PLAIN, mode == MINDING, constants
         self.registers: list[Value] = [C(*store[at:at + 2]) for at in map(first_word, range(REGISTERS))]
         self.store, self.real_places = store, real_places
         self.places: dict[tuple[int, int], Value] = {}
@@ -259,7 +259,9 @@ class State:
         self.registers[d] = result
 
     def half(self, d: int, a: Value) -> None:
-        if isinstance(self.registers[d], R):
+        if self.minding:
+            self.registers[d] = R(half(a.x)) if isinstance(a, R) else C(half(a.x), half(a.y))
+        elif isinstance(self.registers[d], R):
             self.registers[d] = R(half(a.x))
         else:
             self.registers[d] = C(half(a.x), None if isinstance(a, R) else half(a.y))
@@ -285,7 +287,10 @@ class State:
             self.registers[d] = TWO[name](self.registers[a], self.registers[b])
 
     def divide_by_complex(self, d: int, a: int, b: int) -> None:
-        if self.stable:
+        if self.minding and d == TEMP:
+            self.stable_divide(RET, self.registers[a], self.registers[b])
+            self.registers[TEMP] = self.registers[RET]
+        elif self.stable:
             self.stable_divide(d, self.registers[a], self.registers[b])
         elif isinstance(self.registers[a], R):
             q, v = square(*self.registers[b]), self.registers[b].y
@@ -376,8 +381,7 @@ class Sheet:
     """An accepted sheet, read once."""
 
     def __init__(self, sheet: bytes) -> None:
-        mode, self.real_places, count, at = setup(sheet, 0, 256)
-        self.stable = mode == 1
+        self.mode, self.real_places, count, at = setup(sheet, 0, 256)
         self.constants = [int.from_bytes(sheet[i + 4:i + 12], "little") for i in range(69, 69 + 12 * count, 12)]
         self.row = instructions(sheet, at)
         self.labels = {one["label"]: i for i, (kind, one) in enumerate(self.row) if kind == "Label"}
@@ -385,7 +389,7 @@ class Sheet:
 
 def evaluate(sheet: Sheet, store: list[int]) -> State:
     """The values at the end; Unsettled where the way is not known."""
-    state, at = State(sheet.stable, sheet.real_places, sheet.constants, store), 0
+    state, at = State(sheet.mode, sheet.real_places, sheet.constants, store), 0
     while at < len(sheet.row):
         kind, one = sheet.row[at]
         if state.branches(kind, one):

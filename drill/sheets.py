@@ -19,6 +19,7 @@ from run import MOST_LINES, Reader
 
 RET, TEMP = 30, 31
 STACK, MEM, PARAM = 0, 1, 2
+PLAIN, STABLE, MINDING = MODES = 0, 1, 2
 LISTING_FULL = 7
 MOST_INSTRUCTIONS, SHEET_TOO_LONG = 612, 14
 
@@ -74,7 +75,8 @@ def two(data, at):
 class Record:
     """Which registers and places are recorded as real."""
 
-    def __init__(self, places):
+    def __init__(self, mode, places):
+        self.mode = mode
         self.registers = [False] * 32
         self.places = bytearray(places)
 
@@ -94,6 +96,8 @@ class Record:
                     real[operand] = False
         if name == "Root" or (name == "RealRoot" and not real[a]):
             real[TEMP] = real[RET] = False
+        if self.mode == MINDING and name == "Divide" and d == TEMP and not real[b]:
+            real[RET] = False
         if name in REAL:
             real[d] = True
         elif name in AS_A:
@@ -104,6 +108,8 @@ class Record:
             real[d] = False
         elif name != "Half":
             raise ValueError(name)
+        elif self.mode == MINDING:
+            real[d] = real[a]
 
     def take(self, kind, one):
         """One instruction."""
@@ -139,7 +145,7 @@ def setup(sheet, room, table):
     """1, and 8 of 3: mode, places, count of constants, where instructions begin; or None."""
     if len(sheet) < 69 or room > 65536 or table != 256:
         return None
-    if two(sheet, 0) != 69 or two(sheet, 2) != 32 or sheet[4] > 1:
+    if two(sheet, 0) != 69 or two(sheet, 2) != 32 or sheet[4] not in MODES:
         return None
     at = 69
     while len(sheet) - at >= 4 and two(sheet, at + 2) == 33:
@@ -238,9 +244,9 @@ def lower(sheet, room, table, full_at):
     """Number, index and record; full_at is the instruction that 7 refuses, or None."""
     found = setup(sheet, room, table)
     if found is None:
-        return 8, 0, Record(bytes(64))
+        return 8, 0, Record(PLAIN, bytes(64))
     mode, places, constants, at = found
-    record, index = Record(places), 0
+    record, index = Record(mode, places), 0
     standing, at_branches = labels(sheet, at), []
     while at < len(sheet):
         if index == MOST_INSTRUCTIONS:
@@ -249,7 +255,7 @@ def lower(sheet, room, table, full_at):
         if isinstance(got, int):
             return got, index, record
         kind, one, length = got
-        number = refusal(kind, one, constants, mode == 1, record, is_misplaced(kind, one, at, standing))
+        number = refusal(kind, one, constants, mode != PLAIN, record, is_misplaced(kind, one, at, standing))
         if number != 0:
             return number, index, record
         if kind == "Label" and any(label == one["label"] and held != record.copy() for label, held in at_branches):

@@ -87,7 +87,7 @@ static void lower(Lowering *l, const uint8_t *sheet, const size_t lengths[4], ui
 /* The sheet's own constants, or -1 where its header or its constants are refused by 8. */
 static int own_constants(const uint8_t *sheet, size_t length) {
     if (length < HEADER_LENGTH) return -1;
-    if (two(sheet) != HEADER_LENGTH || two(sheet + 2) != HEADER || sheet[4] > 1) return -1;
+    if (two(sheet) != HEADER_LENGTH || two(sheet + 2) != HEADER || sheet[4] > 2) return -1;
     size_t at = HEADER_LENGTH;
     int count = 0;
     for (; length - at >= 4 && two(sheet + at + 2) == CONSTANT; at += CONSTANT_LENGTH, count++)
@@ -126,7 +126,7 @@ static void answered(const Lowering *l, int own, uint8_t fill) {
     HOLDS(l->number == 14 ? word_at(answer + 8) == TULIPCRICKET_INSTRUCTIONS_LIMIT
                           : l->number == 0 || word_at(answer + 8) < TULIPCRICKET_INSTRUCTIONS_LIMIT);
     HOLDS(written <= l->listing.length && count >= (uint64_t)own && count <= (uint64_t)own + 5);
-    HOLDS(sheet[4] == 1 || count == (uint64_t)own);
+    HOLDS(sheet[4] != 0 || count == (uint64_t)own);
     HOLDS(filled(l->listing.at + written, l->listing.length - written, fill));
     HOLDS(filled(l->constants.at + 8 * count, l->constants.length - 8 * count, fill));
     for (int i = 0; i < own; i++)

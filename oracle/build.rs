@@ -33,7 +33,8 @@ fn main() {
         copy(&here.join("stubs"), &tree, name);
     }
     copy(&files, &tree, "complexify");
-    text += &with_reader(&tree);
+    copy(&here.join("stubs"), &tree, "behind");
+    text += &with_more(&tree);
     fs::write(tree.join("tree.rs"), text).unwrap();
 
     link(&here);
@@ -51,14 +52,10 @@ fn module(tree: &Path, name: &str) -> String {
     format!("#[path = {:?}]\npub mod {name};\n", tree.join(name).with_extension("rs"))
 }
 
-/// complexify.rs unchanged, and behind it a function that reads its private record of realness.
-fn with_reader(tree: &Path) -> String {
-    format!(
-        "pub mod complexify {{\n    include!({:?});\n\n    \
-         pub fn realness(c: &Complexifier) -> (&[bool; 32], &HashSet<Loc>) {{\n        \
-         (&c.real_regs, &c.real_locs)\n    }}\n}}\n",
-        tree.join("complexify.rs")
-    )
+/// complexify.rs unchanged, and behind it functions of our own that read its private record of realness and call its methods.
+fn with_more(tree: &Path) -> String {
+    let [file, behind] = ["complexify.rs", "behind.rs"].map(|name| tree.join(name));
+    format!("pub mod complexify {{\n    include!({file:?});\n    include!({behind:?});\n}}\n")
 }
 
 /// With the feature `linked`: the library of the C functions, from ../target/staticlib or the folder named by INTERFACE.

@@ -22,7 +22,7 @@ fn whole(sheet: Vec<u8>) -> ToLower {
 /// Document 01's sheet on paper.
 pub fn paper() -> Vec<u8> {
     let instructions = [make::load_const(0, 0), make::load(1, MEM, 3), make::bi(2, 0, 0, 1), make::save(0, MEM, 4)];
-    make::sheet(false, &NONE, &[TWO], &instructions)
+    make::sheet(PLAIN, &NONE, &[TWO], &instructions)
 }
 
 /// A valid record of each kind of a sheet.
@@ -111,10 +111,10 @@ fn each_kind() -> Vec<Vec<u8>> {
 }
 
 fn headers() -> Vec<Vec<u8>> {
-    let good = make::header(false, &NONE);
+    let good = make::header(PLAIN, &NONE);
     let mut found: Vec<Vec<u8>> = (0..=good.len()).map(|length| good[..length].to_vec()).collect();
     for (at, bytes) in
-        [(0, [68, 69, 70, 0]), (1, [0, 1, 2, 255]), (2, [31, 32, 33, 0]), (3, [0, 1, 2, 255]), (4, [0, 1, 2, 255])]
+        [(0, [68, 69, 70, 0]), (1, [0, 1, 2, 255]), (2, [31, 32, 33, 0]), (3, [0, 1, 2, 255]), (4, [1, 2, 3, 255])]
     {
         for byte in bytes {
             let mut copy = good.clone();
@@ -132,10 +132,10 @@ fn constants() -> Vec<Vec<u8>> {
     for count in [0, 1, 250, 251, 252, 253] {
         let row: Vec<u64> = (0..count).collect();
         for record in [Vec::new(), make::load_const(3, 250), make::load_const(3, 251), make::uni(uni::ABS, 3, 4)] {
-            found.extend([false, true].map(|stable| make::sheet(stable, &NONE, &row, std::slice::from_ref(&record))));
+            found.extend(MODES.map(|mode| make::sheet(mode, &NONE, &row, std::slice::from_ref(&record))));
         }
         for length in 0..14 {
-            let mut cut = make::sheet(false, &NONE, &row, &[]);
+            let mut cut = make::sheet(PLAIN, &NONE, &row, &[]);
             cut.extend(&[&make::constant(7)[..], &[0, 0]].concat()[..length]);
             found.push(cut.clone());
             let at = 69 + 12 * count as usize;
@@ -150,13 +150,13 @@ fn constants() -> Vec<Vec<u8>> {
 
 /// A sheet of this instruction and so many Nops.
 fn filled(first: Vec<u8>, nops: usize) -> ToLower {
-    whole([make::header(false, &NONE), first, make::nop().repeat(nops)].concat())
+    whole([make::header(PLAIN, &NONE), first, make::nop().repeat(nops)].concat())
 }
 
 /// The longest sheet that is accepted: 251 constants, 612 instructions of ten bytes.
 fn longest_sheet() -> ToLower {
     let row = vec![make::if_else(1, 2, 3, STACK, 2); INSTRUCTIONS];
-    let sheet = make::sheet(false, &NONE, &(0..SHEET_CONSTANTS as u64).collect::<Vec<_>>(), &row);
+    let sheet = make::sheet(PLAIN, &NONE, &(0..SHEET_CONSTANTS as u64).collect::<Vec<_>>(), &row);
     assert_eq!(sheet.len(), LONGEST_SHEET);
     whole(sheet)
 }
@@ -169,7 +169,7 @@ fn of_each_kind() -> Vec<ToLower> {
         let nops = vec![make::nop(); count - 1];
         let first = std::slice::from_ref(record);
         for row in [vec![record.clone(); count], [first, &nops].concat(), [&nops, first].concat()] {
-            found.extend([false, true].map(|stable| whole(make::sheet(stable, &NONE, &[TWO], &row))));
+            found.extend(MODES.map(|mode| whole(make::sheet(mode, &NONE, &[TWO], &row))));
         }
     }
     found
@@ -193,7 +193,7 @@ fn beyond() -> Vec<ToLower> {
     for first in [make::nop(), make::branch(3), make::label(3), make::mov(1, 2), make::load_const(1, 0)] {
         for (last, behind) in at_the_limit().iter().flat_map(|r| [(r, Vec::new()), (r, make::label(3))]) {
             let nops = make::nop().repeat(INSTRUCTIONS - 1);
-            let sheet = [make::sheet(false, &NONE, &[TWO], &[]), first.clone(), nops, last.clone(), behind].concat();
+            let sheet = [make::sheet(PLAIN, &NONE, &[TWO], &[]), first.clone(), nops, last.clone(), behind].concat();
             found.extend([0, LISTING_LIMIT].map(|room| ToLower { sheet: sheet.clone(), room, table: TABLE }));
         }
     }
@@ -212,14 +212,14 @@ fn labels_at(indices: &[usize]) -> Vec<ToLower> {
             if at < index {
                 row[at] = record;
             }
-            found.push(whole(make::sheet(false, &NONE, &[], &row)));
+            found.push(whole(make::sheet(PLAIN, &NONE, &[], &row)));
         }
     }
     found
 }
 
 /// A sheet of every operation on one and on two registers, of complex registers and of a real one.
-fn every_operation(stable: bool) -> ToLower {
+fn every_operation(mode: u8) -> ToLower {
     let mut row = Vec::new();
     for op in SHEET_UNI {
         row.extend([make::uni(op, 3, 1), make::load_const(4, 0), make::uni(op, 5, 4)]);
@@ -227,7 +227,7 @@ fn every_operation(stable: bool) -> ToLower {
     for op in SHEET_BI {
         row.extend([make::bi(op, 3, 1, 2), make::load_const(4, 0), make::bi(op, 5, 4, 4)]);
     }
-    whole(make::sheet(stable, &NONE, &[TWO], &row))
+    whole(make::sheet(mode, &NONE, &[TWO], &row))
 }
 
 /// What every list of sheets has: every operation, and the most instructions, the longest sheet, the most room, the words of the constants
@@ -235,7 +235,7 @@ fn every_operation(stable: bool) -> ToLower {
 pub fn kept_sheets() -> Vec<ToLower> {
     let mut found: Vec<ToLower> = [610, 611, 612].map(|nops| filled(make::uni(0, 1, 2), nops)).to_vec();
     found.push(longest_sheet());
-    found.extend([false, true].map(every_operation));
+    found.extend(MODES.map(every_operation));
     for room in [65_535, 65_536, 65_537] {
         found.push(ToLower { sheet: paper(), room, table: TABLE });
     }
@@ -249,7 +249,7 @@ fn limits() -> Vec<ToLower> {
     let mut found = kept_sheets();
     for (op, count) in [(uni::ABS, 612), (uni::ROOT, 612), (uni::RECIP, 407), (uni::RECIP, 408), (uni::RECIP, 613)] {
         let row = vec![make::uni(op, 1, 2); count];
-        found.extend([false, true].map(|stable| whole(make::sheet(stable, &NONE, &[], &row))));
+        found.extend(MODES.map(|mode| whole(make::sheet(mode, &NONE, &[], &row))));
     }
     for room in 0..=42 {
         found.push(ToLower { sheet: paper(), room, table: TABLE });
@@ -260,11 +260,11 @@ fn limits() -> Vec<ToLower> {
 /// An instruction that needs room or is barred, after the room is nearly used up.
 fn rooms() -> Vec<ToLower> {
     let mut found = Vec::new();
-    for stable in [false, true] {
+    for mode in MODES {
         for record in
             [make::uni(uni::ROOT, 1, 2), make::uni(uni::ABS, 1, 2), make::bi(3, 1, 2, 3), make::nop(), make::mov(3, 3)]
         {
-            let sheet = make::sheet(stable, &NONE, &[TWO], &[make::load_const(2, 0), record]);
+            let sheet = make::sheet(mode, &NONE, &[TWO], &[make::load_const(2, 0), record]);
             found.extend((0..=360).map(|room| ToLower { sheet: sheet.clone(), room, table: TABLE }));
         }
     }
@@ -295,7 +295,7 @@ fn barred_sheets() -> Vec<ToLower> {
             let real = [1, RET, TEMP].into_iter().enumerate().filter(|(i, _)| bits >> i & 1 == 1);
             let mut row: Vec<Vec<u8>> = real.map(|(_, r)| make::load_const(r, 0)).collect();
             row.push(record.clone());
-            found.extend([false, true].map(|stable| whole(make::sheet(stable, &places, &[TWO], &row))));
+            found.extend(MODES.map(|mode| whole(make::sheet(mode, &places, &[TWO], &row))));
         }
     }
     found
@@ -310,12 +310,12 @@ pub fn far_sheets() -> Vec<ToLower> {
 pub fn sheets() -> Vec<ToLower> {
     let mut found: Vec<ToLower> = headers().into_iter().chain(constants()).map(whole).collect();
     for record in each_kind() {
-        found.push(whole(make::sheet(false, &NONE, &[TWO], &[make::mov(1, 2), record.clone()])));
-        found.push(whole(make::sheet(true, &NONE, &[TWO], &[record, make::nop()])));
+        found.push(whole(make::sheet(PLAIN, &NONE, &[TWO], &[make::mov(1, 2), record.clone()])));
+        found.push(whole(make::sheet(STABLE, &NONE, &[TWO], &[record, make::nop()])));
     }
     for record in each_field(&sheet_records()).into_iter().chain(two_faults(&sheet_records())) {
-        for stable in [false, true] {
-            found.push(whole(make::sheet(stable, &NONE, &[TWO], &[make::mov(1, 2), record.clone()])));
+        for mode in MODES {
+            found.push(whole(make::sheet(mode, &NONE, &[TWO], &[make::mov(1, 2), record.clone()])));
         }
     }
     found.extend(limits());

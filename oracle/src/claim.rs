@@ -1,4 +1,5 @@
-//! The claim about leftovers, tried on one sheet, store, point and change: document 01's section Leftovers, with document 02's branches.
+//! The claim about leftovers, tried on one sheet, store, point and change: document 01's section Leftovers, with document 02's branches. In mode
+//! 2 it has no condition about Half.
 
 use crate::format::*;
 use crate::machine::Machine;
@@ -211,12 +212,14 @@ pub enum Trial {
     Refused,
     /// The play does not stand at the point, so the claim says nothing.
     NotReached,
-    /// A Half still to be played reads a real register into a complex one.
+    /// A Half still to be played reads a real register into a complex one, in a mode in which that is a condition.
     Half,
-    /// With the count of later points that the play passes over, and whether such a Half stands among what it passes over.
+    /// With the count of later points that the play passes over, and whether such a Half stands among what it passes over; in mode 2 one may
+    /// still be to be played.
     Holds {
         passed: usize,
         past_half: bool,
+        with_half: bool,
     },
     Fails(String),
 }
@@ -256,7 +259,7 @@ fn whole_claim(
             .filter(|i| kept.stores[i - point].is_some() == reached)
             .any(|i| half_of_real(&parts.instructions[i], &stages[i].realness))
     };
-    if halves(true) {
+    if halves(true) && parts.mode() != MINDING {
         return Ok(Trial::Half);
     }
     let mut altered = standing.clone();
@@ -269,13 +272,14 @@ fn whole_claim(
     check_frames(parts, stages, point, &changed)?;
     check_ends(stages, &kept, &changed)?;
     let passed = kept.stores.iter().filter(|s| s.is_none()).count();
-    Ok(Trial::Holds { passed, past_half: halves(false) })
+    Ok(Trial::Holds { passed, past_half: halves(false), with_half: halves(true) })
 }
 
-/// One random trial, on a sheet with branches or without.
-pub fn random_trial(machine: &impl Machine, branches: bool, rng: &mut Rng) -> (Parts, Trial) {
+/// One random trial, on a sheet in one of these modes with branches or without.
+pub fn random_trial(machine: &impl Machine, modes: &[u8], branches: bool, rng: &mut Rng) -> (Parts, Trial) {
     let length = rng.below(16);
-    let parts = random::parts(rng, length);
+    let mode = rng.pick(modes);
+    let parts = random::parts_in(mode, rng, length);
     let parts = if branches { random::woven(rng, &parts) } else { parts };
     let point = rng.below(parts.instructions.len() + 1);
     let indices: Vec<u16> = random::indices_of(&parts.instructions.concat());

@@ -10,6 +10,12 @@ pub const BRANCH_IF: u16 = 17;
 /// The lowest label of a sheet's own; those below are the listing's.
 pub const OWN_LABEL: u8 = 3;
 
+/// Modes of a sheet: plain, stable, and document 02's stable mode in which Half minds the record.
+pub const PLAIN: u8 = 0;
+pub const STABLE: u8 = 1;
+pub const MINDING: u8 = 2;
+pub const MODES: [u8; 3] = [PLAIN, STABLE, MINDING];
+
 pub const HEADER: u16 = 32;
 pub const CONSTANT: u16 = 33;
 pub const HEADER_LENGTH: usize = 69;

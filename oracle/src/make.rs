@@ -11,8 +11,9 @@ pub fn raw(kind: u16, fields: &[u8]) -> Vec<u8> {
     bytes
 }
 
-pub fn header(stable: bool, places: &[u8; 64]) -> Vec<u8> {
-    let mut fields = vec![stable as u8];
+/// The header of a sheet in this mode; `false` is plain, `true` stable.
+pub fn header(mode: impl Into<u8>, places: &[u8; 64]) -> Vec<u8> {
+    let mut fields = vec![mode.into()];
     fields.extend(places);
     raw(HEADER, &fields)
 }
@@ -111,8 +112,8 @@ pub fn branch_if(cond: u8, label: u8, is_else: u8) -> Vec<u8> {
 }
 
 /// A sheet of these constants and instruction records.
-pub fn sheet(stable: bool, places: &[u8; 64], constants: &[u64], instructions: &[Vec<u8>]) -> Vec<u8> {
-    let mut bytes = header(stable, places);
+pub fn sheet(mode: impl Into<u8>, places: &[u8; 64], constants: &[u64], instructions: &[Vec<u8>]) -> Vec<u8> {
+    let mut bytes = header(mode, places);
     for bits in constants {
         bytes.extend(constant(*bits));
     }

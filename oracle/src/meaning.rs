@@ -7,7 +7,7 @@ use crate::value::{self, Value};
 
 /// An accepted sheet, read.
 pub struct Sheet<'a> {
-    pub stable: bool,
+    pub mode: u8,
     pub places: &'a [u8],
     pub constants: Vec<u64>,
     pub instructions: Vec<&'a [u8]>,
@@ -19,7 +19,17 @@ impl Sheet<'_> {
         let (header, rest) = records.split_first().expect("a header");
         let count = rest.iter().take_while(|r| format::two(r, 2) == format::CONSTANT).count();
         let constants = rest[..count].iter().map(|r| word(r, 4)).collect();
-        Sheet { stable: header[4] == 1, places: &header[5..69], constants, instructions: rest[count..].to_vec() }
+        Sheet { mode: header[4], places: &header[5..69], constants, instructions: rest[count..].to_vec() }
+    }
+
+    /// Modes 1 and 2.
+    pub fn stable(&self) -> bool {
+        self.mode != format::PLAIN
+    }
+
+    /// Mode 2.
+    pub fn minding(&self) -> bool {
+        self.mode == format::MINDING
     }
 
     /// Whether the header has a place as real.
@@ -139,11 +149,18 @@ impl State {
         self.set(TEMP, self.get(TEMP).with_halves(x, y));
     }
 
-    /// Does the instruction at `at`; the next one's index. `lost` is the half that a Half of an R into a C takes.
+    /// Does the instruction at `at`; the next one's index. `lost` is the half that a Half of an R into a C takes, but in mode 2.
     pub fn step(&mut self, sheet: &Sheet, at: usize, lost: u64) -> usize {
-        let stable = sheet.stable;
+        let stable = sheet.stable();
         match instruction(sheet.instructions[at]) {
             Instruction::Nothing => {}
+            Instruction::Uni { op: uni::HALF, d, a } if sheet.minding() => {
+                self.set(d, value::one(uni::HALF, stable, self.get(a)))
+            }
+            Instruction::Bi { op: bi::DIVIDE, d: TEMP, a, b } if sheet.minding() && !self.get(b).is_real() => {
+                self.stable_divide(RET, a, b);
+                self.set(TEMP, self.get(RET));
+            }
             Instruction::Uni { op, d, a } => self.uni(op, stable, d, a, lost),
             Instruction::Bi { op, d, a, b } => self.bi(op, stable, d, a, b),
             Instruction::Mov { d, a } => self.set(d, self.get(a)),

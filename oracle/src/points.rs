@@ -40,7 +40,7 @@ pub struct Met {
 }
 
 /// An instruction by mode, kind, operation or a BranchIf's last byte, and the types of what it takes: a bit for each R.
-pub type Form = (bool, u16, u8, u8);
+pub type Form = (u8, u16, u8, u8);
 
 fn form(sheet: &Sheet, state: &State, at: usize) -> Form {
     let record = sheet.instructions[at];
@@ -59,13 +59,13 @@ fn form(sheet: &Sheet, state: &State, at: usize) -> Form {
         Instruction::BranchIf { a, zero, .. } => (u8::from(zero), [real(a), 0, 0]),
         Instruction::Nothing | Instruction::LoadConst { .. } | Instruction::Branch { .. } => (0, [0; 3]),
     };
-    (sheet.stable, two(record, 2), op, types[0] | types[1] << 1 | types[2] << 2)
+    (sheet.mode, two(record, 2), op, types[0] | types[1] << 1 | types[2] << 2)
 }
 
-/// The forms of one mode: Nop, Label and Branch, Uni (Half by d too), Bi, Mov, Load, Save, LoadConst, Fused, IfElse, LoadMath (in stable
-/// mode no Divide by a C), LoadConstMath, BranchIf.
+/// The forms of one mode: Nop, Label and Branch, Uni (Half by d too), Bi, Mov, Load, Save, LoadConst, Fused, IfElse, LoadMath (in modes 1
+/// and 2 no Divide by a C), LoadConstMath, BranchIf.
 const PLAIN_FORMS: usize = 3 + (20 * 2 + 2) + 14 * 4 + 2 + 2 + 2 + 1 + 4 * 8 + 8 + 4 * 4 + 4 * 2 + 2 * 2;
-pub const FORMS: usize = PLAIN_FORMS + (PLAIN_FORMS - 2);
+pub const FORMS: usize = PLAIN_FORMS + 2 * (PLAIN_FORMS - 2);
 
 /// What is compared: the first registers, and every place but one.
 #[derive(Clone, Copy)]
@@ -117,9 +117,10 @@ impl Reading<'_> {
     }
 }
 
-/// The half that a Half of an R into a C takes, which nobody knows: read from the store behind it.
+/// The half that a Half of an R into a C takes in modes 0 and 1, which nobody knows: read from the store behind it.
 fn lost(sheet: &Sheet, state: &State, at: usize, store: &[u64]) -> Option<u64> {
     match instruction(sheet.instructions[at]) {
+        _ if sheet.minding() => None,
         Instruction::Uni { op: uni::HALF, d, a } if state.get(a).is_real() && !state.get(d).is_real() => {
             Some(store[pair(d as usize).1])
         }

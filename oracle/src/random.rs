@@ -100,14 +100,14 @@ pub fn calm_word(rng: &mut Rng) -> u64 {
 
 /// What the instructions of one sheet draw on.
 struct Pools {
-    stable: bool,
+    mode: u8,
     registers: Vec<u8>,
     indices: Vec<u16>,
     constants: usize,
     roots: bool,
 }
 
-fn pools(rng: &mut Rng, stable: bool, constants: usize) -> Pools {
+fn pools(rng: &mut Rng, mode: u8, constants: usize) -> Pools {
     let mut registers: Vec<u8> = (0..2 + rng.below(4)).map(|_| rng.below(30) as u8).collect();
     if rng.once_in(8) {
         registers.extend(0..30);
@@ -120,7 +120,7 @@ fn pools(rng: &mut Rng, stable: bool, constants: usize) -> Pools {
     }
     let mut indices: Vec<u16> = (0..1 + rng.below(3)).map(|_| rng.below(256) as u16).collect();
     indices.extend([2, 3]);
-    Pools { stable, registers, indices, constants, roots: !rng.once_in(3) }
+    Pools { mode, registers, indices, constants, roots: !rng.once_in(3) }
 }
 
 fn real_places(rng: &mut Rng, indices: &[u16]) -> [u8; 64] {
@@ -146,8 +146,9 @@ fn any_instruction(rng: &mut Rng, p: &Pools) -> Vec<u8> {
     let constant = rng.below(p.constants.max(1)) as u16;
     let op = rng.below(4) as u8;
     match rng.below(20) {
+        0 if p.mode == MINDING && !rng.once_in(5) => make::bi(bi::DIVIDE, TEMP, a, b),
+        1 if p.mode == MINDING || rng.once_in(2) => make::uni(uni::HALF, a, b),
         0 => make::nop(),
-        1 if rng.once_in(2) => make::uni(uni::HALF, a, b),
         1..=4 => make::uni(rng.pick(&SHEET_UNI), a, b),
         5..=8 => make::bi(rng.pick(&SHEET_BI), a, b, c),
         9 => make::mov(a, b),
@@ -166,12 +167,13 @@ fn any_instruction(rng: &mut Rng, p: &Pools) -> Vec<u8> {
 fn set_aside(record: &[u8], p: &Pools) -> bool {
     let (kind, f) = (two(record, 2), &record[4..]);
     let special = |r: u8| r == RET || r == TEMP;
+    let stable = p.mode != PLAIN;
     match kind {
         1 if f[0] == uni::ROOT || f[0] == uni::REAL_ROOT => !p.roots,
-        1 => p.stable && f[0] == uni::ABS && f[2] == RET,
-        2 => p.stable && f[0] == bi::DIVIDE && (special(f[2]) || special(f[3])),
+        1 => stable && f[0] == uni::ABS && f[2] == RET,
+        2 => stable && f[0] == bi::DIVIDE && (special(f[2]) || special(f[3])),
         7 => f[4] == RET,
-        9 => p.stable && f[0] == 3,
+        9 => stable && f[0] == 3,
         _ => false,
     }
 }
@@ -198,6 +200,10 @@ impl Parts {
         [&self.head[..], &self.instructions[..count].concat()].concat()
     }
 
+    pub fn mode(&self) -> u8 {
+        self.head[4]
+    }
+
     pub fn sheet(&self) -> Vec<u8> {
         self.prefix(self.instructions.len())
     }
@@ -210,16 +216,21 @@ impl Parts {
     }
 }
 
-/// A sheet of `length` well-formed instructions; lowering takes at most 612.
+/// A sheet of `length` well-formed instructions in any mode; lowering takes at most 612.
 pub fn parts(rng: &mut Rng, length: usize) -> Parts {
-    let stable = rng.once_in(2);
+    let mode = rng.pick(&MODES);
+    parts_in(mode, rng, length)
+}
+
+/// The same in one mode.
+pub fn parts_in(mode: u8, rng: &mut Rng, length: usize) -> Parts {
     let constants = match rng.below(12) {
         0 => 0,
         1 => SHEET_CONSTANTS,
         _ => 1 + rng.below(5),
     };
-    let p = pools(rng, stable, constants);
-    let mut head = make::header(stable, &real_places(rng, &p.indices));
+    let p = pools(rng, mode, constants);
+    let mut head = make::header(mode, &real_places(rng, &p.indices));
     for _ in 0..constants {
         head.extend(make::constant(any_word(rng)));
     }

@@ -1,4 +1,6 @@
-//! Document 01's lowering with document 02's branches and its limit of 612 instructions: the wrapper written from their rules, around the Rust's own `complexify`.
+//! Document 01's lowering with document 02's branches, its limit of 612 instructions and its mode 2: the wrapper written from their rules,
+//! around the Rust's own `complexify`; in mode 2 Half and a Divide into Temp are listed by the Rust's methods in the order that document 02
+//! gives.
 
 use std::cell::Cell;
 use std::collections::HashSet;
@@ -7,7 +9,7 @@ use std::sync::Once;
 
 use crate::encode;
 use crate::format::*;
-use crate::rust::complexify::{realness, Complexifier};
+use crate::rust::complexify::{divide_by_ret, half_minding, listed_by, realness, Complexifier};
 use crate::rust::config::Config;
 use crate::rust::mir::{ArithOp, BinOp, Instruction, Mir, UniOp};
 use crate::rust::symbol::Loc;
@@ -34,6 +36,10 @@ impl Realness {
         };
         let i = index as usize;
         self.places[from + i / 8] >> (i % 8) & 1 == 1
+    }
+
+    fn real_register(&self, register: Reg) -> bool {
+        self.registers[(0..32).find(|n| encode::register(*n) == register).unwrap() as usize]
     }
 
     /// What the Rust holds now, in document 01's order.
@@ -81,7 +87,7 @@ impl Answer {
 
 /// A sheet whose setup stands.
 struct Sheet<'a> {
-    stable: bool,
+    mode: u8,
     places: [u8; 64],
     constants: Vec<u64>,
     instructions: &'a [u8],
@@ -92,7 +98,7 @@ fn open(sheet: &[u8]) -> Option<Sheet<'_>> {
     if sheet.len() < HEADER_LENGTH {
         return None;
     }
-    if two(sheet, 0) as usize != HEADER_LENGTH || two(sheet, 2) != HEADER || sheet[4] > 1 {
+    if two(sheet, 0) as usize != HEADER_LENGTH || two(sheet, 2) != HEADER || !MODES.contains(&sheet[4]) {
         return None;
     }
     let mut rest = &sheet[HEADER_LENGTH..];
@@ -107,7 +113,7 @@ fn open(sheet: &[u8]) -> Option<Sheet<'_>> {
         constants.push(word(rest, 4));
         rest = &rest[CONSTANT_LENGTH..];
     }
-    Some(Sheet { stable: sheet[4] == 1, places: sheet[5..69].try_into().unwrap(), constants, instructions: rest })
+    Some(Sheet { mode: sheet[4], places: sheet[5..69].try_into().unwrap(), constants, instructions: rest })
 }
 
 /// The fields of a record, read one after another.
@@ -297,10 +303,10 @@ fn misplaced(instruction: &Instruction, index: usize, standings: &[(usize, Strin
     }
 }
 
-/// Refusal 6 as document 01's table says it, for the realness before the instruction.
+/// Refusal 6 as document 01's table says it, for the realness before the instruction. Mode 2 is stable.
 fn barred(instruction: &Instruction, stable: bool, realness: &Realness) -> bool {
     let set_aside = |r: Reg| r == Reg::Ret || r == Reg::Temp;
-    let complex = |r: Reg| !realness.registers[(0..32).find(|n| encode::register(*n) == r).unwrap() as usize];
+    let complex = |r: Reg| !realness.real_register(r);
     match *instruction {
         Instruction::Fused { c, .. } => c == Reg::Ret,
         Instruction::Bi { op: BinOp::Divide, s1, s2, .. } => stable && complex(s2) && (set_aside(s1) || set_aside(s2)),
@@ -331,6 +337,40 @@ pub fn complexify(complexifier: &mut Complexifier, stable: bool, constants: &[u6
         mir.code.push(instruction);
     }
     complexifier.complexify(&mir).unwrap()
+}
+
+/// What an instruction lists that mode 2 lists otherwise than mode 1, by the Rust's methods: "Half", and "a Divide by a complex register into
+/// Temp". `None` for any other.
+fn minding(complexifier: &mut Complexifier, constants: &[u64], instruction: &Instruction) -> Option<Mir> {
+    let before = Realness::of(complexifier);
+    let constants: Vec<f64> = constants.iter().map(|bits| f64::from_bits(*bits)).collect();
+    match *instruction {
+        Instruction::Uni { op: UniOp::Half, dst, s1 } => {
+            Some(listed_by(complexifier, &constants, |c| half_minding(c, dst, s1)))
+        }
+        Instruction::Bi { op: BinOp::Divide, dst: Reg::Temp, s1, s2 } if !before.real_register(s2) => {
+            Some(listed_by(complexifier, &constants, |c| divide_by_ret(c, s1, s2)))
+        }
+        _ => None,
+    }
+}
+
+/// Whether mode 2 may list an instruction otherwise, by the instruction alone.
+fn may_mind(instruction: &Instruction) -> bool {
+    matches!(
+        instruction,
+        Instruction::Uni { op: UniOp::Half, .. } | Instruction::Bi { op: BinOp::Divide, dst: Reg::Temp, .. }
+    )
+}
+
+/// One instruction, in any mode.
+fn list(complexifier: &mut Complexifier, mode: u8, constants: &[u64], instruction: &Instruction) -> Mir {
+    if mode == MINDING {
+        if let Some(mir) = minding(complexifier, constants, instruction) {
+            return mir;
+        }
+    }
+    complexify(complexifier, mode != PLAIN, constants, std::slice::from_ref(instruction))
 }
 
 impl Listed {
@@ -370,7 +410,7 @@ fn unless_asserted<T>(work: impl FnOnce() -> T) -> Option<T> {
 
 /// The lowering so far: the state after the instructions that are finished.
 struct Work {
-    stable: bool,
+    mode: u8,
     places: [u8; 64],
     complexifier: Complexifier,
     finished: Vec<Instruction>,
@@ -397,15 +437,15 @@ pub fn real_set(places: &[u8; 64]) -> HashSet<Loc> {
     reals
 }
 
-fn fresh(places: &[u8; 64], stable: bool) -> Complexifier {
-    Complexifier::new(&real_set(places), Config::with_mode(stable))
+fn fresh(places: &[u8; 64], mode: u8) -> Complexifier {
+    Complexifier::new(&real_set(places), Config::with_mode(mode != PLAIN))
 }
 
 impl Work {
     fn new(sheet: &Sheet) -> Work {
-        let complexifier = fresh(&sheet.places, sheet.stable);
+        let complexifier = fresh(&sheet.places, sheet.mode);
         Work {
-            stable: sheet.stable,
+            mode: sheet.mode,
             places: sheet.places,
             realness: Realness::of(&complexifier),
             complexifier,
@@ -427,11 +467,10 @@ impl Work {
 
     /// One instruction more, or refusal 6, 11 or 7. After a refusal `complexifier` is not used again.
     fn lower(&mut self, instruction: Instruction, room: usize) -> Result<(), u32> {
-        let row = std::slice::from_ref(&instruction);
-        let (stable, constants) = (self.stable, &self.constants);
+        let (mode, constants) = (self.mode, &self.constants);
         let complexifier = &mut self.complexifier;
-        let listed = unless_asserted(|| Listed::of(&complexify(complexifier, stable, constants, row)));
-        assert_eq!(listed.is_none(), barred(&instruction, stable, &self.realness), "{instruction:?}");
+        let listed = unless_asserted(|| Listed::of(&list(complexifier, mode, constants, &instruction)));
+        assert_eq!(listed.is_none(), barred(&instruction, mode != PLAIN, &self.realness), "{instruction:?}");
         let listed = listed.ok_or(BARRED)?;
         if self.unequal(&instruction) {
             return Err(UNEQUAL);
@@ -451,10 +490,22 @@ impl Work {
         Ok(())
     }
 
-    /// The finished instructions once more, in one call on a fresh `Complexifier`: the same bytes, constants and realness.
+    /// The finished instructions once more on a fresh `Complexifier`, in one call, in mode 2 in one call between those that may be listed
+    /// otherwise there: the same bytes, constants and realness.
     fn check_whole(&self, own: &[u64]) {
-        let mut complexifier = fresh(&self.places, self.stable);
-        let whole = Listed::of(&complexify(&mut complexifier, self.stable, own, &self.finished));
+        let mut complexifier = fresh(&self.places, self.mode);
+        let mut whole = Listed { records: Vec::new(), constants: own.to_vec() };
+        let apart = |one: &Instruction| self.mode == MINDING && may_mind(one);
+        for row in self.finished.chunk_by(|one, next| !apart(one) && !apart(next)) {
+            let constants = &whole.constants;
+            let mir = match row {
+                [one] if apart(one) => list(&mut complexifier, self.mode, constants, one),
+                _ => complexify(&mut complexifier, self.mode != PLAIN, constants, row),
+            };
+            let listed = Listed::of(&mir);
+            whole.records.extend(listed.records);
+            whole.constants = listed.constants;
+        }
         assert_eq!(whole.records.concat(), self.listing);
         assert_eq!(whole.constants, self.constants);
         assert_eq!(Realness::of(&complexifier), self.realness);

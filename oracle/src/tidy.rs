@@ -41,13 +41,15 @@ fn is_real(place: usize, record: &Realness) -> bool {
 }
 
 /// Whether an instruction keeps a sheet tidy, by the record before it.
-fn keeps(one: Instruction, stable: bool, record: &Realness) -> bool {
+fn keeps(one: Instruction, sheet: &Sheet, record: &Realness) -> bool {
     let real = |register: u8| record.registers[register as usize];
     let general = registers(one).iter().all(|r| *r != RET && *r != TEMP);
     general
         && match one {
-            Instruction::Uni { op: uni::HALF, d, a } => real(d) == real(a),
-            Instruction::LoadMath { op: bi::DIVIDE, a, place, .. } => stable || !real(a) || is_real(place, record),
+            Instruction::Uni { op: uni::HALF, d, a } => sheet.minding() || real(d) == real(a),
+            Instruction::LoadMath { op: bi::DIVIDE, a, place, .. } => {
+                sheet.stable() || !real(a) || is_real(place, record)
+            }
             _ => true,
         }
 }
@@ -56,12 +58,12 @@ fn keeps(one: Instruction, stable: bool, record: &Realness) -> bool {
 pub fn tidy<'a>(sheet: &Sheet, records: impl Iterator<Item = &'a Realness>) -> bool {
     let row = || sheet.instructions.iter().map(|r| instruction(r));
     let stack_2 = roots(sheet) && row().any(|one| place(one) == Some(STACK_2));
-    !stack_2 && row().zip(records).all(|(one, record)| keeps(one, sheet.stable, record))
+    !stack_2 && row().zip(records).all(|(one, record)| keeps(one, sheet, record))
 }
 
 /// d := the row of the instruction at `at`, with what is made wide before; the next one's index.
 pub fn row(state: &mut State, sheet: &Sheet, at: usize) -> usize {
-    let stable = sheet.stable;
+    let stable = sheet.stable();
     let one = instruction(sheet.instructions[at]);
     made_wide(one).into_iter().for_each(|register| state.widen(register));
     let get = |register: u8| state.get(register);

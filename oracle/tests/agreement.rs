@@ -34,11 +34,11 @@ fn the_claim_holds_on_random_sheets() {
     let mut rng = Rng(11);
     let (mut jumped, mut past_halves, mut not_reached) = (0, 0, 0);
     for turn in 0..4000 {
-        let (_, trial) = random_trial(&Reference, turn % 4 != 0, &mut rng);
+        let (_, trial) = random_trial(&Reference, &MODES, turn % 4 != 0, &mut rng);
         match trial {
             Trial::Fails(text) => panic!("{text}"),
             Trial::NotReached => not_reached += 1,
-            Trial::Holds { passed, past_half } => {
+            Trial::Holds { passed, past_half, .. } => {
                 jumped += u64::from(passed > 0);
                 past_halves += u64::from(past_half);
             }
@@ -51,7 +51,7 @@ fn the_claim_holds_on_random_sheets() {
 /// How many of some random trials fail.
 fn failures(machine: &impl Machine) -> usize {
     let mut rng = Rng(17);
-    (0..600).filter(|turn| matches!(random_trial(machine, turn % 2 == 0, &mut rng).1, Trial::Fails(_))).count()
+    (0..600).filter(|turn| matches!(random_trial(machine, &MODES, turn % 2 == 0, &mut rng).1, Trial::Fails(_))).count()
 }
 
 /// The reference, but every register is recorded as real.
@@ -138,8 +138,11 @@ fn the_claim_needs_equal_records_at_labels() {
     let (unequal, equal) = (row(make::load(2, MEM, 0)), row(make::load_const(2, 0)));
     assert_eq!(try_one(&Reference, &unequal, &store, 1, &mut Rng(1)), Trial::Refused);
     assert!(matches!(try_one(&NoLabelRules, &unequal, &store, 1, &mut Rng(1)), Trial::Fails(_)));
-    assert_eq!(try_one(&NoLabelRules, &unequal, &store, 3, &mut Rng(1)), Trial::Holds { passed: 0, past_half: false });
-    let holds = Trial::Holds { passed: 1, past_half: false };
+    assert_eq!(
+        try_one(&NoLabelRules, &unequal, &store, 3, &mut Rng(1)),
+        Trial::Holds { passed: 0, past_half: false, with_half: false }
+    );
+    let holds = Trial::Holds { passed: 1, past_half: false, with_half: false };
     assert_eq!(try_one(&Reference, &equal, &store, 1, &mut Rng(1)), holds);
     assert_eq!(try_one(&NoLabelRules, &equal, &store, 1, &mut Rng(1)), holds);
 }
@@ -162,11 +165,11 @@ fn points_and_halves_that_are_jumped_over() {
         store[pair(1).0] = condition;
         try_one(&Reference, &sheet, &store, point, &mut Rng(1))
     };
-    assert_eq!(trial(0, 1), Trial::Holds { passed: 2, past_half: true });
+    assert_eq!(trial(0, 1), Trial::Holds { passed: 2, past_half: true, with_half: false });
     assert_eq!((trial(0, 2), trial(0, 3)), (Trial::NotReached, Trial::NotReached));
-    assert_eq!(trial(0, 4), Trial::Holds { passed: 0, past_half: false });
+    assert_eq!(trial(0, 4), Trial::Holds { passed: 0, past_half: false, with_half: false });
     assert_eq!((trial(1, 1), trial(1 << 63, 3)), (Trial::Half, Trial::Half));
-    assert_eq!(trial(1, 4), Trial::Holds { passed: 0, past_half: false });
+    assert_eq!(trial(1, 4), Trial::Holds { passed: 0, past_half: false, with_half: false });
 }
 
 #[test]
@@ -176,8 +179,43 @@ fn a_half_of_a_real_register_is_told_apart() {
     let sheet = Parts { head, instructions };
     let store = vec![3; STORE];
     let trial = |point| try_one(&Reference, &sheet, &store, point, &mut Rng(1));
-    let holds = Trial::Holds { passed: 0, past_half: false };
+    let holds = Trial::Holds { passed: 0, past_half: false, with_half: false };
     assert_eq!((trial(0), trial(1), trial(2)), (Trial::Half, Trial::Half, holds));
+}
+
+/// Mode 2 lowered as mode 1: its Half lists both lines of a real register.
+struct NotMinding;
+
+impl Machine for NotMinding {
+    fn lower(&self, sheet: &[u8], listing: &mut [u8], constants: &mut [u64]) -> Answer {
+        let mut other = sheet.to_vec();
+        other[4] = other[4].min(STABLE);
+        Reference.lower(&other, listing, constants)
+    }
+
+    fn play(&self, listing: &[u8], constants: &[u64], store: &mut [u64], start: u64) -> Played {
+        Reference.play(listing, constants, store, start)
+    }
+}
+
+/// "Here a user may change leftovers at any point without any condition on Half": of the same sheet in mode 2 the claim holds at every
+/// point, and with the listing of mode 1 it fails.
+#[test]
+fn mode_2_needs_no_condition_about_half() {
+    let head = make::sheet(MINDING, &[0; 64], &[7], &[]);
+    let instructions = vec![make::load_const(0, 0), make::uni(uni::HALF, 1, 0), make::save(1, MEM, 3)];
+    let sheet = Parts { head, instructions };
+    let store = vec![3; STORE];
+    let trial = |machine: &dyn Fn(usize) -> Trial| [0, 1, 2].map(machine);
+    let holds = |with_half| Trial::Holds { passed: 0, past_half: false, with_half };
+    let found = trial(&|point| try_one(&Reference, &sheet, &store, point, &mut Rng(1)));
+    assert_eq!(found, [holds(true), holds(true), holds(false)]);
+    assert!(matches!(try_one(&NotMinding, &sheet, &store, 1, &mut Rng(1)), Trial::Fails(_)));
+    let mut rng = Rng(23);
+    let mut fails =
+        |machine: &dyn Fn(&mut Rng) -> Trial| (0..600).filter(|_| matches!(machine(&mut rng), Trial::Fails(_))).count();
+    assert_eq!(fails(&|rng| random_trial(&Reference, &[MINDING], false, rng).1), 0);
+    assert!(fails(&|rng| random_trial(&NotMinding, &[MINDING], false, rng).1) > 0);
 }
 
 /// Reads a list back: numbers and slices in turn.

@@ -8,16 +8,18 @@ use Rattle.mir.specs.declared.ops.ArithOp.{ArithOp}
 use Rattle.mir.specs.Operation.{arithNumber}
 use Rattle.mir.specs.declared.records.Loc.{Loc}
 use Rattle.mir.specs.declared.records.Instruction.{Instruction}
+use Rattle.sheet.specs.declared.setup.Mode.{Mode}
 use Rattle.text.specs.Sized.{SizedPlace}
 use Rattle.text.specs.Text.{ascii, decimalIn, decimal, hexIn, register, place}
 use Rattle.text.proofs.Short.{name-short}
 use Rattle.reports.proofs.Brief.{either, number-short, hex-long, digits}
 use Rattle.assembly.specs.Lines.{modeLine, realPlace, realLine, constantLine, named, mathNames, mathName, instructionLine, reasons, refusedText}
 
-pub mode-short : (stable : Bool) → length (modeLine stable) ≤ 80
+pub mode-short : (mode : Mode) → length (modeLine mode) ≤ 80
 unfolding ascii modeLine
-mode-short true = lit≤ tt
-mode-short false = lit≤ tt
+mode-short Mode.Plain = lit≤ tt
+mode-short Mode.Stable = lit≤ tt
+mode-short Mode.Minding = lit≤ tt
 
 place-short : (loc : Loc) → SizedPlace loc → length (place loc) ≤ 11
 unfolding ascii place

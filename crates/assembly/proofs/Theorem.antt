@@ -11,11 +11,11 @@ use lib.Seq.{length-take-le, getD-drop, getD-take}
 use Rattle.mir.specs.Read.{Read, got, refused, andThen}
 use Rattle.mir.specs.Field.{byteAt, u16At}
 use Rattle.mir.specs.Decode.{decoded}
-use Rattle.mir.proofs.Passing.{either, passed, clash}
+use Rattle.mir.proofs.Passing.{either, passed, clash, got-same}
 use Rattle.mir.proofs.Decoding.{Bytes}
 use Rattle.sheet.specs.declared.setup.Mode.{Mode}
 use Rattle.sheet.specs.declared.setup.Setup.{Setup}
-use Rattle.sheet.specs.Setup.{modeFrom, isStable, headerFrom, constantsFrom, constantsOf, setupWith, setupFrom, setup}
+use Rattle.sheet.specs.Setup.{modeFrom, headerFrom, constantsFrom, constantsOf, setupWith, setupFrom, setup}
 use Rattle.sheet.specs.Instruction.{instructionFrom, cut}
 use Rattle.sheet.proofs.Limit.{cut-whole, length-cut}
 use Rattle.sheet.proofs.Setting.{Right, right}
@@ -24,7 +24,8 @@ use Rattle.assembly.specs.Lines.{modeLine}
 use Rattle.assembly.specs.SheetText.{realLines, constantLines, instructionLines, ofSetup, linesOf, sheetText, Readable}
 use Rattle.assembly.specs.Assembled.{aMode, mode, heads, wordBytes, Draft, noSheet, accepted, refusedAt, assembledFrom, assembled, pieces}
 use Rattle.assembly.specs.RoundTrip.{RoundTrip}
-use Rattle.assembly.proofs.Words.{plain-word, stable-word}
+use Rattle.assembly.proofs.Pieces.{tails}
+use Rattle.assembly.proofs.Words.{modeByte, modeName, mode-word}
 use Rattle.assembly.proofs.Saying.{none, and, Says, says, retold, Onward, _▹_, onward-as, by-first}
 use Rattle.assembly.proofs.Rows.{Row, row}
 use Rattle.assembly.proofs.Outcomes.{by-front}
@@ -37,40 +38,28 @@ mode-row : Row 0 (record { word = ascii "mode"; part = mode; start = 69 ∷ 0 �
 unfolding heads ascii
 mode-row = row 0 _ tt refl
 
--- a mode's byte
-abbrev modeByte : Mode → ℕ
-modeByte Mode.Plain = 0
-modeByte Mode.Stable = 1
+by-word : (m : Mode) → Says ((ascii "mode" ++ tails (modeName m ∷ [])) ++ 10 ∷ []) mode (69 ∷ 0 ∷ 32 ∷ 0 ∷ modeByte m ∷ [])
+unfolding wordBytes
+by-word m =
+    says 0 _ (mode-row .low) (mode-row .same)
+    (and {k = aMode} (ap (λ x. andThen x (λ n. got (n ∷ []))) (mode-word m .number)) (mode-word m .word) none)
 
-mode-said : (m : Mode) → Says (modeLine (isStable m)) mode (69 ∷ 0 ∷ 32 ∷ 0 ∷ modeByte m ∷ [])
+-- a mode's line says its byte
+mode-said : (m : Mode) → Says (modeLine m) mode (69 ∷ 0 ∷ 32 ∷ 0 ∷ modeByte m ∷ [])
 unfolding modeLine wordBytes ascii
-mode-said Mode.Plain =
-    says 0 _ (mode-row .low) (mode-row .same)
-    (and {k = aMode} (ap (λ x. andThen x (λ n. got (n ∷ []))) (plain-word .number)) (plain-word .word) none)
-mode-said Mode.Stable =
-    says 0 _ (mode-row .low) (mode-row .same)
-    (and {k = aMode} (ap (λ x. andThen x (λ n. got (n ∷ []))) (stable-word .number)) (stable-word .word) none)
+mode-said Mode.Plain = by-word Mode.Plain
+mode-said Mode.Stable = by-word Mode.Stable
+mode-said Mode.Minding = by-word Mode.Minding
 
 mode-byte : (b : ℕ) (m : Mode) → modeFrom b ≡ got m → b ≡ modeByte m
-mode-byte b m e =
-    either (eqb b 0)
-    (λ t. eqb-true b 0 t ∙ ap modeByte (first t))
-    (λ f.
-    either (eqb b 1)
-    (λ t. eqb-true b 1 t ∙ ap modeByte (second f t))
-    (λ t. absurd (clash 8 m (neither f t))))
+mode-byte b m e = by-tests (eqb b 0) (eqb b 1) (eqb b 2) refl refl refl e
   where
-    first : eqb b 0 ≡ true → Mode.Plain ≡ m
-    first t = let x : got Mode.Plain ≡ got m = sym (ap (λ t. cond t (got Mode.Plain) (cond (eqb b 1) (got Mode.Stable) (refused 8))) t) ∙ e in cc
-
-    second : eqb b 0 ≡ false → eqb b 1 ≡ true → Mode.Stable ≡ m
-    second f t =
-        let x : got Mode.Stable ≡ got m =
-        sym (ap (λ f. cond f (got Mode.Plain) (cond (eqb b 1) (got Mode.Stable) (refused 8))) f ∙ ap (λ t. cond t (got Mode.Stable) (refused 8)) t) ∙ e in
-        cc
-
-    neither : eqb b 0 ≡ false → eqb b 1 ≡ false → refused 8 ≡ got m
-    neither f t = sym (ap (λ f. cond f (got Mode.Plain) (cond (eqb b 1) (got Mode.Stable) (refused 8))) f ∙ ap (λ t. cond t (got Mode.Stable) (refused 8)) t) ∙ e
+    by-tests : (x y z : Bool) → eqb b 0 ≡ x → eqb b 1 ≡ y → eqb b 2 ≡ z
+        → cond x (got Mode.Plain) (cond y (got Mode.Stable) (cond z (got Mode.Minding) (refused 8))) ≡ got m → b ≡ modeByte m
+    by-tests true y z p q r e = eqb-true b 0 p ∙ ap modeByte (got-same _ m e)
+    by-tests false true z p q r e = eqb-true b 1 q ∙ ap modeByte (got-same _ m e)
+    by-tests false false true p q r e = eqb-true b 2 r ∙ ap modeByte (got-same _ m e)
+    by-tests false false false p q r e = absurd (clash 8 m e)
 
 -- the bytes of a header
 record Headed (s : List ℕ) (m : Mode) : Type 0 where
@@ -113,7 +102,7 @@ known s z = by-header (headerFrom s) refl (constantsFrom 251 (drop 69 s)) refl z
 abbrev Opening : Mode → List ℕ → Type 0
 Opening m s =
     Bytes s → Headed s m → 64 ≤ length (drop 5 s)
-    → Onward noSheet (modeLine (isStable m) ++ realLines (take 64 (drop 5 s)) 512 0) (record { bytes = take 69 s; count = 0; instructions = 0; stage = 1 })
+    → Onward noSheet (modeLine m ++ realLines (take 64 (drop 5 s)) 512 0) (record { bytes = take 69 s; count = 0; instructions = 0; stage = 1 })
 
 opening : (m : Mode) (s : List ℕ) → 5 ≤ length s → Opening m s
 unfolding u16At

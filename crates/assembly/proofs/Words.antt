@@ -10,6 +10,7 @@ use lib.ListN.{length, getD, List·getD-map}
 use Rattle.mir.specs.Read.{Read, got, refused, andThen}
 use Rattle.mir.proofs.Tables.{and-left, and-right}
 use Rattle.replay.specs.Same.{same}
+use Rattle.sheet.specs.declared.setup.Mode.{Mode}
 use Rattle.text.specs.Text.{ascii, decimal, decimalIn}
 use Rattle.text.specs.Text as Text
 use Rattle.assembly.specs.Lines.{named}
@@ -89,17 +90,26 @@ class-word (Loc.Stack i) = stands classWords 3 0 classes-right (omega arith)
 class-word (Loc.Mem i) = stands classWords 3 1 classes-right (omega arith)
 class-word (Loc.Param i) = stands classWords 3 2 classes-right (omega arith)
 
-modes-right : T (passing (right modeWords) 2 0)
+modes-right : T (passing (right modeWords) 3 0)
 unfolding modeWords numberFrom same ascii
 modes-right = tt
 
-pub plain-word : Stands modeWords 0 (ascii "plain")
-unfolding modeWords
-plain-word = stands modeWords 2 0 modes-right (omega arith)
+-- a mode's byte, and its word
+abbrev pub modeByte : Mode → ℕ
+modeByte Mode.Plain = 0
+modeByte Mode.Stable = 1
+modeByte Mode.Minding = 2
 
-pub stable-word : Stands modeWords 1 (ascii "stable")
+abbrev pub modeName : Mode → List ℕ
+modeName Mode.Plain = ascii "plain"
+modeName Mode.Stable = ascii "stable"
+modeName Mode.Minding = ascii "minding"
+
+pub mode-word : (m : Mode) → Stands modeWords (modeByte m) (modeName m)
 unfolding modeWords
-stable-word = stands modeWords 2 1 modes-right (omega arith)
+mode-word Mode.Plain = stands modeWords 3 0 modes-right (omega arith)
+mode-word Mode.Stable = stands modeWords 3 1 modes-right (omega arith)
+mode-word Mode.Minding = stands modeWords 3 2 modes-right (omega arith)
 
 -- the first word of a row of the table
 pub head-word : (n : ℕ) (h : FirstWord) → n < 59 → getD heads n nothing ≡ h → Stands (map (λ h. h .word) heads) n (h .word)

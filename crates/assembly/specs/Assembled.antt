@@ -49,7 +49,7 @@ unfoldable pub indexWords : List (List ℕ)
 indexWords = map decimal (counting 256 0)
 
 unfoldable pub modeWords : List (List ℕ)
-modeWords = map ascii ("plain" ∷ "stable" ∷ [])
+modeWords = map ascii ("plain" ∷ "stable" ∷ "minding" ∷ [])
 
 -- a hexadecimal digit's number; 16 for another byte
 abbrev pub digit : ℕ → ℕ

@@ -1,7 +1,7 @@
 -- The lines of a sheet's text: one for the mode, each real place, each constant and each instruction, in the words that `listing` prints.
 use Prim.Native.Nat.{ℕ, zero, suc, _-_}
 use Prim.Native.String.{String}
-use mathlib.Core.Bool.{Bool, cond}
+use mathlib.Core.Bool.{cond}
 use mathlib.Core.List.{List, [], _∷_, _++_}
 use lib.Dec.{ltb, eqb}
 use Rattle.mir.specs.declared.ops.ArithOp.{ArithOp}
@@ -10,11 +10,14 @@ use Rattle.mir.specs.declared.records.Loc.{Loc}
 use Rattle.mir.specs.declared.records.Work.{Work}
 use Rattle.mir.specs.declared.records.Record.{Record}
 use Rattle.mir.specs.declared.records.Instruction.{Instruction}
+use Rattle.sheet.specs.declared.setup.Mode.{Mode}
 use Rattle.text.specs.Text.{ascii, decimal, hex, space, place, nameOf, registers, line, recordLine}
 
--- the mode: "0 plain, 1 stable"
-unfoldable pub modeLine : Bool → List ℕ
-modeLine stable = cond stable (ascii "mode stable\n") (ascii "mode plain\n")
+-- the mode: "0 plain, 1 stable", and 2, which minds the record in Half
+unfoldable pub modeLine : Mode → List ℕ
+modeLine Mode.Plain = ascii "mode plain\n"
+modeLine Mode.Stable = ascii "mode stable\n"
+modeLine Mode.Minding = ascii "mode minding\n"
 
 -- the place of a bit of a header's realness: Stack, then Param
 abbrev pub realPlace : ℕ → Loc

@@ -8,7 +8,7 @@ use lib.Dec.{eqb}
 use Rattle.mir.specs.declared.records.Instruction.{Instruction}
 use Rattle.mir.specs.Decode.{Decoded}
 use Rattle.sheet.specs.declared.setup.Setup.{Setup}
-use Rattle.sheet.specs.Setup.{setup, constantsOf, isStable}
+use Rattle.sheet.specs.Setup.{setup, constantsOf}
 use Rattle.sheet.specs.Instruction.{instructions}
 use Rattle.lowering.specs.Realness.{bitAt}
 use Rattle.reports.specs.Lines.{refusalLine}
@@ -42,7 +42,7 @@ Readable sheet = fault sheet ≡ 0
 -- mode, real places, constants, instructions
 abbrev pub linesOf : List ℕ → Setup → List ℕ
 linesOf sheet s =
-    modeLine (isStable (s .mode))
+    modeLine (s .mode)
     ++ realLines (s .places) 512 0
     ++ constantLines (constantsOf sheet (s .count))
     ++ instructionLines (ofSetup sheet s .items)

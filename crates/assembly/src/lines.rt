@@ -9,17 +9,19 @@ use mir::records::Instruction;
 use mir::records::Loc;
 use mir::records::Record;
 use mir::records::Work;
+use sheet::setup::Mode;
 use text::line::Line;
 use text::line::empty_line;
 use text::lines::record_line;
 
-pub fn mode_line(stable: bool) -> Line
-    ensures { λ r. ⌜ Prints (modeLine stable) r ⌝ }
+pub fn mode_line(mode: Mode) -> Line
+    ensures { λ r. ⌜ Prints (modeLine mode) r ⌝ }
 {
-    if stable {
-        return empty_line().text(b"mode stable\n");
+    match mode {
+        Mode::Plain => empty_line().text(b"mode plain\n"),
+        Mode::Stable => empty_line().text(b"mode stable\n"),
+        Mode::Minding => empty_line().text(b"mode minding\n"),
     }
-    empty_line().text(b"mode plain\n")
 }
 
 // The place of a bit of a header's realness.

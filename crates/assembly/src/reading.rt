@@ -92,7 +92,7 @@ pub fn index_number(w: &[u8]) -> Number
 pub fn mode_number(w: &[u8]) -> Number
     ensures { λ r. ⌜ asNumber r ≡ numberFrom 0 modeWords (now (w .entry)) ⌝ }
 {
-    number_in(b"plain stable", w)
+    number_in(b"plain stable minding", w)
 }
 
 // A line's first word.

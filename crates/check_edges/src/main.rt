@@ -10,6 +10,7 @@ use records::reader::read_record;
 use sheet::reader::NextInstruction;
 use sheet::reader::read_instruction;
 use sheet::setup::constant_at;
+use sheet::setup::is_minding;
 use sheet::setup::is_stable;
 use sheet::setup::read_setup;
 
@@ -387,6 +388,9 @@ fn setup_of(name: &[u8], sheet: &[u8]) {
         return;
     }
     let mode = s.mode;
+    if is_minding(mode) {
+        text(b"minding, ");
+    }
     if is_stable(mode) {
         text(b"stable, ");
     } else {
@@ -416,7 +420,8 @@ fn header(length: u8, kind: u8, mode: u8) -> [u8; 69] {
 fn headers() {
     setup_of(b"plain", &header(69, 32, 0));
     setup_of(b"stable", &header(69, 32, 1));
-    setup_of(b"mode 2", &header(69, 32, 2));
+    setup_of(b"minding", &header(69, 32, 2));
+    setup_of(b"mode 3", &header(69, 32, 3));
     setup_of(b"kind 33", &header(69, 33, 0));
     setup_of(b"length 68", &header(68, 32, 0));
     setup_in(b"of 68 bytes", &header(69, 32, 0), 68);

@@ -66,16 +66,23 @@ fn misreading(
     }
 }
 
+// The modes' bytes.
+const PLAIN: u8 = 0;
+
+const STABLE: u8 = 1;
+
+const MINDING: u8 = 2;
+
 // A Mov of 0 to 1, then the instruction that stands at a limit.
-fn moved(stable: bool, constants: usize, instruction: &[u8]) -> SheetBytes {
-    header(stable)
+fn moved(mode: u8, constants: usize, instruction: &[u8]) -> SheetBytes {
+    header(mode)
         .constants(constants)
         .records(b"\x06\x00\x03\x00\x01\x00")
         .records(instruction)
 }
 
 fn plain(name: &[u8], instruction: &[u8]) {
-    limit(name, moved(false, 0, instruction), 0);
+    limit(name, moved(PLAIN, 0, instruction), 0);
 }
 
 fn registers() {
@@ -99,27 +106,27 @@ fn places() {
 fn constants() {
     limit(
         b"251 constants, the last loaded",
-        moved(false, 251, b"\x07\x00\x06\x00\x02\xfa\x00"),
+        moved(PLAIN, 251, b"\x07\x00\x06\x00\x02\xfa\x00"),
         251,
     );
     limit(
         b"251 constants, one past the last loaded",
-        moved(false, 251, b"\x07\x00\x06\x00\x02\xfb\x00"),
+        moved(PLAIN, 251, b"\x07\x00\x06\x00\x02\xfb\x00"),
         251,
     );
     limit(
         b"252 constants",
-        moved(false, 252, b"\x07\x00\x06\x00\x02\xfa\x00"),
+        moved(PLAIN, 252, b"\x07\x00\x06\x00\x02\xfa\x00"),
         252,
     );
     limit(
         b"251 constants, stable Abs",
-        moved(true, 251, b"\x07\x00\x01\x00\x02\x02\x03"),
+        moved(STABLE, 251, b"\x07\x00\x01\x00\x02\x02\x03"),
         251,
     );
     limit(
         b"252 constants, stable Abs",
-        moved(true, 252, b"\x07\x00\x01\x00\x02\x02\x03"),
+        moved(STABLE, 252, b"\x07\x00\x01\x00\x02\x02\x03"),
         252,
     );
 }
@@ -127,26 +134,26 @@ fn constants() {
 fn barred() {
     limit(
         b"stable Divide by Temp",
-        moved(true, 0, b"\x08\x00\x02\x00\x03\x02\x03\x1f"),
+        moved(STABLE, 0, b"\x08\x00\x02\x00\x03\x02\x03\x1f"),
         0,
     );
     limit(
         b"plain Divide by Temp",
-        moved(false, 0, b"\x08\x00\x02\x00\x03\x02\x03\x1f"),
+        moved(PLAIN, 0, b"\x08\x00\x02\x00\x03\x02\x03\x1f"),
         0,
     );
 }
 
 // Root of 0 to 1, then of 1 to 2, from 16.
-fn second_root(name: &[u8], stable: bool) {
-    let sheet = header(stable).records(b"\x07\x00\x01\x00\x03\x01\x00\x07\x00\x01\x00\x03\x02\x01");
+fn second_root(name: &[u8], mode: u8) {
+    let sheet = header(mode).records(b"\x07\x00\x01\x00\x03\x01\x00\x07\x00\x01\x00\x03\x02\x01");
     let first = [0, 0, 0, 0, 0x4030_0000_0000_0000, 0, 0, 0, 0, 0];
     misreading(name, sheet, 0, &first, 6, 10);
 }
 
 // Divide of 0 by 1 to Temp, 6 over 2.
-fn stable_divide_to_temp() {
-    let sheet = header(true).records(b"\x08\x00\x02\x00\x03\x1f\x00\x01");
+fn divide_to_temp(name: &[u8], mode: u8) {
+    let sheet = header(mode).records(b"\x08\x00\x02\x00\x03\x1f\x00\x01");
     let first = [
         0,
         0,
@@ -159,12 +166,12 @@ fn stable_divide_to_temp() {
         0,
         0,
     ];
-    misreading(b"stable Divide to Temp", sheet, 0, &first, 0, 2);
+    misreading(name, sheet, 0, &first, 0, 2);
 }
 
 // LoadConst of 6 to Temp, then Divide of Temp by 1 to 2, where 1 is 2.
 fn plain_divide_of_temp() {
-    let sheet = header(false)
+    let sheet = header(PLAIN)
         .records(b"\x0c\x00\x21\x00\x00\x00\x00\x00\x00\x00\x18\x40")
         .records(b"\x07\x00\x06\x00\x1f\x00\x00")
         .records(b"\x08\x00\x02\x00\x03\x02\x1f\x01");
@@ -173,25 +180,18 @@ fn plain_divide_of_temp() {
 }
 
 // LoadConst of 2 to 0, then Half of 0 to 1 and of 1 to 0; the imaginary half of 0 is a leftover 4.
-fn half() {
-    let sheet = header(false)
+fn half(name: &[u8], mode: u8) {
+    let sheet = header(mode)
         .constants(1)
         .records(b"\x07\x00\x06\x00\x00\x00\x00")
         .records(b"\x07\x00\x01\x00\x0d\x01\x00\x07\x00\x01\x00\x0d\x00\x01");
     let first = [0, 0, 0, 0, 0, 0x4010_0000_0000_0000, 0, 0, 0, 0];
-    misreading(
-        b"Half of a real register to a complex one, and back",
-        sheet,
-        1,
-        &first,
-        4,
-        8,
-    );
+    misreading(name, sheet, 1, &first, 4, 8);
 }
 
 // Divide of Temp by 1 to 0: 6 and 8 over 1 and 2.
 fn complex_divide() {
-    let sheet = header(false).records(b"\x08\x00\x02\x00\x03\x00\x1f\x01");
+    let sheet = header(PLAIN).records(b"\x08\x00\x02\x00\x03\x00\x1f\x01");
     let first = [
         0x4018_0000_0000_0000,
         0x4020_0000_0000_0000,
@@ -212,10 +212,12 @@ fn main() {
     places();
     constants();
     barred();
-    second_root(b"a second Root, plain", false);
-    second_root(b"a second Root, stable", true);
-    stable_divide_to_temp();
+    second_root(b"a second Root, plain", PLAIN);
+    second_root(b"a second Root, stable", STABLE);
+    divide_to_temp(b"stable Divide to Temp", STABLE);
+    divide_to_temp(b"Divide to Temp in mode 2", MINDING);
     plain_divide_of_temp();
-    half();
+    half(b"Half of a real register to a complex one, and back", PLAIN);
+    half(b"the same in mode 2", MINDING);
     complex_divide();
 }

@@ -8,14 +8,12 @@ pub struct SheetBytes {
     pub len: usize,
 }
 
-// A header: plain or stable, and no place real.
-pub(crate) fn header(stable: bool) -> SheetBytes {
+// A header with its mode's byte, and no place real.
+pub(crate) fn header(mode: u8) -> SheetBytes {
     let mut bytes = [0u8; 3200];
     bytes[0] = 69;
     bytes[2] = 32;
-    if stable {
-        bytes[4] = 1;
-    }
+    bytes[4] = mode;
     SheetBytes {
         bytes: bytes,
         len: 69,

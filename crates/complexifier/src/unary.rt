@@ -10,12 +10,14 @@ use lines::unary::conjugate_lines;
 use lines::unary::each_lines;
 use lines::unary::half_lines;
 use lines::unary::imaginary_lines;
+use lines::unary::minding_half_lines;
 use lines::unary::not_lines;
 use lines::unary::real_lines;
 use lines::unary::times_i_lines;
 use lines::unary::times_neg_i_lines;
 use mir::ops::UniOp;
 use sheet::setup::Mode;
+use sheet::setup::is_minding;
 
 impl Complexifier {
     // `neg`, `round`, `sign`
@@ -63,10 +65,18 @@ impl Complexifier {
         }
     }
 
-    // Half never changes a record, in either mode.
+    // In the Rust's modes Half never changes a record.
     pub fn half(self, out: &mut [u8], at: usize, mode: Mode, dst: u8, s1: u8) -> Listed
         ensures { λ r. ⌜ Does (buf (now (out .entry)) at) self (half mode dst s1) (buf (now (out .exit)) (r .at)) (r .low) ⌝ }
     {
+        if is_minding(mode) {
+            let x = self.is_real_reg(s1);
+            let n = minding_half_lines(out, at, x, dst, s1);
+            return Listed {
+                low: self.copy_real(dst, s1),
+                at: n,
+            };
+        }
         let n = half_lines(out, at, dst, s1);
         Listed { low: self, at: n }
     }

@@ -19,7 +19,7 @@ use Rattle.mir.specs.Register.{re, Ret, Temp}
 use Rattle.mir.specs.Length.{lengthOf}
 use Rattle.mir.specs.Encode.{recordOf, encode, encodeAll}
 use Rattle.sheet.specs.declared.setup.Mode.{Mode}
-use Rattle.sheet.specs.Setup.{isStable}
+use Rattle.sheet.specs.Setup.{isStable, isMinding}
 use Rattle.lowering.specs.declared.realness.Realness.{Realness}
 use Rattle.lowering.specs.Realness.{isRealReg, isRealLoc}
 use Rattle.lowering.specs.Pushes as mir
@@ -152,15 +152,21 @@ small-recip m true d a = lines (l.recipLines true d a) d true 21 tt
 small-recip true false d a = small-stableRecip d a
 small-recip false false d a = lines (l.recipLines false d a) d false 21 tt
 
-small-divideBy : (m : Mode) (x y : Bool) (d a b : ℕ) → Small 22 (c.divideBy m x y d a b)
-unfolding c.divideBy l.divideLines
-small-divideBy m true true d a b = lines (l.divideLines true true d a b) d true 22 tt
-small-divideBy m false true d a b = lines (l.divideLines false true d a b) d false 22 tt
-small-divideBy Mode.Stable x false d a b = small-stableDivide x d a b
-small-divideBy Mode.Plain true false d a b = lines (l.divideLines true false d a b) d false 22 tt
-small-divideBy Mode.Plain false false d a b = lines (l.divideLines false false d a b) d false 22 tt
+small-mindingDivide : (t x : Bool) (d a b : ℕ) → Small 24 (c.mindingDivide t x d a b)
+unfolding c.mindingDivide
+small-mindingDivide true x d a b = both (small-stableDivide x Ret a b) (small-fmov Temp Ret)
+small-mindingDivide false x d a b = more tt (small-stableDivide x d a b)
 
-small-divide : (m : Mode) (d a b : ℕ) → Small 22 (c.divide m d a b)
+small-divideBy : (m : Mode) (x y : Bool) (d a b : ℕ) → Small 24 (c.divideBy m x y d a b)
+unfolding c.divideBy l.divideLines
+small-divideBy m true true d a b = lines (l.divideLines true true d a b) d true 24 tt
+small-divideBy m false true d a b = lines (l.divideLines false true d a b) d false 24 tt
+small-divideBy Mode.Minding x false d a b = small-mindingDivide (eqb d Temp) x d a b
+small-divideBy Mode.Stable x false d a b = more tt (small-stableDivide x d a b)
+small-divideBy Mode.Plain true false d a b = lines (l.divideLines true false d a b) d false 24 tt
+small-divideBy Mode.Plain false false d a b = lines (l.divideLines false false d a b) d false 24 tt
+
+small-divide : (m : Mode) (d a b : ℕ) → Small 24 (c.divide m d a b)
 unfolding c.divide
 small-divide m d a b =
     record {
@@ -193,9 +199,14 @@ unfolding c.realRootBy l.realRootLines
 small-realRoot m true d a = lines (l.realRootLines d a) d true 49 tt
 small-realRoot m false d a = small-root m d a
 
+small-halfBy : (t : Bool) (d a : ℕ) → Small 2 (c.halfBy t d a)
+unfolding c.halfBy l.mindingHalfLines
+small-halfBy false d a = record { few = λ s. omega arith; room = λ s. omega arith }
+small-halfBy true d a = one l.mindingHalfLines c.copied d a 2 tt tt
+
 small-half : (m : Mode) (d a : ℕ) → Small 2 (c.half m d a)
 unfolding c.half
-small-half m d a = record { few = λ s. omega arith; room = λ s. omega arith }
+small-half m d a = small-halfBy (isMinding m) d a
 
 small-plus : (d a b : ℕ) → Small 2 (c.plus d a b)
 unfolding c.plus l.plusLines
@@ -239,7 +250,7 @@ small-fused FusedOp.MulSub d a b k = more tt (both (small-times Ret a b) (small-
 small-fused FusedOp.NegMulAdd d a b k = more tt (both (small-times Ret a b) (small-minus d k Ret))
 small-fused FusedOp.NegMulSub d a b k = more tt (both (both (small-times Ret a b) (small-plus d Ret k)) (small-each UniOp.Neg d d))
 
-small-arith : (m : Mode) (op : ArithOp) (d a b : ℕ) → Small 22 (rerunArith m op d a b)
+small-arith : (m : Mode) (op : ArithOp) (d a b : ℕ) → Small 24 (rerunArith m op d a b)
 unfolding rerunArith
 small-arith m ArithOp.Plus d a b = more tt (small-plus d a b)
 small-arith m ArithOp.Minus d a b = more tt (small-minus d a b)

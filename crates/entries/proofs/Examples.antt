@@ -11,10 +11,10 @@ use Rattle.player_machine.specs.Machine.{Store}
 use Rattle.complexify.specs.Entry.{answer, wrongSetup}
 use Rattle.leftovers.specs.Leftovers as Leftovers
 use Rattle.leftovers.specs.Leftovers.{Lowered, Accepted, lowered, standing, Mixing, Changes, EndAlike}
-use Rattle.leftovers.specs.Examples.{room, zeros, mixing, clean, jumping, clearing, touched, marked, compared}
+use Rattle.leftovers.specs.Examples.{room, zeros, mixing, stableMixing, mindingMixing, clean, jumping, clearing, touched, marked, compared}
 use Rattle.leftovers.proofs.Examples as computed
 use Rattle.entries.specs.Entries.{Given}
-use Rattle.entries.specs.Examples.{bytes, words, leftOf, Needed, Met, JumpedOver, Cleared}
+use Rattle.entries.specs.Examples.{bytes, words, leftOf, Needed, Minded, Met, JumpedOver, Cleared}
 use Rattle.entries.proofs.Entered.{answered, entered}
 use Rattle.entries.proofs.Demand.{same}
 
@@ -45,12 +45,30 @@ met-at sheet i g n =
       other = computed.other;
     }
 
-pub needed : Needed mixing 1
-needed =
-    let g = computed.mixing-given in
+needed-at : (sheet : List ℕ) (i : ℕ) → Leftovers.Given sheet room zeros i zeros touched → (EndAlike (lowered sheet room) i zeros touched → ⊥) → Needed sheet i
+needed-at sheet i g n =
     record {
-      given = given mixing 1 g;
-      differs = λ e. computed.mixing-differs (subst (λ (l : Lowered). EndAlike l 1 zeros touched) (sym (as-left mixing (g .accepted))) e);
+      given = given sheet i g;
+      differs = λ e. n (subst (λ (l : Lowered). EndAlike l i zeros touched) (sym (as-left sheet (g .accepted))) e);
+    }
+
+pub needed : Needed mixing 1
+needed = needed-at mixing 1 computed.mixing-given computed.mixing-differs
+
+pub needed-stable : Needed stableMixing 1
+needed-stable = needed-at stableMixing 1 computed.stable-given computed.stable-differs
+
+pub minded : Minded mindingMixing 1 1
+minded =
+    let g = computed.minding-given in
+    let e = as-left mindingMixing (g .accepted) in
+    record {
+      isHalf = computed.minding-half;
+      fromReal = computed.minding-from;
+      intoComplex = computed.minding-into;
+      reached = subst (λ (l : Lowered). standing l 1 zeros 1 ≡ some zeros) e computed.minding-reached;
+      met = met-at mindingMixing 1 g computed.minding-unmixed;
+      alike = subst (λ (l : Lowered). EndAlike l 1 zeros touched) e computed.minding-alike;
     }
 
 pub met : Met clean 2

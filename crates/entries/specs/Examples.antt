@@ -1,10 +1,11 @@
 -- Four sheets, lowered by the entry into slices of zeros: at one the condition about Half fails and the endings differ, so that it is
--- needed; at another all that the claim takes is given, and the condition holds; at the third it holds since the play jumps over the Half;
--- at the fourth an instruction changes all that it may.
+-- needed, in plain and in stable mode, while in mode 2 the endings are alike; at another all that the claim takes is given, and the condition
+-- holds; at the third it holds since the play jumps over the Half; at the fourth an instruction changes all that it may.
 use Prim.Native.Nat.{ℕ}
 use mathlib.Core.Path.{_≡_}
 use mathlib.Core.Bool.{true, false}
 use mathlib.Core.List.{List}
+use mathlib.Core.Option.{some}
 use lib.ListN.{getD, replicate}
 use Rattle.mir.specs.declared.ops.UniOp.{UniOp}
 use Rattle.mir.specs.declared.ops.BinOp.{BinOp}
@@ -12,7 +13,7 @@ use Rattle.mir.specs.declared.records.Instruction.{Instruction}
 use Rattle.mir.specs.Register.{re, im}
 use Rattle.player_machine.specs.Machine.{Store, at}
 use Rattle.lowering.specs.Realness.{isRealReg}
-use Rattle.leftovers.specs.Leftovers.{Lowered, sheetOf, realAt, Mixing, Changes, EndAlike}
+use Rattle.leftovers.specs.Leftovers.{Lowered, sheetOf, realAt, standing, Mixing, Changes, EndAlike}
 use Rattle.leftovers.specs.Examples.{room, zeros, touched, marked, compared}
 use Rattle.entries.specs.Entries.{left, Given}
 
@@ -28,7 +29,7 @@ abbrev pub leftOf : List ℕ → Lowered
 leftOf sheet = left sheet bytes words
 
 -- at point i of a sheet's play all that the claim takes is given, but for the condition, and the endings differ (theorem `needed`: `mixing`
--- at point 1)
+-- at point 1; theorem `neededStable`: the same in stable mode)
 pub record Needed (sheet : List ℕ) (i : ℕ) : Type 0 where
   pub given : Given sheet bytes words zeros i zeros touched
   pub differs : EndAlike (leftOf sheet) i zeros touched → ⊥
@@ -38,6 +39,16 @@ pub record Met (sheet : List ℕ) (i : ℕ) : Type 0 where
   pub given : Given sheet bytes words zeros i zeros touched
   pub unmixed : Mixing (leftOf sheet) i zeros → ⊥
   pub other : zeros ≡ touched → ⊥
+
+-- the instruction with index j is a Half of a register recorded as real into one recorded as complex, playing on from point i reaches it, and
+-- the endings are alike of a change with which all that the claim takes is given (theorem `minded`: `mixing` in mode 2 at point 1)
+pub record Minded (sheet : List ℕ) (i j : ℕ) : Type 0 where
+  pub isHalf : getD (sheetOf sheet .instructions) j Instruction.Nop ≡ Instruction.Uni UniOp.Half 1 0
+  pub fromReal : isRealReg (realAt (sheetOf sheet) j) 0 ≡ true
+  pub intoComplex : isRealReg (realAt (sheetOf sheet) j) 1 ≡ false
+  pub reached : standing (leftOf sheet) i zeros j ≡ some zeros
+  pub met : Met sheet i
+  pub alike : EndAlike (leftOf sheet) i zeros touched
 
 -- the instruction with index j is a Half of a register recorded as real into one recorded as complex, and does not stand in the way of
 -- playing on from point i, where all that the claim takes is given (theorem `jumpedOver`: `jumping` at point 1, and its Half)

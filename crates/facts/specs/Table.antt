@@ -28,7 +28,7 @@ use Rattle.lowering.specs.Rerun.{rerun, rerunUni, rerunBin}
 use Rattle.lowering.specs.Lower.{lowerSheet}
 use Rattle.facts.specs.Fact.{Fact, lowered, computed, Operation, uni, bi, fused, ifelse, complexBi, given, stated, computes}
 
--- "a header: kind 32, mode byte (0 plain, 1 stable), 64 bytes of realness"
+-- "a header: kind 32, mode byte (0 plain, 1 stable), 64 bytes of realness"; 2 is document 02's n)
 abbrev pub header : ℕ → List ℕ → List ℕ
 header mode places = 69 ∷ 0 ∷ 32 ∷ 0 ∷ mode ∷ places
 
@@ -354,6 +354,128 @@ table =
       registers = [];
       places = noPlaces;
     })
+    -- ---- document 02, n: mode 2. "Half lists its imaginary line only for a register recorded as complex, and for either record copies it":
+    -- Half of real 0 into complex 1 is Half G6 G4, and 1 is then real; 0 is real by LoadConst general 0, constant 0
+    ∷ lowered
+    (record {
+      sheet = header 2 noPlaces ++ two ++ (7 ∷ 0 ∷ 6 ∷ 0 ∷ 0 ∷ 0 ∷ 0 ∷ []) ++ (7 ∷ 0 ∷ 1 ∷ 0 ∷ 13 ∷ 1 ∷ 0 ∷ []);
+      room = 14;
+      number = 0;
+      index = 2;
+      written = 14;
+      bytes = (7 ∷ 0 ∷ 6 ∷ 0 ∷ 4 ∷ 0 ∷ 0 ∷ []) ++ (7 ∷ 0 ∷ 1 ∷ 0 ∷ 13 ∷ 6 ∷ 4 ∷ []);
+      count = 1;
+      constants = 0x4000_0000_0000_0000 ∷ [];
+      registers = 0 ∷ 1 ∷ [];
+      places = noPlaces;
+    })
+    -- Half of complex 1 into real 0 is Half G5 G7, Half G4 G6, and 0 is then complex
+    ∷ lowered
+    (record {
+      sheet = header 2 noPlaces ++ two ++ (7 ∷ 0 ∷ 6 ∷ 0 ∷ 0 ∷ 0 ∷ 0 ∷ []) ++ (7 ∷ 0 ∷ 1 ∷ 0 ∷ 13 ∷ 0 ∷ 1 ∷ []);
+      room = 21;
+      number = 0;
+      index = 2;
+      written = 21;
+      bytes = (7 ∷ 0 ∷ 6 ∷ 0 ∷ 4 ∷ 0 ∷ 0 ∷ []) ++ (7 ∷ 0 ∷ 1 ∷ 0 ∷ 13 ∷ 5 ∷ 7 ∷ []) ++ (7 ∷ 0 ∷ 1 ∷ 0 ∷ 13 ∷ 4 ∷ 6 ∷ []);
+      count = 1;
+      constants = 0x4000_0000_0000_0000 ∷ [];
+      registers = [];
+      places = noPlaces;
+    })
+    -- "a Divide by a complex register into Temp is listed as one into Ret followed by a move to Temp [..]; the record of Ret is then complex":
+    -- LoadConst Ret, constant 0, makes Ret real; then Divide Temp, 0, 1, line by line as complexify.rs's `stable_divide` into Ret and `fmov`
+    -- have it
+    ∷ lowered
+    (record {
+      sheet = header 2 noPlaces ++ two ++ (7 ∷ 0 ∷ 6 ∷ 0 ∷ 30 ∷ 0 ∷ 0 ∷ []) ++ (8 ∷ 0 ∷ 2 ∷ 0 ∷ 3 ∷ 31 ∷ 0 ∷ 1 ∷ []);
+      room = 151;
+      number = 0;
+      index = 2;
+      written = 151;
+      bytes =
+          -- LoadConst Ret 0
+          (7 ∷ 0 ∷ 6 ∷ 0 ∷ 64 ∷ 0 ∷ 0 ∷ [])
+          -- Abs G2 G6, Half G2 G2, Abs G3 G7, Half G3 G3, Plus G2 G2 G3
+          ++ (7 ∷ 0 ∷ 1 ∷ 0 ∷ 2 ∷ 2 ∷ 6 ∷ [])
+          ++ (7 ∷ 0 ∷ 1 ∷ 0 ∷ 13 ∷ 2 ∷ 2 ∷ [])
+          ++ (7 ∷ 0 ∷ 1 ∷ 0 ∷ 2 ∷ 3 ∷ 7 ∷ [])
+          ++ (7 ∷ 0 ∷ 1 ∷ 0 ∷ 13 ∷ 3 ∷ 3 ∷ [])
+          ++ (8 ∷ 0 ∷ 2 ∷ 0 ∷ 0 ∷ 2 ∷ 2 ∷ 3 ∷ [])
+          -- LoadConst G3 1, Plus G2 G2 G3, LoadConst G3 2, And G2 G2 G3, Xor G2 G2 G3, LoadConst G3 3, Times G2 G2 G3
+          ++ (7 ∷ 0 ∷ 6 ∷ 0 ∷ 3 ∷ 1 ∷ 0 ∷ [])
+          ++ (8 ∷ 0 ∷ 2 ∷ 0 ∷ 0 ∷ 2 ∷ 2 ∷ 3 ∷ [])
+          ++ (7 ∷ 0 ∷ 6 ∷ 0 ∷ 3 ∷ 2 ∷ 0 ∷ [])
+          ++ (8 ∷ 0 ∷ 2 ∷ 0 ∷ 10 ∷ 2 ∷ 2 ∷ 3 ∷ [])
+          ++ (8 ∷ 0 ∷ 2 ∷ 0 ∷ 13 ∷ 2 ∷ 2 ∷ 3 ∷ [])
+          ++ (7 ∷ 0 ∷ 6 ∷ 0 ∷ 3 ∷ 3 ∷ 0 ∷ [])
+          ++ (8 ∷ 0 ∷ 2 ∷ 0 ∷ 2 ∷ 2 ∷ 2 ∷ 3 ∷ [])
+          -- Times Ret G4 G2, Times Temp G5 G2, Times G0 G6 G2, Times G1 G7 G2, DivideComplex Ret Temp Ret Temp G0 G1
+          ++ (8 ∷ 0 ∷ 2 ∷ 0 ∷ 2 ∷ 64 ∷ 4 ∷ 2 ∷ [])
+          ++ (8 ∷ 0 ∷ 2 ∷ 0 ∷ 2 ∷ 65 ∷ 5 ∷ 2 ∷ [])
+          ++ (8 ∷ 0 ∷ 2 ∷ 0 ∷ 2 ∷ 0 ∷ 6 ∷ 2 ∷ [])
+          ++ (8 ∷ 0 ∷ 2 ∷ 0 ∷ 2 ∷ 1 ∷ 7 ∷ 2 ∷ [])
+          ++ (11 ∷ 0 ∷ 13 ∷ 0 ∷ 3 ∷ 64 ∷ 65 ∷ 64 ∷ 65 ∷ 0 ∷ 1 ∷ [])
+          -- Mov G0 Ret, Mov G1 Temp
+          ++ (6 ∷ 0 ∷ 3 ∷ 0 ∷ 0 ∷ 64 ∷ [])
+          ++ (6 ∷ 0 ∷ 3 ∷ 0 ∷ 1 ∷ 65 ∷ []);
+      count = 4;
+      constants = 0x4000_0000_0000_0000 ∷ 0x0010_0000_0000_0000 ∷ 0x7ff0_0000_0000_0000 ∷ 0x3fd0_0000_0000_0000 ∷ [];
+      registers = [];
+      places = noPlaces;
+    })
+    -- "A Divide by a real register is listed and recorded as in mode 1": Ret and 1 made real by LoadConst, then Divide Temp, 0, 1 is Divide
+    -- G1 G5 G6, Divide G0 G4 G6, and Ret stays real
+    ∷ lowered
+    (record {
+      sheet =
+          header 2 noPlaces
+          ++ two
+          ++ (7 ∷ 0 ∷ 6 ∷ 0 ∷ 30 ∷ 0 ∷ 0 ∷ [])
+          ++ (7 ∷ 0 ∷ 6 ∷ 0 ∷ 1 ∷ 0 ∷ 0 ∷ [])
+          ++ (8 ∷ 0 ∷ 2 ∷ 0 ∷ 3 ∷ 31 ∷ 0 ∷ 1 ∷ []);
+      room = 30;
+      number = 0;
+      index = 3;
+      written = 30;
+      bytes =
+          (7 ∷ 0 ∷ 6 ∷ 0 ∷ 64 ∷ 0 ∷ 0 ∷ [])
+          ++ (7 ∷ 0 ∷ 6 ∷ 0 ∷ 6 ∷ 0 ∷ 0 ∷ [])
+          ++ (8 ∷ 0 ∷ 2 ∷ 0 ∷ 3 ∷ 1 ∷ 5 ∷ 6 ∷ [])
+          ++ (8 ∷ 0 ∷ 2 ∷ 0 ∷ 3 ∷ 0 ∷ 4 ∷ 6 ∷ []);
+      count = 1;
+      constants = 0x4000_0000_0000_0000 ∷ [];
+      registers = 1 ∷ 30 ∷ [];
+      places = noPlaces;
+    })
+    -- 6 as in mode 1, into Temp too: Divide Temp, Ret, 1
+    ∷ lowered
+    (record {
+      sheet = header 2 noPlaces ++ (8 ∷ 0 ∷ 2 ∷ 0 ∷ 3 ∷ 31 ∷ 30 ∷ 1 ∷ []);
+      room = 200;
+      number = 6;
+      index = 0;
+      written = 0;
+      bytes = [];
+      count = 0;
+      constants = [];
+      registers = [];
+      places = noPlaces;
+    })
+    -- a mode above 2 is 8
+    ∷ lowered
+    (record {
+      sheet = header 3 noPlaces;
+      room = 30;
+      number = 8;
+      index = 0;
+      written = 0;
+      bytes = [];
+      count = 0;
+      constants = [];
+      registers = [];
+      places = noPlaces;
+    })
     -- ---- document 02, d: "It lists as the Rust does."
     -- Load general 0, Param 9, which is real then; BranchIf of Temp, whose real half is register 0; BranchIf of general 0; Branch; both
     -- labels. Nothing is cleared, and 0 stays real
@@ -637,7 +759,7 @@ table =
 
 -- in each row what the definitions give is what the row says
 pub facts : map given table ≡ map stated table
-unfolding lowerSheet setup constantAt decoded instructionFrom takesKind placeAt savePlace uniOps binOps fusedOps rerun rerunUni rerunBin withoutLoc c.unlisted c.directed c.loadConst c.loadFrom c.saveTo c.times c.minus c.half c.abs c.byOne c.byTwo c.bits c.compare eachLines orderLines re im recordOf writes uniWord binWord fusedWord complexWords ofBits toBits isNan add sub mul div lt le eq ne squareRoot fusedMultiplyAdd roundToIntegral
+unfolding lowerSheet setup constantAt decoded instructionFrom takesKind placeAt savePlace uniOps binOps fusedOps rerun rerunUni rerunBin withoutLoc c.unlisted c.directed c.loadConst c.loadFrom c.saveTo c.times c.minus c.half c.divide c.abs c.byOne c.byTwo c.bits c.compare eachLines orderLines re im recordOf writes uniWord binWord fusedWord complexWords ofBits toBits isNan add sub mul div lt le eq ne squareRoot fusedMultiplyAdd roundToIntegral
 facts = refl
 
 -- what a listing's records compute with (document 01, Sheet): "Uni Neg, Not, Abs, Root, Recip, Round, Half, Sign; Bi Plus, Minus, Times,

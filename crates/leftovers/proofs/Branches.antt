@@ -144,7 +144,7 @@ sendsBy (Labels.branches n) f = f n
 
 module _ (k : List ℕ) (B : List Work) (m : Mode) where
   pub data Kind (s : State) : Instruction → Type 0 where
-    works : {i : Instruction} → Works i → Keeps k B (IsDestination i) (Cleared (s .real) i) (HalfOk (s .real) i) s (rerun m i s) → Kind s i
+    works : {i : Instruction} → Works i → Keeps k B (IsDestination i) (Cleared (s .real) i) (HalfOk m (s .real) i) s (rerun m i s) → Kind s i
     label : (l : ℕ) → Kind s (Instruction.Label l)
     branch : (l : ℕ) → 2 < l → Kind s (Instruction.Branch l)
     branchIf : (r l : ℕ) (e : Bool) → r < 32 → 2 < l → Kind s (Instruction.BranchIf r l e)
@@ -186,7 +186,7 @@ module _ (k : List ℕ) (B : List Work) (m : Mode) where
 
   -- what is asked of an instruction that is reached
   abbrev pub HalfIf : Way → Realness → Instruction → Type 0
-  HalfIf going ρ i = HalfOk ρ i
+  HalfIf going ρ i = HalfOk m ρ i
   HalfIf (seeking l) ρ i = Unit {0}
 
   -- two plays go the same way by one instruction, and are ready for what follows
@@ -259,7 +259,7 @@ module _ (k : List ℕ) (B : List Work) (m : Mode) where
   abbrev pub Fine : Way → List Instruction → State → Store → Type 0
   Fine way is s σ =
       (n : ℕ) (α : Store) → n < length is → standsAt way is s σ n ≡ some α
-      → HalfOk (complexify m (take n is) s .after .real) (getD is n Instruction.Nop)
+      → HalfOk m (complexify m (take n is) s .after .real) (getD is n Instruction.Nop)
 
   half-first : (way : Way) (i : Instruction) (is : List Instruction) (s : State) (σ : Store) → Fine way (i ∷ is) s σ → HalfIf way (s .real) i
   unfolding complexify unlisted

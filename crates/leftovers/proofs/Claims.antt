@@ -74,9 +74,9 @@ module _ (s : Sheet) (v : AllIn (length (s .constants)) (s .instructions)) (f : 
 
   -- no Half that is reached stands in the way
   half-ok : (i : ℕ) (σ : Store) → (Mixing l i σ → ⊥) → (n : ℕ) (α : Store) → n < length (drop i (s .instructions)) → stood s i σ (i + n) ≡ some α
-      → HalfOk (realAt s (i + n)) (getD (drop i (s .instructions)) n Instruction.Nop)
+      → HalfOk (s .mode) (realAt s (i + n)) (getD (drop i (s .instructions)) n Instruction.Nop)
   unfolding l
-  half-ok i σ g n α h e d a f x = go (isRealReg (realAt s (i + n)) d) refl
+  half-ok i σ g n α h e t d a f x = go (isRealReg (realAt s (i + n)) d) refl
     where
       go : (y : Bool) → isRealReg (realAt s (i + n)) d ≡ y → y ≡ true
       go true q = refl
@@ -86,6 +86,7 @@ module _ (s : Sheet) (v : AllIn (length (s .constants)) (s .instructions)) (f : 
             d = d;
             a = a;
             α = α;
+            notMinding = t;
             later = omega arith;
             isHalf = sym (getD-drop i (s .instructions) n Instruction.Nop) ∙ f;
             reached = stands i σ (i + n) ∙ e;

@@ -1,12 +1,12 @@
 -- The sheets of specs/Examples.antt, computed.
-use mathlib.Core.Path.{_≡_, refl, sym, ap, _∙_}
+use mathlib.Core.Path.{_≡_, refl, sym, ap, _∙_, subst₂}
 use mathlib.Core.Bool.{true, false, true≢false}
 use mathlib.Core.List.{List}
 use mathlib.Core.Option.{Option, none, some}
 use Prim.Native.Nat.{ℕ, zero, suc, _≤_}
 use native.Mathlib.Omega.{arith}
 use native.Mathlib.Decide.{ℕ-discrete}
-use lib.ListN.{getD, length-set}
+use lib.ListN.{length, getD, length-set}
 use lib.Seq.{getD-set-other}
 use lib.Dec.{lit<, lit≤}
 use lib.Ieee.{ofBits, toBits, mul, eq}
@@ -24,10 +24,10 @@ use Rattle.sheet.specs.Instruction.{instructionFrom}
 use Rattle.records.specs.Record.{recordFrom}
 use Rattle.player_machine.specs.Machine.{Store, at, uniWord, binWord, writes, put, exec, isLabel, ticks, play, reach}
 use Rattle.player_machine.specs.Jumps.{breach}
-use Rattle.player_machine.specs.Answer.{answer}
+use Rattle.player_machine.specs.Answer.{Answer, answer}
 use Rattle.lowering.specs.declared.realness.Realness.{Realness}
 use Rattle.lowering.specs.Realness.{isRealReg}
-use Rattle.lowering.specs.Lines.{realLines, ensureLines, compareLines}
+use Rattle.lowering.specs.Lines.{mindingHalfLines, realLines, ensureLines, compareLines}
 use Rattle.lowering.specs.Complexifier as c
 use Rattle.lowering.specs.Complexifier.{then, unlisted, byOne}
 use Rattle.lowering.specs.Rerun.{rerunUni, rerunBin, rerun, complexify}
@@ -35,13 +35,13 @@ use Rattle.lowering.specs.Labels.{role, later, misplaced, unequal, passed}
 use Rattle.lowering.specs.Lower.{lowerFrom, lowerSheet}
 use Rattle.leftovers.specs.Leftovers.{Leftover, half, Alike, sheetOf, Accepted, Lowered, lowered, realAt, playOn, standing, Mixing, Changes, EndAlike, Given}
 use Rattle.leftovers.specs.Kept.{kept-im}
-use Rattle.leftovers.specs.Examples.{room, zeros, mixing, clean, jumping, clearing, touched, marked, compared}
+use Rattle.leftovers.specs.Examples.{room, zeros, mixing, stableMixing, mindingMixing, clean, jumping, clearing, touched, marked, compared}
 use Rattle.leftovers.proofs.Words.{not-both}
 use Rattle.leftovers.proofs.Sought.{none≢some}
 
 -- what is opened to lower a sheet, to stand at its points and to play on
 unfoldable lower : List ℕ → Lowered
-unfolding lowerSheet setup u16At lowerFrom role later misplaced unequal passed decoded instructionFrom takesKind lengthOf uniOps binOps rerun rerunUni rerunBin byOne realLines ensureLines compareLines recordOf c.directed c.emit c.half c.ensureComplex c.compare re im complexify then unlisted
+unfolding lowerSheet setup u16At lowerFrom role later misplaced unequal passed decoded instructionFrom takesKind lengthOf uniOps binOps rerun rerunUni rerunBin byOne realLines mindingHalfLines ensureLines compareLines recordOf c.directed c.emit c.half c.ensureComplex c.compare re im complexify then unlisted
 lower bytes = lowered bytes room
 
 unfoldable stood : List ℕ → ℕ → Option Store
@@ -92,23 +92,107 @@ with-it : seventh mixing touched ≡ 0x3ff0_0000_0000_0000
 unfolding mixing touched seventh
 with-it = refl
 
-pub mixing-given : Given mixing room zeros 1 zeros touched
+-- all that the claim takes is given at point 1 of a sheet that has stood there with zeros, general 0 recorded as real
+given-there : (sheet : List ℕ) → Accepted sheet room → 1 ≤ length (sheetOf sheet .instructions) → stood sheet 1 ≡ some zeros
+    → isRealReg (realAt (sheetOf sheet) 1) 0 ≡ true
+    → Given sheet room zeros 1 zeros touched
 unfolding lower stood
-mixing-given =
-    record {
-      accepted = mixing-accepted;
-      words = unfold zeros in refl;
-      upper = unfold mixing in lit≤ tt;
-      stands = mixing-stands;
-      changed = touches (realAt (sheetOf mixing) 1) mixing-real;
-    }
+given-there sheet a h e r =
+    record { accepted = a; words = unfold zeros in refl; upper = h; stands = e; changed = touches (realAt (sheetOf sheet) 1) r }
 
-pub mixing-differs : EndAlike (lowered mixing room) 1 zeros touched → ⊥
+-- the imaginary half of general 1, complex at the end, differs
+differs-there : (sheet : List ℕ) → isRealReg (lower sheet .last) 1 ≡ false → seventh sheet zeros ≡ 0 → seventh sheet touched ≡ 0x3ff0_0000_0000_0000
+    → EndAlike (lowered sheet room) 1 zeros touched → ⊥
 unfolding lower seventh im
-mixing-differs e = differ (sym without ∙ e .stores .outside 7 (not-both (lower mixing .last) 7 (kept-im 1 (lit< tt) mixing-last)) ∙ with-it)
+differs-there sheet l x y e = differ (sym x ∙ e .stores .outside 7 (not-both (lower sheet .last) 7 (kept-im 1 (lit< tt) l)) ∙ y)
   where
     differ : _≡_ {A = ℕ} 0 0x3ff0_0000_0000_0000 → ⊥
     differ q = omega arith
+
+pub mixing-given : Given mixing room zeros 1 zeros touched
+mixing-given = given-there mixing mixing-accepted (unfold mixing lower in lit≤ tt) mixing-stands mixing-real
+
+pub mixing-differs : EndAlike (lowered mixing room) 1 zeros touched → ⊥
+mixing-differs = differs-there mixing mixing-last without with-it
+
+-- ---- the first in stable mode
+
+pub stable-given : Given stableMixing room zeros 1 zeros touched
+unfolding stableMixing lower stood
+stable-given =
+    given-there stableMixing (record { right = refl; slice = lit≤ tt; number = refl }) (lit≤ tt) refl refl
+
+stable-without : seventh stableMixing zeros ≡ 0
+unfolding stableMixing zeros seventh
+stable-without = refl
+
+stable-with-it : seventh stableMixing touched ≡ 0x3ff0_0000_0000_0000
+unfolding stableMixing touched seventh
+stable-with-it = refl
+
+stable-last : isRealReg (lower stableMixing .last) 1 ≡ false
+unfolding stableMixing lower
+stable-last = refl
+
+pub stable-differs : EndAlike (lowered stableMixing room) 1 zeros touched → ⊥
+stable-differs = differs-there stableMixing stable-last stable-without stable-with-it
+
+-- ---- the first in mode 2
+
+pub minding-given : Given mindingMixing room zeros 1 zeros touched
+unfolding mindingMixing lower stood
+minding-given =
+    given-there mindingMixing (record { right = refl; slice = lit≤ tt; number = refl }) (lit≤ tt) refl refl
+
+pub minding-half : getD (sheetOf mindingMixing .instructions) 1 Instruction.Nop ≡ Instruction.Uni UniOp.Half 1 0
+unfolding mindingMixing lower
+minding-half = refl
+
+pub minding-from : isRealReg (realAt (sheetOf mindingMixing) 1) 0 ≡ true
+unfolding mindingMixing lower
+minding-from = refl
+
+pub minding-into : isRealReg (realAt (sheetOf mindingMixing) 1) 1 ≡ false
+unfolding mindingMixing lower
+minding-into = refl
+
+pub minding-reached : standing (lowered mindingMixing room) 1 zeros 1 ≡ some zeros
+unfolding mindingMixing lower stood
+minding-reached = refl
+
+-- how playing on from point 1 ends
+unfoldable ended : List ℕ → Store → Answer
+unfolding lower answer recordFrom binOps play ticks exec put writes uniWord breach ofBits toBits mul
+ended bytes σ = playOn (lower bytes) 1 σ
+
+ends-zeros : ended mindingMixing zeros .store ≡ zeros
+unfolding mindingMixing zeros ended
+ends-zeros = refl
+
+ends-touched : ended mindingMixing touched .store ≡ touched
+unfolding mindingMixing touched ended
+ends-touched = refl
+
+ends-equally : ended mindingMixing zeros .played ≡ ended mindingMixing touched .played
+unfolding mindingMixing touched ended
+ends-equally = refl
+
+minding-last : isRealReg (lower mindingMixing .last) 0 ≡ true
+unfolding mindingMixing lower
+minding-last = refl
+
+pub minding-alike : EndAlike (lowered mindingMixing room) 1 zeros touched
+unfolding lower ended
+minding-alike =
+    record {
+      played = ends-equally;
+      stores = subst₂ (Alike (lower mindingMixing .last)) (sym ends-zeros) (sym ends-touched) (touches (lower mindingMixing .last) minding-last);
+    }
+
+-- mode 2 asks nothing of Halves
+pub minding-unmixed : Mixing (lowered mindingMixing room) 1 zeros → ⊥
+unfolding mindingMixing lower
+minding-unmixed m = true≢false (m .notMinding)
 
 pub other : zeros ≡ touched → ⊥
 unfolding zeros touched

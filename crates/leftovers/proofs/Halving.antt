@@ -1,4 +1,5 @@
--- Half: from a real register into a real one it writes what is not kept, and from a complex one only what is.
+-- Half: in the Rust's modes it writes what is not kept from a real register into a real one, and from a complex one only what is; in mode 2
+-- it is a method like any other, without a condition.
 use mathlib.Core.Path.{_≡_, refl, sym, ap, _∙_}
 use mathlib.Core.Bool.{Bool, true, false, true≢false}
 use mathlib.Core.Logic.{_≢_}
@@ -14,18 +15,19 @@ use Rattle.mir.specs.declared.records.Work.{Work}
 use Rattle.mir.specs.Register.{im}
 use Rattle.player_machine.specs.Machine.{Store, at, uniWord, writes, put, exec, execs}
 use Rattle.sheet.specs.declared.setup.Mode.{Mode}
+use Rattle.sheet.specs.Setup.{isMinding}
 use Rattle.lowering.specs.declared.realness.Realness.{Realness}
 use Rattle.lowering.specs.Realness.{isRealReg, isRealLoc, setReg}
-use Rattle.lowering.specs.Lines.{halfLines}
+use Rattle.lowering.specs.Lines.{halfLines, mindingHalfLines}
 use Rattle.lowering.specs.Complexifier as c
-use Rattle.lowering.specs.Complexifier.{State}
+use Rattle.lowering.specs.Complexifier.{State, copied}
 use Rattle.leftovers.specs.Kept.{Kept, kept-re, kept-im, kept-word, kept-next}
 use Rattle.leftovers.proofs.Rows.{Agree, all-in, given}
 use Rattle.leftovers.proofs.Names.{rename, good, lines-frame, leaf-agree, re-in, im-next, halves-apart, im-apart}
 use Rattle.leftovers.proofs.Held.{all-listed}
 use Rattle.leftovers.proofs.Names.{rename-held}
 use Rattle.leftovers.proofs.Stretch.{works-safe}
-use Rattle.leftovers.proofs.Methods.{Keeps, two}
+use Rattle.leftovers.proofs.Methods.{Keeps, two, unary}
 
 -- ---- Half
 
@@ -59,9 +61,16 @@ module _ (k : List ℕ) (B : List Work) (Z : ℕ → Type 0) (H : Type 0) (s : S
       let l = Work.Uni UniOp.Half 4 6 ∷ [] in
       rw set-back at (leaf-agree (s .real) d a a (Loc.Mem 0) hd ha ha (lit< tt) true true false e e refl k q l (rw (c refl) tt) h)
 
-  pub half-keeps : (m : Mode) → (H → isRealReg (s .real) a ≡ true → isRealReg (s .real) d ≡ true) → Keeps k B (λ r. r ≡ d) Z H s (c.half m d a s)
-  unfolding c.half halfLines good rename given all-in all-listed
-  half-keeps m c =
-      works-safe (halfLines d a) (λ σ τ h g. half-agree (isRealReg (s .real) a) refl (c h) σ τ g)
+  half-by-keeps : (t : Bool) → (H → t ≡ false → isRealReg (s .real) a ≡ true → isRealReg (s .real) d ≡ true)
+      → Keeps k B (λ r. r ≡ d) Z H s (c.halfBy t d a s)
+  unfolding c.halfBy c.mindingHalf halfLines mindingHalfLines good rename given all-in all-listed
+  half-by-keeps false c =
+      works-safe (halfLines d a) (λ σ τ h g. half-agree (isRealReg (s .real) a) refl (c h refl) σ τ g)
       (lines-frame (λ r. r ≡ d) Z d a a (Loc.Mem 0) k (halfLines 0 1) tt (λ r h n. n))
       (λ few. rename-held d a a (Loc.Mem 0) k (halfLines 0 1) few (lit< tt) tt tt)
+  half-by-keeps true c = unary k B Z H s mindingHalfLines copied d a hd ha (tt, refl, tt) (tt, refl, tt)
+
+  pub half-keeps : (m : Mode) → (H → isMinding m ≡ false → isRealReg (s .real) a ≡ true → isRealReg (s .real) d ≡ true)
+      → Keeps k B (λ r. r ≡ d) Z H s (c.half m d a s)
+  unfolding c.half
+  half-keeps m c = half-by-keeps (isMinding m) c

@@ -13,7 +13,7 @@ use Rattle.mir.specs.declared.records.Work.{Work}
 use Rattle.mir.specs.declared.records.Instruction.{Instruction}
 use Rattle.mir.specs.Register.{re, im}
 use Rattle.sheet.specs.declared.setup.Mode.{Mode}
-use Rattle.sheet.specs.Setup.{isStable}
+use Rattle.sheet.specs.Setup.{isStable, isMinding}
 use Rattle.lowering.specs.declared.realness.Realness.{Realness}
 use Rattle.lowering.specs.Realness.{isRealReg}
 use Rattle.lowering.specs.Lines.{realRootLines}
@@ -27,10 +27,11 @@ use Rattle.leftovers.proofs.Stretch.{join}
 use Rattle.sheet.proofs.Ranges.{InRange}
 use Rattle.leftovers.specs.Leftovers.{IsDestination, IsOperand}
 use Rattle.leftovers.proofs.Methods.{Keeps, two, unary, binary, settled, fmov-keeps, each-keeps, abs-keeps, recip-keeps, plus-keeps, minus-keeps}
-use Rattle.leftovers.proofs.Methods.{times-keeps, divide-keeps, arith-keeps, order-keeps, bits-keeps}
+use Rattle.leftovers.proofs.Methods.{times-keeps, order-keeps, bits-keeps}
 use Rattle.leftovers.proofs.Clearing.{compare-keeps, ifelse-keeps}
 use Rattle.leftovers.proofs.Places.{load-keeps, save-keeps}
 use Rattle.leftovers.proofs.Halving.{half-keeps}
+use Rattle.leftovers.proofs.Dividing.{divide-keeps, arith-keeps}
 use Rattle.leftovers.proofs.Root.{Block, unlisted-keeps, root-keeps, root-defines, compare-zero-keeps, frame-any}
 
 -- every instruction is in range
@@ -65,9 +66,9 @@ Works (Instruction.Label l) = ⊥
 Works (Instruction.Branch l) = ⊥
 Works (Instruction.BranchIf c l e) = ⊥
 
--- an instruction is no Half of a register recorded as real into one recorded as complex
-abbrev pub HalfOk : Realness → Instruction → Type 0
-HalfOk ρ i = (d a : ℕ) → i ≡ Instruction.Uni UniOp.Half d a → isRealReg ρ a ≡ true → isRealReg ρ d ≡ true
+-- but in mode 2, an instruction is no Half of a register recorded as real into one recorded as complex
+abbrev pub HalfOk : Mode → Realness → Instruction → Type 0
+HalfOk m ρ i = isMinding m ≡ false → (d a : ℕ) → i ≡ Instruction.Uni UniOp.Half d a → isRealReg ρ a ≡ true → isRealReg ρ d ≡ true
 
 module _ (k : List ℕ) (B : List Work) (m : Mode) (s : State) where
   real-root-keeps : (Z : ℕ → Type 0) (H : Type 0) (d a : ℕ) → d < 32 → a < 32 → (isRealReg (s .real) a ≡ true → Z a) → (x : Bool)
@@ -80,7 +81,7 @@ module _ (k : List ℕ) (B : List Work) (m : Mode) (s : State) where
   real-root-keeps Z H d a hd ha z false e b hk = root-keeps k B Z H s d a hd ha z (b (root-defines (isStable m) d a s)) (isStable m) hk
 
   uni-keeps : (Z : ℕ → Type 0) (H : Type 0) (op : UniOp) (d a : ℕ) → d < 32 → a < 32 → (isRealReg (s .real) a ≡ true → Z a)
-      → (H → op ≡ UniOp.Half → isRealReg (s .real) a ≡ true → isRealReg (s .real) d ≡ true)
+      → (H → isMinding m ≡ false → op ≡ UniOp.Half → isRealReg (s .real) a ≡ true → isRealReg (s .real) d ≡ true)
       → (rerunUni m op d a s .after .rootDefined ≡ true → Block k B) → length (rerunUni m op d a s .after .consts) ≤ length k
       → Keeps k B (λ r. r ≡ d) Z H s (rerunUni m op d a s)
   unfolding rerunUni c.abs c.realRoot c.recip notLines realLines imaginaryLines conjugateLines abs2Lines timesILines timesNegILines good rename
@@ -97,7 +98,7 @@ module _ (k : List ℕ) (B : List Work) (m : Mode) (s : State) where
   uni-keeps Z H UniOp.Real d a hd ha z h b hk = unary k B Z H s realLines asReal d a hd ha (tt, refl, tt) (tt, refl, tt)
   uni-keeps Z H UniOp.Imaginary d a hd ha z h b hk = unary k B Z H s imaginaryLines asReal d a hd ha (tt, refl, tt) (tt, refl, tt)
   uni-keeps Z H UniOp.Conjugate d a hd ha z h b hk = unary k B Z H s conjugateLines copied d a hd ha (tt, refl, tt) (tt, refl, tt)
-  uni-keeps Z H UniOp.Half d a hd ha z h b hk = half-keeps k B Z H s d a hd ha m (λ x. h x refl)
+  uni-keeps Z H UniOp.Half d a hd ha z h b hk = half-keeps k B Z H s d a hd ha m (λ x t. h x t refl)
   uni-keeps Z H UniOp.IsZero d a hd ha z h b hk = compare-zero-keeps k B Z H s d a hd ha z BinOp.Equal BinOp.And refl refl
   uni-keeps Z H UniOp.IsNotZero d a hd ha z h b hk = compare-zero-keeps k B Z H s d a hd ha z BinOp.NotEqual BinOp.Or refl refl
   uni-keeps Z H UniOp.Sign d a hd ha z h b hk = each-keeps k B Z H s d a hd ha UniOp.Sign refl
@@ -153,16 +154,16 @@ module _ (k : List ℕ) (B : List Work) (m : Mode) (s : State) where
 -- each instruction that works keeps the agreement, and spares the general registers
 pub rerun-keeps : (k : List ℕ) (B : List Work) (m : Mode) (i : Instruction) (s : State) → Works i → InRange (length k) i
     → (rerun m i s .after .rootDefined ≡ true → Block k B) → length (rerun m i s .after .consts) ≤ length k
-    → Keeps k B (IsDestination i) (Cleared (s .real) i) (HalfOk (s .real) i) s (rerun m i s)
+    → Keeps k B (IsDestination i) (Cleared (s .real) i) (HalfOk m (s .real) i) s (rerun m i s)
 unfolding rerun then
 rerun-keeps k B m Instruction.Nop s z v b hk = unlisted-keeps k B _ _ _ s
 rerun-keeps k B m (Instruction.Uni op d a) s z v b hk =
-    uni-keeps k B m s _ _ op d a (v .0) (v .1) (λ e. (refl, e)) (λ h e. h d a (rw e)) b hk
+    uni-keeps k B m s _ _ op d a (v .0) (v .1) (λ e. (refl, e)) (λ h t e. h t d a (rw e)) b hk
 rerun-keeps k B m (Instruction.Bi op d a c) s z v b hk =
     bin-keeps k B m s _ _ op d a c (v .0) (v .1) (v .2) (λ e. (inl refl, e)) (λ e. (inr refl, e)) hk
 rerun-keeps k B m (Instruction.Mov d a) s z v b hk =
     let i = Instruction.Mov d a in
-    two (λ q. Keeps k B (λ r. r ≡ d) (Cleared (s .real) i) (HalfOk (s .real) i) s (cond q (unlisted s) (c.fmov d a s)))
+    two (λ q. Keeps k B (λ r. r ≡ d) (Cleared (s .real) i) (HalfOk m (s .real) i) s (cond q (unlisted s) (c.fmov d a s)))
     (unlisted-keeps k B _ _ _ s) (fmov-keeps k B _ _ s d a (v .0) (v .1)) (eqb d a)
 rerun-keeps k B m (Instruction.Load d p) s z v b hk = load-keeps k B _ _ s d p (v .0) (v .1)
 rerun-keeps k B m (Instruction.Save a p) s z v b hk = save-keeps k B _ _ _ a p (v .0) (v .1) (v .2) s (λ e. (refl, e))

@@ -13,6 +13,7 @@ pub mod Bit
 pub mod Places
 pub mod Halving
 pub mod Root
+pub mod Dividing
 pub mod Instructions
 pub mod Listing
 pub mod Branches

@@ -17,11 +17,11 @@ use Rattle.mir.specs.declared.records.Instruction.{Instruction}
 use Rattle.mir.specs.Register.{re}
 use Rattle.player_machine.specs.Machine.{works, seek, isLabel, block}
 use Rattle.sheet.specs.declared.setup.Mode.{Mode}
-use Rattle.sheet.specs.Setup.{isStable}
+use Rattle.sheet.specs.Setup.{isStable, isMinding}
 use Rattle.lowering.specs.Realness.{isRealReg, isRealLoc}
 use Rattle.lowering.specs.Lines.{ensureLines, stableDivideLines, stableRecipLines, stableAbsLines}
 use Rattle.lowering.specs.Lines.{realRootLines, fmovLines, loadLines, saveLines, eachLines}
-use Rattle.lowering.specs.Lines.{absLines, abs2Lines, timesILines, timesNegILines, recipLines, halfLines}
+use Rattle.lowering.specs.Lines.{absLines, abs2Lines, timesILines, timesNegILines, recipLines, halfLines, mindingHalfLines}
 use Rattle.lowering.specs.Lines.{plusLines, minusLines, timesLines, divideLines}
 use Rattle.lowering.specs.Lines.{realLines, imaginaryLines, conjugateLines, complexLines, orderLines, compareLines, bitsLines, notLines, ifelseLines}
 use Rattle.lowering.specs.Complexifier as c
@@ -155,9 +155,16 @@ quiet-recip m true d a s = record { rooted = refl; lines = recipLines true d a; 
 quiet-recip true false d a s = quiet-three min-positive infinity quarter (stableRecipLines d a) d s
 quiet-recip false false d a s = record { rooted = refl; lines = recipLines false d a; listed = refl; grown = same }
 
+quiet-minding : (t x : Bool) (d a b : ℕ) (s : State) → Quiet s (c.mindingDivide t x d a b s)
+unfolding c.mindingDivide c.stableDivide
+quiet-minding true x d a b s =
+    quiet-then s _ (c.fmov 31 30) (quiet-three min-positive infinity quarter (stableDivideLines false x 30 a b) 30 s) (quiet-fmov 31 30 _)
+quiet-minding false x d a b s = quiet-three min-positive infinity quarter (stableDivideLines (ltb d 30) x d a b) d s
+
 quiet-divide : (m : Mode) (x y : Bool) (d a b : ℕ) (s : State) → Quiet s (c.divideBy m x y d a b s)
 unfolding c.divideBy
 quiet-divide m x true d a b s = record { rooted = refl; lines = divideLines x true d a b; listed = refl; grown = same }
+quiet-divide Mode.Minding x false d a b s = quiet-minding (eqb d 31) x d a b s
 quiet-divide Mode.Stable x false d a b s = quiet-three min-positive infinity quarter (stableDivideLines (ltb d 30) x d a b) d s
 quiet-divide Mode.Plain x false d a b s = record { rooted = refl; lines = divideLines x false d a b; listed = refl; grown = same }
 
@@ -293,6 +300,11 @@ unfolding c.realRootBy
 real-root-said N R m true d a s = quiet (record { rooted = refl; lines = realRootLines d a; listed = refl; grown = same })
 real-root-said N R m false d a s = root-said N R m d a s
 
+quiet-half : (t : Bool) (d a : ℕ) (s : State) → Quiet s (c.halfBy t d a s)
+unfolding c.halfBy c.mindingHalf
+quiet-half false d a s = record { rooted = refl; lines = halfLines d a; listed = refl; grown = same }
+quiet-half true d a s = quiet-by₁ mindingHalfLines copied d a s
+
 uni-said : (N R : Type 0) (m : Mode) (op : UniOp) (d a : ℕ) (s : State) → Said (isStable m) N R s (rerunUni m op d a s)
 unfolding rerunUni c.half c.abs c.realRoot c.recip
 uni-said N R m UniOp.Neg d a s = quiet (quiet-by₁ (eachLines UniOp.Neg) copied d a s)
@@ -308,7 +320,7 @@ uni-said N R m UniOp.Trunc d a s = quiet (quiet-by₁ (eachLines UniOp.Trunc) co
 uni-said N R m UniOp.Real d a s = quiet (quiet-by₁ realLines asReal d a s)
 uni-said N R m UniOp.Imaginary d a s = quiet (quiet-by₁ imaginaryLines asReal d a s)
 uni-said N R m UniOp.Conjugate d a s = quiet (quiet-by₁ conjugateLines copied d a s)
-uni-said N R m UniOp.Half d a s = quiet (record { rooted = refl; lines = halfLines d a; listed = refl; grown = same })
+uni-said N R m UniOp.Half d a s = quiet (quiet-half (isMinding m) d a s)
 uni-said N R m UniOp.IsZero d a s = quiet (quiet-compare-zero BinOp.Equal BinOp.And d a s)
 uni-said N R m UniOp.IsNotZero d a s = quiet (quiet-compare-zero BinOp.NotEqual BinOp.Or d a s)
 uni-said N R m UniOp.Sign d a s = quiet (quiet-by₁ (eachLines UniOp.Sign) copied d a s)

@@ -7,20 +7,17 @@ use lib.ListN.{length}
 use lib.Dec.{T, ltb}
 use Rattle.mir.specs.declared.ops.UniOp.{UniOp}
 use Rattle.mir.specs.declared.ops.BinOp.{BinOp}
-use Rattle.mir.specs.declared.ops.ArithOp.{ArithOp}
 use Rattle.mir.specs.declared.records.Loc.{Loc}
 use Rattle.mir.specs.declared.records.Work.{Work}
 use Rattle.mir.specs.Register.{re, im}
 use Rattle.mir.specs.Takes.{takesUni, takesBin}
-use Rattle.sheet.specs.declared.setup.Mode.{Mode}
 use Rattle.lowering.specs.Realness.{isRealReg}
 use Rattle.lowering.specs.Lines.{stableExponent, stableDivisorScale, scaledDivide, stableDivideLines, stableRecipLines, stableAbsLines}
 use Rattle.lowering.specs.Lines.{fmovLines, eachLines}
-use Rattle.lowering.specs.Lines.{absLines, recipLines, plusLines, minusLines, timesLines, divideLines}
+use Rattle.lowering.specs.Lines.{absLines, recipLines, plusLines, minusLines, timesLines}
 use Rattle.lowering.specs.Lines.{orderLines, bitsLines}
 use Rattle.lowering.specs.Complexifier as c
 use Rattle.lowering.specs.Complexifier.{State, Out, emit, byOne, byTwo, withThree, copied, promoted, bothAsReal}
-use Rattle.lowering.specs.Rerun.{rerunArith}
 use Rattle.leftovers.proofs.Names.{rename, good}
 use Rattle.lowering.specs.Complexifier.{threeConsts}
 use Rattle.leftovers.proofs.Held.{Asks}
@@ -115,16 +112,11 @@ module _ (k : List ℕ) (B : List Work) (Z : ℕ → Type 0) (H : Type 0) (s : S
         (λ i j q hi hj hq. (tt, refl, (hi, (hj, (hq, tt)))))
 
   module _ (d a b : ℕ) (hd : d < 32) (ha : a < 32) (hb : b < 32) where
-    divide-by-keeps : (m : Mode) (x y : Bool) → isRealReg (s .real) a ≡ x → isRealReg (s .real) b ≡ y
-        → length (c.divideBy m x y d a b s .after .consts) ≤ length k → Keeps k B (λ r. r ≡ d) Z H s (c.divideBy m x y d a b s)
-    unfolding c.divideBy divideLines stableDivideLines stableDivisorScale scaledDivide stableExponent good rename re im
-    divide-by-keeps m true true ex ey hk = settled d a b hd ha hb true true true ex ey (divideLines true true 0 1 2) _ (tt, refl, tt)
-    divide-by-keeps m false true ex ey hk = settled d a b hd ha hb false true false ex ey (divideLines false true 0 1 2) _ (tt, refl, tt)
-    divide-by-keeps Mode.Plain true false ex ey hk =
-        settled d a b hd ha hb true false false ex ey (divideLines true false 0 1 2) _ (tt, refl, tt)
-    divide-by-keeps Mode.Plain false false ex ey hk =
-        settled d a b hd ha hb false false false ex ey (divideLines false false 0 1 2) _ (tt, refl, tt)
-    divide-by-keeps Mode.Stable x false ex ey hk =
+    -- a stable Divide by a complex register
+    pub stable-divide-keeps : (x : Bool) → isRealReg (s .real) a ≡ x → isRealReg (s .real) b ≡ false
+        → length (c.stableDivide x d a b s .after .consts) ≤ length k → Keeps k B (λ r. r ≡ d) Z H s (c.stableDivide x d a b s)
+    unfolding c.stableDivide stableDivideLines stableDivisorScale scaledDivide stableExponent good rename re im
+    stable-divide-keeps x ex ey hk =
         three _ _ _ (stableDivideLines (ltb d 30) x 0 1 2) (stableDivideLines (ltb d 30) x d a b) d a b hd ha hb x false ex ey hk
         (λ i j q hi hj hq.
         four (λ g x. Fits k d a b x false false (stableDivideLines g x 0 1 2 i j q) (stableDivideLines g x d a b i j q))
@@ -142,19 +134,6 @@ module _ (k : List ℕ) (B : List Work) (Z : ℕ → Type 0) (H : Type 0) (s : S
     pub times-keeps : Keeps k B (λ r. r ≡ d) Z H s (c.times d a b s)
     unfolding c.times timesLines good rename
     times-keeps = binary timesLines promoted d a b hd ha hb (tt, refl, tt) (tt, refl, tt) (tt, refl, tt) (tt, refl, tt)
-
-    pub divide-keeps : (m : Mode) → length (c.divide m d a b s .after .consts) ≤ length k
-        → Keeps k B (λ r. r ≡ d) Z H s (c.divide m d a b s)
-    unfolding c.divide
-    divide-keeps m hk = divide-by-keeps m (isRealReg (s .real) a) (isRealReg (s .real) b) refl refl hk
-
-    pub arith-keeps : (m : Mode) (op : ArithOp) → length (rerunArith m op d a b s .after .consts) ≤ length k
-        → Keeps k B (λ r. r ≡ d) Z H s (rerunArith m op d a b s)
-    unfolding rerunArith
-    arith-keeps m ArithOp.Plus hk = plus-keeps
-    arith-keeps m ArithOp.Minus hk = minus-keeps
-    arith-keeps m ArithOp.Times hk = times-keeps
-    arith-keeps m ArithOp.Divide hk = divide-keeps m hk
 
     pub order-keeps : (op : BinOp) → takesBin true op ≡ true → Keeps k B (λ r. r ≡ d) Z H s (byTwo (orderLines op) bothAsReal d a b s)
     unfolding orderLines good rename

@@ -182,13 +182,13 @@ module _ (s : Sheet) (v : AllIn (length (whole s .after .consts)) (s .instructio
   pub play-on : Sound (whole s .after .consts) (block (whole s .records)) (s .mode) (s .instructions) (startState (s .places) (s .constants))
       → (i : ℕ) (σ τ : Store) → Agree (Kept (realAt s i)) σ τ
       → ((n : ℕ) (α : Store) → n < length (drop i (s .instructions)) → stood s i σ (i + n) ≡ some α
-      → HalfOk (realAt s (i + n)) (getD (drop i (s .instructions)) n Instruction.Nop))
+      → HalfOk (s .mode) (realAt s (i + n)) (getD (drop i (s .instructions)) n Instruction.Nop))
       → Same (whole s .after .consts) (block (whole s .records)) (s .mode) (whole s .after .real) (playFrom s i σ) (playFrom s i τ)
   unfolding m l k B b₀ left
   play-on d i σ τ g u =
       let S = upTo s i .after in
       let h = alike k B m (drop i l) S (kinds-drop k B m i l b₀ all-kinds) going σ τ tt (sound-drop k B m i l b₀ d) g
-      (λ n α x e. subst (λ (ρ : Realness). HalfOk ρ (getD (drop i l) n Instruction.Nop)) (sym (real-at i n)) (u n α x (stood-at i n σ ∙ e))) in
+      (λ n α x e. subst (λ (ρ : Realness). HalfOk (s .mode) ρ (getD (drop i l) n Instruction.Nop)) (sym (real-at i n)) (u n α x (stood-at i n σ ∙ e))) in
       rw (from-point i)
       (subst (λ (ρ : Realness). Same k B m ρ (play k B going (left i .records) σ) (play k B going (left i .records) τ))
       (ap (λ (o : Out). o .after .real) (sym (two-parts i))) h)

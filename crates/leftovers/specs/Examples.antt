@@ -1,4 +1,5 @@
--- Four sheets, and stores, at which demand 3 is looked at closely (theorems `needed`, `met`, `jumpedOver` and `cleared`, entries/specs).
+-- Four sheets, one of them in each mode, and stores, at which demand 3 is looked at closely (theorems `needed`, `neededStable`, `minded`,
+-- `met`, `jumpedOver` and `cleared`, entries/specs).
 use Prim.Native.Nat.{ℕ}
 use mathlib.Core.List.{List, [], _∷_, _++_}
 use lib.ListN.{set, replicate}
@@ -20,6 +21,15 @@ header = 69 ∷ 0 ∷ 32 ∷ 0 ∷ 0 ∷ replicate 64 0
 unfoldable pub mixing : List ℕ
 unfolding header
 mixing = header ++ 7 ∷ 0 ∷ 1 ∷ 0 ∷ 10 ∷ 0 ∷ 0 ∷ 7 ∷ 0 ∷ 1 ∷ 0 ∷ 13 ∷ 1 ∷ 0 ∷ []
+
+-- the same in stable mode, and in mode 2
+unfoldable pub stableMixing : List ℕ
+unfolding mixing
+stableMixing = set mixing 4 1
+
+unfoldable pub mindingMixing : List ℕ
+unfolding mixing
+mindingMixing = set mixing 4 2
 
 -- Real of general 0 into general 0 and of general 1 into general 1; Half of general 0 into general 1, both recorded as real
 unfoldable pub clean : List ℕ

@@ -13,7 +13,7 @@ use Rattle.mir.specs.declared.records.Record.{Record}
 use Rattle.mir.specs.Register.{re, im, T0, T1}
 use Rattle.mir.specs.Place.{index}
 use Rattle.sheet.specs.declared.setup.Mode.{Mode}
-use Rattle.sheet.specs.Setup.{setup, constantsOf}
+use Rattle.sheet.specs.Setup.{isMinding, setup, constantsOf}
 use Rattle.sheet.specs.Instruction.{instructions}
 use Rattle.records.specs.Record.{records}
 use Rattle.player_machine.specs.Machine.{Store, at, place, going, block, reach}
@@ -109,12 +109,14 @@ standing l i σ j =
 -- ---- Half
 
 -- A Half "still to be played", for "playing on unchanged reaches it", from point i with σ; "judged by the realness before" it, it "reads
--- a register recorded as real into one recorded as complex".
+-- a register recorded as real into one recorded as complex". In mode 2 none counts: "Here a user may change leftovers at any point without
+-- any condition on Half" (document 02, n).
 pub record Mixing (l : Lowered) (i : ℕ) (σ : Store) : Type 0 where
   pub j : ℕ
   pub d : ℕ
   pub a : ℕ
   pub α : Store
+  pub notMinding : isMinding (l .sheet .mode) ≡ false
   pub later : i ≤ j
   pub isHalf : getD (l .sheet .instructions) j Instruction.Nop ≡ Instruction.Uni UniOp.Half d a
   pub reached : standing l i σ j ≡ some α

@@ -3,7 +3,7 @@ ghost use mathlib.Core.Bool.{false};
 ghost use mathlib.Core.List.{map};
 ghost use Rattle.mir.specs.Encode.{buf};
 ghost use Rattle.mir.specs.declared.records.Record.{Record};
-ghost use Rattle.lowering.specs.Lines.{eachLines, absLines, abs2Lines, timesILines, timesNegILines, realRootLines, recipLines, halfLines, realLines, imaginaryLines, conjugateLines, notLines};
+ghost use Rattle.lowering.specs.Lines.{eachLines, absLines, abs2Lines, timesILines, timesNegILines, realRootLines, recipLines, halfLines, mindingHalfLines, realLines, imaginaryLines, conjugateLines, notLines};
 ghost use Rattle.lines.specs.Lists.{Lists};
 use super::emit::bi;
 use super::emit::fused_mul_add;
@@ -106,6 +106,16 @@ pub fn half_lines(out: &mut [u8], at: usize, d: u8, a: u8) -> usize
 {
     let at = uni(out, at, UniOp::Half, Part::Im(d), Part::Im(a));
     uni(out, at, UniOp::Half, Part::Re(d), Part::Re(a))
+}
+
+// Half in mode 2
+pub fn minding_half_lines(out: &mut [u8], at: usize, x: bool, d: u8, a: u8) -> usize
+    ensures { λ r. ⌜ Lists (buf (now (out .entry)) at) (map Record.Work (mindingHalfLines x d a)) (buf (now (out .exit)) r) ⌝ }
+{
+    if x {
+        return uni(out, at, UniOp::Half, Part::Re(d), Part::Re(a));
+    }
+    half_lines(out, at, d, a)
 }
 
 // `real`: the same lines of a real register

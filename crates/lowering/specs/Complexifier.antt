@@ -11,12 +11,13 @@ use Rattle.mir.specs.declared.records.Work.{Work}
 use Rattle.mir.specs.declared.records.Record.{Record}
 use Rattle.mir.specs.Register.{re, Ret, Temp}
 use Rattle.sheet.specs.declared.setup.Mode.{Mode}
+use Rattle.sheet.specs.Setup.{isMinding}
 use Rattle.lowering.specs.declared.realness.Realness.{Realness}
 use Rattle.lowering.specs.Realness.{real, complex, isRealReg, isRealLoc, setReg, setLocComplex}
 use Rattle.lowering.specs.Pushes as mir
 use Rattle.lowering.specs.Lines.{ensureLines, stableDivideLines, stableRecipLines, stableAbsLines, stableRootMagnitude, fmovLines}
 use Rattle.lowering.specs.Lines.{loadLines, saveLines, eachLines, absLines, abs2Lines, timesILines, timesNegILines, plainRootMagnitude}
-use Rattle.lowering.specs.Lines.{rootBlock, realRootLines, recipLines, halfLines, plusLines, minusLines, timesLines, divideLines}
+use Rattle.lowering.specs.Lines.{rootBlock, realRootLines, recipLines, halfLines, mindingHalfLines, plusLines, minusLines, timesLines, divideLines}
 use Rattle.lowering.specs.Lines.{realLines, imaginaryLines, conjugateLines, complexLines, orderLines, compareLines, bitsLines, notLines, ifelseLines}
 
 -- the fields of `Complexifier` that change: `real_regs` with `real_locs`, `root_defined`, and the constants of its `mir`
@@ -163,6 +164,22 @@ unfoldable pub fmov : ℕ → ℕ → State → Out
 unfolding byOne fmovLines
 fmov d a s = byOne fmovLines copied d a s
 
+-- ---- mode 2 (document 02, n): what it lists and records otherwise than mode 1; the Rust has no such mode
+
+-- "Half lists its imaginary line only for a register recorded as complex, and for either record copies it to the destination"
+unfoldable pub mindingHalf : ℕ → ℕ → State → Out
+unfolding byOne mindingHalfLines
+mindingHalf d a s = byOne mindingHalfLines copied d a s
+
+-- "a Divide by a complex register into Temp is listed as one into Ret followed by a move to Temp [..]; the record of Ret is then complex",
+-- by whether d is Temp; x: a is recorded as real
+unfoldable pub mindingDivide : Bool → Bool → ℕ → ℕ → ℕ → State → Out
+unfolding then stableDivide fmov
+mindingDivide true x d a b s = then (stableDivide x Ret a b s) (fmov Temp Ret)
+mindingDivide false x d a b s = stableDivide x d a b s
+
+-- ---- impl Generator, continued
+
 -- `load_const`
 unfoldable pub loadConst : ℕ → ℕ → State → Out
 unfolding emit
@@ -254,10 +271,15 @@ unfoldable pub recip : Bool → ℕ → ℕ → State → Out
 unfolding recipBy
 recip stable d a s = recipBy stable (isRealReg (s .real) a) d a s
 
--- `half`: "Half never changes a record"
+-- `half`, by whether it is mode 2; in the Rust's modes "Half never changes a record"
+unfoldable pub halfBy : Bool → ℕ → ℕ → State → Out
+unfolding halfLines mindingHalf
+halfBy false d a s = record { records = map Record.Work (halfLines d a); after = s }
+halfBy true d a s = mindingHalf d a s
+
 unfoldable pub half : Mode → ℕ → ℕ → State → Out
-unfolding halfLines
-half mode d a s = record { records = map Record.Work (halfLines d a); after = s }
+unfolding halfBy
+half mode d a s = halfBy (isMinding mode) d a s
 
 -- `plus`, `minus`, `times`
 unfoldable pub plus : ℕ → ℕ → ℕ → State → Out
@@ -274,8 +296,9 @@ times d a b s = byTwo timesLines promoted d a b s
 
 -- `divide`, by mode and by the realness of a and b
 unfoldable pub divideBy : Mode → Bool → Bool → ℕ → ℕ → ℕ → State → Out
-unfolding emit divideLines stableDivide
+unfolding emit divideLines stableDivide mindingDivide
 divideBy mode x true d a b s = emit s (divideLines x true d a b) d x
+divideBy Mode.Minding x false d a b s = mindingDivide (eqb d Temp) x d a b s
 divideBy Mode.Stable x false d a b s = stableDivide x d a b s
 divideBy Mode.Plain x false d a b s = emit s (divideLines x false d a b) d complex
 

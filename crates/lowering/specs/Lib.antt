@@ -7,3 +7,4 @@ pub mod Rerun
 pub mod Labels
 pub mod Lower
 pub mod Paper
+pub mod Elsewhere

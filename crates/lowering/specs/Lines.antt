@@ -225,6 +225,12 @@ recipLines false d a =
 unfoldable pub halfLines : ℕ → ℕ → List Work
 halfLines d a = mir.half (im d) (im a) ∷ mir.half (re d) (re a) ∷ []
 
+-- Half in mode 2 (document 02, n), by the realness of a: "Half lists its imaginary line only for a register recorded as complex"
+unfoldable pub mindingHalfLines : Bool → ℕ → ℕ → List Work
+unfolding halfLines
+mindingHalfLines true d a = mir.half (re d) (re a) ∷ []
+mindingHalfLines false d a = halfLines d a
+
 -- ---- two operands
 
 -- `plus`

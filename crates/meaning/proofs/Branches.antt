@@ -222,7 +222,7 @@ module _ (k : List ℕ) (B : List Work) (m : Mode) (κ : List ℕ) (front : Begi
           }
 
   pub walks : (is : List Instruction) (s : State) → Kinds k B m is s → AllIn (length κ) is → Free m is s
-      → (complexify m is s .after .rootDefined ≡ true → RootBlock m k B) → Begins (complexify m is s .after .consts) k
+      → (complexify m is s .after .rootDefined ≡ true → RootBlock (isStable m) k B) → Begins (complexify m is s .after .consts) k
       → (way : Way) (X : Values) (σ : Store) → OwnWay way → Sound k B m is s → ReadyOn way is s X σ → Goes way is s X σ
   unfolding complexify then unlisted walked play reach consed ticks
   walks [] s q v w b c going X σ o d g = record {

@@ -110,10 +110,10 @@ spared ρ i t d a e r = go (isRealReg ρ d) (subst (λ x. T (not x || isRealReg 
 
 clean-unmixed : Unmixed (sheetOf clean)
 unfolding clean lower
-clean-unmixed zero h d a e r = spared (realAt (sheetOf clean) 0) (getD (sheetOf clean .instructions) 0 Instruction.Nop) tt d a e r
-clean-unmixed (suc zero) h d a e r = spared (realAt (sheetOf clean) 1) (getD (sheetOf clean .instructions) 1 Instruction.Nop) tt d a e r
-clean-unmixed (suc (suc zero)) h d a e r = spared (realAt (sheetOf clean) 2) (getD (sheetOf clean .instructions) 2 Instruction.Nop) tt d a e r
-clean-unmixed (suc (suc (suc j))) h d a e r = absurd (omega arith)
+clean-unmixed t zero h d a e r = spared (realAt (sheetOf clean) 0) (getD (sheetOf clean .instructions) 0 Instruction.Nop) tt d a e r
+clean-unmixed t (suc zero) h d a e r = spared (realAt (sheetOf clean) 1) (getD (sheetOf clean .instructions) 1 Instruction.Nop) tt d a e r
+clean-unmixed t (suc (suc zero)) h d a e r = spared (realAt (sheetOf clean) 2) (getD (sheetOf clean .instructions) 2 Instruction.Nop) tt d a e r
+clean-unmixed t (suc (suc (suc j))) h d a e r = absurd (omega arith)
 
 pub settled-met : SettledMet clean
 settled-met = record { accepted = accepts clean (clean-given .accepted); unmixed = clean-unmixed }

@@ -15,10 +15,10 @@ use Rattle.meaning.proofs.Table.{Begins, begins-then, begins-grown}
 use Rattle.meaning.proofs.Rooting.{RootBlock}
 
 pub finds-root : (m : Mode) (count : ℕ) (l : List Instruction) (s : State) {k : List ℕ} → AllIn count l → s .rootDefined ≡ false
-    → complexify m l s .after .rootDefined ≡ true → Begins (complexify m l s .after .consts) k → RootBlock m k (block (complexify m l s .records))
+    → complexify m l s .after .rootDefined ≡ true → Begins (complexify m l s .after .consts) k → RootBlock (isStable m) k (block (complexify m l s .records))
 finds-root m count l s {k} v e h b = go (shape m count l s v e)
   where
-    go : Shape (isStable m) (complexify m l s) → RootBlock m k (block (complexify m l s .records))
+    go : Shape (isStable m) (complexify m l s) → RootBlock (isStable m) k (block (complexify m l s .records))
     go (unrooted r g) = absurd (true≢false (sym h ∙ r))
     go (rooted r first p t f last p' g) =
         record {

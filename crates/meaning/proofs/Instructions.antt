@@ -19,7 +19,7 @@ use Rattle.mir.specs.declared.records.Instruction.{Instruction}
 use Rattle.mir.specs.Register.{im}
 use Rattle.float.specs.Word as Word
 use Rattle.sheet.specs.declared.setup.Mode.{Mode}
-use Rattle.sheet.specs.Setup.{isStable}
+use Rattle.sheet.specs.Setup.{isStable, isMinding}
 use Rattle.sheet.proofs.Ranges.{InRange}
 use Rattle.player_machine.specs.Machine.{Store, at, execs, uniWord, binWord, going, reach}
 use Rattle.mir.specs.Takes.{takesBin}
@@ -40,11 +40,12 @@ use Rattle.meaning.specs.Means.{Values, put, asBin, row, means, halved}
 use Rattle.meaning.proofs.Leaf.{Ready, put-here, put-other}
 use Rattle.meaning.proofs.Table.{Begins, begins-at}
 use Rattle.meaning.proofs.Stretch.{by, Computes, Does, join, recast}
-use Rattle.meaning.proofs.Methods.{mov-does, each-does, conjugate-does, times-i-does, times-neg-i-does, abs2-does, real-does, imaginary-does, not-does}
+use Rattle.meaning.proofs.Methods.{mov-does, each-does, minding-half-does, conjugate-does, times-i-does, times-neg-i-does, abs2-does, real-does, imaginary-does, not-does}
 use Rattle.meaning.proofs.Methods.{plus-does, minus-does, times-does, bits-does, order-does, complex-does}
-use Rattle.meaning.proofs.Modes.{abs-does, recip-does, divide-by-does}
+use Rattle.meaning.proofs.Modes.{abs-does, recip-does}
 use Rattle.meaning.proofs.Places.{load-does, save-does}
 use Rattle.meaning.proofs.Steps.{same-values, put-twice, unlisted-does, compare-does, ifelse-does, compare-zero-does, half-ready, const-does}
+use Rattle.meaning.proofs.Dividing.{divide-by-does}
 use Rattle.meaning.proofs.Rooting.{RootBlock, root-does, real-root-does}
 
 -- A method's outcome with a word that it takes for a half that a real value has not: one word for each store.
@@ -75,24 +76,27 @@ general true a b true e p q = absurd (true≢false q)
 general false a b y e p q = absurd (true≢false (sym p))
 
 module _ (k : List ℕ) (B : List Work) (m : Mode) (s : State) where
-  half-tells : (d a : ℕ) → d < 32 → a < 32 → Tells k B (λ h X. put d (halved h (X .reg d) (X .reg a)) X) s (c.half m d a s)
-  unfolding c.half
-  half-tells d a hd ha = record {
+  -- by whether it is mode 2
+  half-tells : (t : Bool) (d a : ℕ) → d < 32 → a < 32
+      → Tells k B (λ h X. cond t (put d (each Word.half (X .reg a)) X) (put d (halved h (X .reg d) (X .reg a)) X)) s (c.halfBy t d a s)
+  unfolding c.halfBy
+  half-tells false d a hd ha = record {
     F = execs k (halfLines d a);
     lost = λ σ. Word.half (at σ (im a));
     stands = works-reach k B (halfLines d a);
     ready = λ X σ h. half-ready k B s d a hd ha X σ h;
   }
+  half-tells true d a hd ha = gives (minding-half-does k B s d a hd ha)
 
-  uni-tells : (op : UniOp) (d a : ℕ) → d < 32 → a < 32 → (rerunUni m op d a s .after .rootDefined ≡ true → RootBlock m k B)
+  uni-tells : (op : UniOp) (d a : ℕ) → d < 32 → a < 32 → (rerunUni m op d a s .after .rootDefined ≡ true → RootBlock (isStable m) k B)
       → Begins (rerunUni m op d a s .after .consts) k → Tells k B (λ h. Means.uni m h op d a) s (rerunUni m op d a s)
-  unfolding rerunUni Means.uni Value.ofOne uniWord binWord c.abs c.recip c.realRoot
+  unfolding rerunUni Means.uni Value.ofOne uniWord binWord c.half c.abs c.recip c.realRoot
   uni-tells UniOp.Neg d a hd ha b g = gives (each-does k B s d a hd ha UniOp.Neg)
   uni-tells UniOp.Not d a hd ha b g = gives (not-does k B s d a hd ha)
-  uni-tells UniOp.Abs d a hd ha b g = gives (abs-does k B s d a hd ha m (isRealReg (s .real) a) refl g)
-  uni-tells UniOp.Root d a hd ha b g = gives (root-does k B m (b (root-defines (isStable m) d a s)) s d a hd ha)
-  uni-tells UniOp.RealRoot d a hd ha b g = gives (real-root-does k B m s d a hd ha (isRealReg (s .real) a) refl b)
-  uni-tells UniOp.Recip d a hd ha b g = gives (recip-does k B s d a hd ha m (isRealReg (s .real) a) refl g)
+  uni-tells UniOp.Abs d a hd ha b g = gives (abs-does k B s d a hd ha (isStable m) (isRealReg (s .real) a) refl g)
+  uni-tells UniOp.Root d a hd ha b g = gives (root-does k B (isStable m) (b (root-defines (isStable m) d a s)) s d a hd ha)
+  uni-tells UniOp.RealRoot d a hd ha b g = gives (real-root-does k B (isStable m) s d a hd ha (isRealReg (s .real) a) refl b)
+  uni-tells UniOp.Recip d a hd ha b g = gives (recip-does k B s d a hd ha (isStable m) (isRealReg (s .real) a) refl g)
   uni-tells UniOp.Round d a hd ha b g = gives (each-does k B s d a hd ha UniOp.Round)
   uni-tells UniOp.Floor d a hd ha b g = gives (each-does k B s d a hd ha UniOp.Floor)
   uni-tells UniOp.Ceiling d a hd ha b g = gives (each-does k B s d a hd ha UniOp.Ceiling)
@@ -100,7 +104,7 @@ module _ (k : List ℕ) (B : List Work) (m : Mode) (s : State) where
   uni-tells UniOp.Real d a hd ha b g = gives (real-does k B s d a hd ha)
   uni-tells UniOp.Imaginary d a hd ha b g = gives (imaginary-does k B s d a hd ha)
   uni-tells UniOp.Conjugate d a hd ha b g = gives (conjugate-does k B s d a hd ha)
-  uni-tells UniOp.Half d a hd ha b g = half-tells d a hd ha
+  uni-tells UniOp.Half d a hd ha b g = half-tells (isMinding m) d a hd ha
   uni-tells UniOp.IsZero d a hd ha b g = gives (compare-zero-does k B s BinOp.Equal BinOp.And d a hd ha)
   uni-tells UniOp.IsNotZero d a hd ha b g = gives (compare-zero-does k B s BinOp.NotEqual BinOp.Or d a hd ha)
   uni-tells UniOp.Sign d a hd ha b g = gives (each-does k B s d a hd ha UniOp.Sign)
@@ -203,7 +207,7 @@ module _ (k : List ℕ) (B : List Work) (m : Mode) (κ : List ℕ) (front : Begi
   mov-tells s d a hd ha false e = mov-does k B s d a hd ha
 
   pub rerun-tells : (i : Instruction) (s : State) → Works i → InRange (length κ) i → length (s .real .regs) ≡ 32 → barred (isStable m) i (s .real) ≡ false
-      → (rerun m i s .after .rootDefined ≡ true → RootBlock m k B) → Begins (rerun m i s .after .consts) k
+      → (rerun m i s .after .rootDefined ≡ true → RootBlock (isStable m) k B) → Begins (rerun m i s .after .consts) k
       → Gives k B (λ h. means m κ h i) (s .real) (rerun m i s .records) (rerun m i s .after .real)
   unfolding rerun means row then barred
   rerun-tells Instruction.Nop s z v n e b g = gives (unlisted-does k B s)

@@ -10,6 +10,7 @@ pub mod Stable
 pub mod Modes
 pub mod Places
 pub mod Steps
+pub mod Dividing
 pub mod Root
 pub mod Rooting
 pub mod Instructions

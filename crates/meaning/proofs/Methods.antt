@@ -7,7 +7,7 @@ use Rattle.mir.specs.declared.ops.BinOp.{BinOp}
 use Rattle.mir.specs.declared.records.Work.{Work}
 use Rattle.float.specs.Word as Word
 use Rattle.player_machine.specs.Machine.{uniWord, binWord, complexWords}
-use Rattle.lowering.specs.Lines.{fmovLines, eachLines, abs2Lines, timesILines, timesNegILines, plusLines, minusLines, timesLines}
+use Rattle.lowering.specs.Lines.{fmovLines, eachLines, mindingHalfLines, abs2Lines, timesILines, timesNegILines, plusLines, minusLines, timesLines}
 use Rattle.lowering.specs.Lines.{realLines, imaginaryLines, conjugateLines, complexLines, orderLines, bitsLines, notLines}
 use Rattle.lowering.specs.Complexifier as c
 use Rattle.lowering.specs.Complexifier.{State, byOne, byTwo, copied, asReal, asComplex, promoted, bothAsReal, bothAsComplex}
@@ -28,6 +28,11 @@ module _ (k : List ℕ) (B : List Work) (s : State) where
     pub each-does : (op : UniOp) → Does k B (λ X. put d (Value.each (uniWord op) (X .reg a)) X) s (byOne (eachLines op) copied d a s)
     unfolding eachLines passes rename run Value.each
     each-does op = unary k B s (eachLines op) copied (Value.each (uniWord op)) d a hd ha (tt, refl, λ ω. refl) (tt, refl, λ ω. refl)
+
+    -- Half in mode 2
+    pub minding-half-does : Does k B (λ X. put d (Value.each Word.half (X .reg a)) X) s (c.mindingHalf d a s)
+    unfolding c.mindingHalf mindingHalfLines passes rename run uniWord Value.each
+    minding-half-does = unary k B s mindingHalfLines copied (Value.each Word.half) d a hd ha (tt, refl, λ ω. refl) (tt, refl, λ ω. refl)
 
     pub conjugate-does : Does k B (λ X. put d (Value.conjugate (X .reg a)) X) s (byOne conjugateLines copied d a s)
     unfolding conjugateLines passes rename run uniWord Value.conjugate

@@ -12,8 +12,6 @@ use Rattle.mir.specs.declared.records.Loc.{Loc}
 use Rattle.mir.specs.declared.records.Work.{Work}
 use Rattle.mir.specs.Register.{re, im}
 use Rattle.float.specs.Word as Word
-use Rattle.sheet.specs.declared.setup.Mode.{Mode}
-use Rattle.sheet.specs.Setup.{isStable}
 use Rattle.player_machine.specs.Machine.{Store, at, place, execs, uniWord, binWord, fusedWord}
 use Rattle.lowering.specs.declared.realness.Realness.{Realness}
 use Rattle.lowering.specs.Realness.{isRealReg, isRealLoc, setReg}
@@ -107,7 +105,7 @@ module _ (k : List ℕ) (ρ : Realness) (X : Values) (σ : Store) (h : Ready X �
 
 -- ---- the block
 
-abbrev pub afterBlock : Mode → Values → Values
+abbrev pub afterBlock : Bool → Values → Values
 afterBlock m X = rootLeaves m (X .reg 31) X
 
 module _ (k : List ℕ) (ρ : Realness) (X : Values) (σ : Store) (h : Ready X ρ σ) (e : isRealReg ρ 31 ≡ false) where
@@ -150,23 +148,23 @@ module _ (k : List ℕ) (ρ : Realness) (X : Values) (σ : Store) (h : Ready X �
   Behind q t y l =
       Ready (put 30 (turned (rootBy q t y)) (put 31 (rootBy q t y) (X₁ (Word.littleThan 0 x)))) (setReg ρ 30 false) (execs k (l ++ rest) σ₁)
 
-  plain-behind : Behind (Word.littleThan 0 x) (larger Mode.Plain x y) y plainRootMagnitude
+  plain-behind : Behind (Word.littleThan 0 x) (larger false x y) y plainRootMagnitude
   unfolding Behind Rooted larger
   plain-behind =
       subst₃ (λ q x y. Behind q (largerPlain x y) y plainRootMagnitude) q-is x-is y-is (plain-ready k ρ (X₁ (Word.littleThan 0 x)) σ₁ h₁ e)
 
   stable-behind : (i j q : ℕ) → getD k i 0 ≡ FLOOR_FINITE → getD k j 0 ≡ EXP_MASK_FINITE → getD k q 0 ≡ INFINITY
-      → Behind (Word.littleThan 0 x) (larger Mode.Stable x y) y (stableRootMagnitude i j q)
+      → Behind (Word.littleThan 0 x) (larger true x y) y (stableRootMagnitude i j q)
   unfolding Behind Rooted larger
   stable-behind i j q ei ej eq =
       subst₃ (λ f g i'. Behind (Word.littleThan 0 x) (largerBy f g i' x y) y (stableRootMagnitude i j q)) ei ej eq
       (subst₃ (λ q' x y. Behind q' (largerBy (getD k i 0) (getD k j 0) (getD k q 0) x y) y (stableRootMagnitude i j q)) q-is x-is y-is
       (stable-ready k ρ (X₁ (Word.littleThan 0 x)) σ₁ h₁ e i j q))
 
-  pub block-ready : (m : Mode) (consts : List ℕ) → Begins (c.blockConsts (isStable m) consts) k
-      → Ready (afterBlock m X) (setReg ρ 30 false) (execs k (c.blockOf (isStable m) consts) σ)
+  pub block-ready : (m : Bool) (consts : List ℕ) → Begins (c.blockConsts m consts) k
+      → Ready (afterBlock m X) (setReg ρ 30 false) (execs k (c.blockOf m consts) σ)
   unfolding c.blockOf c.blockConsts rootBlock Behind σ₁ x y X₁ asked rest execs re im
-  block-ready Mode.Plain consts b = plain-behind
-  block-ready Mode.Stable consts b =
+  block-ready false consts b = plain-behind
+  block-ready true consts b =
       let t = three-at FLOOR_FINITE EXP_MASK_FINITE INFINITY consts b in
       stable-behind _ _ _ (t .first) (t .second) (t .third)

@@ -8,8 +8,6 @@ use lib.ListN.{length, length-append}
 use lib.Dec.{eqb, lit<}
 use Rattle.mir.specs.declared.records.Work.{Work}
 use Rattle.mir.specs.declared.records.Record.{Record}
-use Rattle.sheet.specs.declared.setup.Mode.{Mode}
-use Rattle.sheet.specs.Setup.{isStable}
 use Rattle.player_machine.specs.Machine.{Store, execs, going, seeking, reach, uniWord}
 use Rattle.lowering.specs.Realness.{isRealReg, setReg}
 use Rattle.lowering.specs.Lines.{realRootLines}
@@ -32,13 +30,13 @@ use Rattle.meaning.proofs.Places.{ensure-does}
 use Rattle.meaning.proofs.Steps.{same-values, unlisted-does}
 use Rattle.meaning.proofs.Root.{afterBlock, block-ready}
 
--- what a Call plays: the root block of the sheet's mode, whose constants stand in the table
-pub record RootBlock (m : Mode) (k : List ℕ) (B : List Work) : Type 0 where
+-- what a Call plays: the root block, by whether the sheet's mode is stable, whose constants stand in the table
+pub record RootBlock (m : Bool) (k : List ℕ) (B : List Work) : Type 0 where
   pub consts : List ℕ
-  pub is : c.blockOf (isStable m) consts ≡ B
-  pub begins : Begins (c.blockConsts (isStable m) consts) k
+  pub is : c.blockOf m consts ≡ B
+  pub begins : Begins (c.blockConsts m consts) k
 
-pub call-does : (k : List ℕ) (B : List Work) (m : Mode) (s : State) → RootBlock m k B → isRealReg (s .real) 31 ≡ false
+pub call-does : (k : List ℕ) (B : List Work) (m : Bool) (s : State) → RootBlock m k B → isRealReg (s .real) 31 ≡ false
     → Does k B (afterBlock m) s (c.callRoot s)
 unfolding c.callRoot reach
 call-does k B m s b e = record {
@@ -52,7 +50,7 @@ unfolding c.defineRoot
 define-does k B true m s = unlisted-does k B s
 define-does k B false m s = record { F = λ σ. σ; stands = over-reach k B (c.blockOf m (s .consts)); ready = λ X σ h. h }
 
-module _ (k : List ℕ) (B : List Work) (m : Mode) (b : RootBlock m k B) (s : State) (d a : ℕ) (hd : d < 32) (ha : a < 32) where
+module _ (k : List ℕ) (B : List Work) (m : Bool) (b : RootBlock m k B) (s : State) (d a : ℕ) (hd : d < 32) (ha : a < 32) where
   s₁ : State
   s₁ = c.ensureComplex a s .after
 
@@ -82,27 +80,27 @@ module _ (k : List ℕ) (B : List Work) (m : Mode) (b : RootBlock m k B) (s : St
       v : Value
       v = Value.oneRoot m (reOf (X' .reg a)) (imOf (X' .reg a))
 
-  pub root-does : Does k B (λ X. put d (rootIn m (X .reg a)) (rootLeaves m (X .reg a) (widen a X))) s (c.root (isStable m) d a s)
+  pub root-does : Does k B (λ X. put d (rootIn m (X .reg a)) (rootLeaves m (X .reg a) (widen a X))) s (c.root m d a s)
   unfolding c.root then s₁ s₂
   root-does =
       recast as-root
       (join (join (join (join (ensure-does k B s a ha) (mov-does k B s₁ 31 a (lit< tt) ha)) (call-does k B m s₂ b temp-complex))
       (mov-does k B (c.callRoot s₂ .after) d 30 hd (lit< tt)))
-      (define-does k B (c.fmov d 30 (c.callRoot s₂ .after) .after .rootDefined) (isStable m) (c.fmov d 30 (c.callRoot s₂ .after) .after)))
+      (define-does k B (c.fmov d 30 (c.callRoot s₂ .after) .after .rootDefined) m (c.fmov d 30 (c.callRoot s₂ .after) .after)))
 
-pub real-root-does : (k : List ℕ) (B : List Work) (m : Mode) (s : State) (d a : ℕ) → d < 32 → a < 32 → (x : Bool) → isRealReg (s .real) a ≡ x
-    → (c.realRootBy (isStable m) x d a s .after .rootDefined ≡ true → RootBlock m k B)
-    → Does k B (λ X. put d (realRootIn m (X .reg a)) (realRootLeaves m (X .reg a) a X)) s (c.realRootBy (isStable m) x d a s)
+pub real-root-does : (k : List ℕ) (B : List Work) (m : Bool) (s : State) (d a : ℕ) → d < 32 → a < 32 → (x : Bool) → isRealReg (s .real) a ≡ x
+    → (c.realRootBy m x d a s .after .rootDefined ≡ true → RootBlock m k B)
+    → Does k B (λ X. put d (realRootIn m (X .reg a)) (realRootLeaves m (X .reg a) a X)) s (c.realRootBy m x d a s)
 unfolding c.realRootBy emit realRootLines realRootIn realRootLeaves passes rename run name uniWord
 real-root-does k B m s d a hd ha true e b =
     by-one k B (s .real) _ (λ v X. put d (realRootIn m v) (realRootLeaves m v a X)) (realRootLines d a) a ha true e
     (λ X σ h. only-d k d a a hd X (s .real) σ h (realRootLines 0 1) (realRootLines d a) true tt refl _ refl)
 real-root-does k B m s d a hd ha false e b =
-    let r = root-does k B m (b (root-defines (isStable m) d a s)) s d a hd ha in
+    let r = root-does k B m (b (root-defines m d a s)) s d a hd ha in
     record {
       F = r .F;
       stands = r .stands;
       ready = λ X σ h.
-          subst (λ v. Ready (put d (realRootIn m v) (realRootLeaves m v a X)) (c.root (isStable m) d a s .after .real) (r .F σ)) (operand h a ha false e)
-          (subst (λ v. Ready (put d (rootIn m v) (rootLeaves m v (widen a X))) (c.root (isStable m) d a s .after .real) (r .F σ)) (sym (operand h a ha false e)) (r .ready X σ h));
+          subst (λ v. Ready (put d (realRootIn m v) (realRootLeaves m v a X)) (c.root m d a s .after .real) (r .F σ)) (operand h a ha false e)
+          (subst (λ v. Ready (put d (rootIn m v) (rootLeaves m v (widen a X))) (c.root m d a s .after .real) (r .F σ)) (sym (operand h a ha false e)) (r .ready X σ h));
     }

@@ -1,7 +1,7 @@
 -- Without a Half of a real register into a complex one, the words that such a Half would take do not matter.
 use Prim.Native.Nat.{ℕ, zero, suc, _<_}
 use mathlib.Core.Path.{_≡_, refl, sym, ap, _∙_, subst}
-use mathlib.Core.Bool.{true, false, cond, true≢false}
+use mathlib.Core.Bool.{Bool, true, false, cond, true≢false}
 use mathlib.Core.List.{List, [], _∷_}
 use mathlib.Core.Option.{some}
 use native.Mathlib.Omega.{arith}
@@ -9,6 +9,8 @@ use lib.ListN.{length, getD}
 use Rattle.mir.specs.declared.ops.UniOp.{UniOp}
 use Rattle.mir.specs.declared.records.Instruction.{Instruction}
 use Rattle.sheet.specs.declared.setup.Mode.{Mode}
+use Rattle.sheet.specs.Setup.{isMinding}
+use Rattle.float.specs.Word as Word
 use Rattle.sheet.proofs.Ranges.{InRange}
 use Rattle.player_machine.specs.Machine.{Way, going, seeking}
 use Rattle.lowering.specs.Realness.{isRealReg}
@@ -17,7 +19,7 @@ use Rattle.leftovers.proofs.Instructions.{AllIn}
 use Rattle.leftovers.proofs.Sheets.{sound}
 use Rattle.entries.specs.Entries.{left}
 use Rattle.entries.proofs.Entered.{entered}
-use Rattle.meaning.specs.Value.{Value, R, C, isR}
+use Rattle.meaning.specs.Value.{Value, R, C, isR, each, ofOne}
 use Rattle.meaning.specs.Means as Means
 use Rattle.meaning.specs.Means.{Values, put, means, goes, isLabel, walked, stands, halved}
 use Rattle.meaning.specs.Preserved.{valuesOf, Preserves}
@@ -25,9 +27,9 @@ use Rattle.meaning.specs.Settled.{Settled}
 use Rattle.meaning.proofs.Tidied.{is-real, in-at}
 use Rattle.meaning.proofs.Theorem.{preserved}
 
--- an instruction is no such Half where the values are X
-abbrev Unmixing : Instruction → Values → Type 0
-Unmixing i X = (d a : ℕ) → i ≡ Instruction.Uni UniOp.Half d a → isR (X .reg a) ≡ true → isR (X .reg d) ≡ true
+-- but in mode 2, an instruction is no such Half where the values are X
+abbrev Unmixing : Mode → Instruction → Values → Type 0
+Unmixing m i X = isMinding m ≡ false → (d a : ℕ) → i ≡ Instruction.Uni UniOp.Half d a → isR (X .reg a) ≡ true → isR (X .reg d) ≡ true
 
 halved-so : (h h' : ℕ) (z v : Value) → (isR v ≡ true → isR z ≡ true) → halved h z v ≡ halved h' z v
 unfolding halved
@@ -36,9 +38,15 @@ halved-so h h' (C z z') (C x y) t = refl
 halved-so h h' (C z z') (R x) t = absurd (true≢false (sym (t refl)))
 
 module _ (m : Mode) (k : List ℕ) where
-  uni-so : (h h' : ℕ) (op : UniOp) (d a : ℕ) (X : Values) → (op ≡ UniOp.Half → isR (X .reg a) ≡ true → isR (X .reg d) ≡ true)
+  half-so : (q : Bool) (h h' d a : ℕ) (X : Values) → (q ≡ false → isR (X .reg a) ≡ true → isR (X .reg d) ≡ true)
+      → cond q (put d (each Word.half (X .reg a)) X) (put d (halved h (X .reg d) (X .reg a)) X)
+      ≡ cond q (put d (each Word.half (X .reg a)) X) (put d (halved h' (X .reg d) (X .reg a)) X)
+  half-so true h h' d a X t = refl
+  half-so false h h' d a X t = ap (λ v. put d v X) (halved-so h h' (X .reg d) (X .reg a) (t refl))
+
+  uni-so : (h h' : ℕ) (op : UniOp) (d a : ℕ) (X : Values) → (isMinding m ≡ false → op ≡ UniOp.Half → isR (X .reg a) ≡ true → isR (X .reg d) ≡ true)
       → Means.uni m h op d a X ≡ Means.uni m h' op d a X
-  unfolding Means.uni
+  unfolding Means.uni ofOne
   uni-so h h' UniOp.Neg d a X t = refl
   uni-so h h' UniOp.Not d a X t = refl
   uni-so h h' UniOp.Abs d a X t = refl
@@ -52,7 +60,7 @@ module _ (m : Mode) (k : List ℕ) where
   uni-so h h' UniOp.Real d a X t = refl
   uni-so h h' UniOp.Imaginary d a X t = refl
   uni-so h h' UniOp.Conjugate d a X t = refl
-  uni-so h h' UniOp.Half d a X t = ap (λ v. put d v X) (halved-so h h' (X .reg d) (X .reg a) (t refl))
+  uni-so h h' UniOp.Half d a X t = half-so (isMinding m) h h' d a X (λ q. t q refl)
   uni-so h h' UniOp.IsZero d a X t = refl
   uni-so h h' UniOp.IsNotZero d a X t = refl
   uni-so h h' UniOp.Sign d a X t = refl
@@ -60,10 +68,10 @@ module _ (m : Mode) (k : List ℕ) where
   uni-so h h' UniOp.TimesI d a X t = refl
   uni-so h h' UniOp.TimesNegI d a X t = refl
 
-  means-so : (h h' : ℕ) (i : Instruction) (X : Values) → Unmixing i X → means m k h i X ≡ means m k h' i X
+  means-so : (h h' : ℕ) (i : Instruction) (X : Values) → Unmixing m i X → means m k h i X ≡ means m k h' i X
   unfolding means
   means-so h h' Instruction.Nop X t = refl
-  means-so h h' (Instruction.Uni op d a) X t = uni-so h h' op d a X (λ e. t d a (ap (λ op. Instruction.Uni op d a) e))
+  means-so h h' (Instruction.Uni op d a) X t = uni-so h h' op d a X (λ q e. t q d a (ap (λ op. Instruction.Uni op d a) e))
   means-so h h' (Instruction.Bi op d a b) X t = refl
   means-so h h' (Instruction.Mov d a) X t = refl
   means-so h h' (Instruction.Load d p) X t = refl
@@ -78,7 +86,7 @@ module _ (m : Mode) (k : List ℕ) where
   means-so h h' (Instruction.BranchIf c l e) X t = refl
 
   stands-so : (is : List Instruction) (way : Way) (n : ℕ) (h h' : ℕ → ℕ) (X : Values)
-      → ((n : ℕ) (X' : Values) → n < length is → stands m k h way n is X ≡ some X' → Unmixing (getD is n Instruction.Nop) X')
+      → ((n : ℕ) (X' : Values) → n < length is → stands m k h way n is X ≡ some X' → Unmixing m (getD is n Instruction.Nop) X')
       → stands m k h way n is X ≡ stands m k h' way n is X
   unfolding walked
   stands-so [] going zero h h' X t = refl
@@ -107,9 +115,9 @@ settled sheet listing constants σ₀ a h t w j X e =
     v = sound sheet (length listing) (entered sheet listing constants a .accepted) .in-range
 
     unmixing : (n : ℕ) (X' : Values) → n < length (s .instructions) → stands (s .mode) (s .constants) (p .lost) going n (s .instructions) (valuesOf (realAt s 0) σ₀) ≡ some X'
-        → Unmixing (getD (s .instructions) n Instruction.Nop) X'
-    unmixing n X' l e d c f g =
+        → Unmixing (s .mode) (getD (s .instructions) n Instruction.Nop) X'
+    unmixing n X' l e q d c f g =
         let r = p .points n X' e in
         let z = subst (InRange (length (s .constants))) f (in-at (length (s .constants)) (s .instructions) v n l) in
         sym (is-real (isRealReg (realAt s n) d) _ _ (X' .reg d) (r .holds .regs d (z .0)))
-        ∙ t n l d c f (is-real (isRealReg (realAt s n) c) _ _ (X' .reg c) (r .holds .regs c (z .1)) ∙ g)
+        ∙ t q n l d c f (is-real (isRealReg (realAt s n) c) _ _ (X' .reg c) (r .holds .regs c (z .1)) ∙ g)

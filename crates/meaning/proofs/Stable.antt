@@ -12,7 +12,6 @@ use borrow.Author.Tests.{lt-ltb, ne-eqb}
 use Rattle.mir.specs.declared.records.Loc.{Loc}
 use Rattle.mir.specs.Register.{re, im}
 use Rattle.float.specs.Word as Word
-use Rattle.sheet.specs.declared.setup.Mode.{Mode}
 use Rattle.player_machine.specs.Machine.{Store, at, execs, uniWord, binWord, fusedWord, complexWords}
 use Rattle.lowering.specs.declared.realness.Realness.{Realness}
 use Rattle.lowering.specs.Realness.{isRealReg, setReg}
@@ -42,7 +41,7 @@ module _ (k : List ℕ) (i j q : ℕ) (ei : getD k i 0 ≡ MIN_POSITIVE) (ej : g
 
   module _ (d a : ℕ) (hd : d < 32) (ha : a < 32) (X : Values) (σ : Store) (h : Ready X ρ σ) where
     pub recip-stable : let v = C (at σ (re a)) (at σ (im a)) in
-        Ready (put d (inverseIn Mode.Stable v) (recipLeaves Mode.Stable v X)) (setReg ρ d false) (execs k (stableRecipLines d a i j q) σ)
+        Ready (put d (inverseIn true v) (recipLeaves true v X)) (setReg ρ d false) (execs k (stableRecipLines d a i j q) σ)
     unfolding inverseIn recipLeaves stableRecipLines stableDivisorScale stableExponent leaves rename run name re im binWord uniWord fusedWord times inverse reOf imOf
     recip-stable =
         temp-leaf k d a a hd [] tt (stableRecipLines 0 1 i j q) (stableRecipLines d a i j q) refl false X ρ σ h _ _
@@ -166,7 +165,7 @@ module _ (k : List ℕ) (i j q : ℕ) (ei : getD k i 0 ≡ MIN_POSITIVE) (ej : g
 module _ (k : List ℕ) (i j q : ℕ) (ei : getD k i 0 ≡ FLOOR_FINITE) (ej : getD k j 0 ≡ EXP_MASK_FINITE) (eq : getD k q 0 ≡ INFINITY) (ρ : Realness) where
   module _ (d a : ℕ) (hd : d < 32) (ha : a < 32) (X : Values) (σ : Store) (h : Ready X ρ σ) where
     pub abs-stable : let v = C (at σ (re a)) (at σ (im a)) in
-        Ready (put d (modulus Mode.Stable v) (absLeaves Mode.Stable v X)) (setReg ρ d false) (execs k (stableAbsLines d a i j q) σ)
+        Ready (put d (modulus true v) (absLeaves true v X)) (setReg ρ d false) (execs k (stableAbsLines d a i j q) σ)
     unfolding absLeaves stableAbsLines stableExponent leaves rename run name re im binWord uniWord fusedWord modulus
     abs-stable =
         ret-leaf k d a a hd [] tt (stableAbsLines 0 1 i j q) (stableAbsLines d a i j q) refl false X ρ σ h _ _

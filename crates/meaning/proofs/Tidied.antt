@@ -14,6 +14,8 @@ use Rattle.mir.specs.declared.ops.ArithOp.{ArithOp}
 use Rattle.mir.specs.declared.records.Loc.{Loc}
 use Rattle.mir.specs.declared.records.Instruction.{Instruction}
 use Rattle.sheet.specs.declared.setup.Mode.{Mode}
+use Rattle.mir.specs.Operation.{uniNumber}
+use Rattle.mir.specs.Takes.{oneOf}
 use Rattle.sheet.specs.Setup.{isStable}
 use Rattle.sheet.proofs.Ranges.{InRange}
 use Rattle.player_machine.specs.Machine.{Store, branches, Way, going, seeking}
@@ -29,7 +31,7 @@ use Rattle.leftovers.proofs.Sought.{some-inj}
 use Rattle.meaning.specs.Value.{Value, isR, reOf}
 use Rattle.meaning.specs.Means.{Values, row, means, goes, isLabel, walked, stands, standsByRows}
 use Rattle.meaning.specs.Preserved.{valueOf, valuesOf, Holds, Every, Preserves}
-use Rattle.meaning.specs.Tidy.{special, stray, differ, mixed, tidiness, untidy, TidySheet, Counted, TidyPreserves, Tidied}
+use Rattle.meaning.specs.Tidy.{special, stray, differ, tidiness, untidy, TidySheet, Counted, TidyPreserves, Tidied}
 use Rattle.meaning.proofs.Tidying.{Same, RootsOut, TidyAt, tidy-step, row-same, then-same}
 use Rattle.meaning.proofs.Branches.{none≢some}
 use Rattle.meaning.proofs.Theorem.{preserved}
@@ -158,6 +160,11 @@ by-real : (m : Mode) (op : ArithOp) (x y : Bool) → not (isStable m) && (isDivi
 by-real m op x y e f g h =
     not-false y (subst (λ x. x && not y ≡ false) h (subst (λ op. isDivide op && (x && not y) ≡ false) g (subst (λ m. not (isStable m) && (isDivide op && (x && not y)) ≡ false) f e)))
 
+unmixed : (op : UniOp) (x y : Bool) {q : Bool} → q ≡ false → op ≡ UniOp.Half → not q && (oneOf uniNumber op (UniOp.Half ∷ []) && differ x y) ≡ false
+    → differ x y ≡ false
+unmixed op x y q f e =
+    subst (λ op. oneOf uniNumber op (UniOp.Half ∷ []) && differ x y ≡ false) f (subst (λ q. not q && (oneOf uniNumber op (UniOp.Half ∷ []) && differ x y) ≡ false) q e)
+
 module _ (m : Mode) (roots : Bool) (count : ℕ) (X : Values) (ρ : Realness) (σ : Store) (h : Holds 32 Every X ρ σ) where
   real-reg : (r : ℕ) → r < 30 → isRealReg ρ r ≡ isR (X .reg r)
   real-reg r l = is-real (isRealReg ρ r) _ _ (X .reg r) (h .regs r (omega arith))
@@ -171,9 +178,9 @@ module _ (m : Mode) (roots : Bool) (count : ℕ) (X : Values) (ρ : Realness) (�
         g .0,
         g .1 .0,
         roots-out roots op (t .1 .0),
-        λ f.
+        λ q f.
             sym (real-reg d (g .0))
-            ∙ alike-by (isRealReg ρ d) (isRealReg ρ a) (subst (λ op. mixed op (isRealReg ρ d) (isRealReg ρ a) ≡ false) f (t .1 .1 .0))
+            ∙ alike-by (isRealReg ρ d) (isRealReg ρ a) (unmixed op (isRealReg ρ d) (isRealReg ρ a) q f (t .1 .1 .0))
             ∙ real-reg a (g .1 .0),
       )
   tidy-as (Instruction.Bi op d a b) v e =

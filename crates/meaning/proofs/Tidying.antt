@@ -15,9 +15,10 @@ use Rattle.mir.specs.declared.ops.ArithOp.{ArithOp}
 use Rattle.mir.specs.declared.records.Loc.{Loc}
 use Rattle.mir.specs.declared.records.Instruction.{Instruction}
 use Rattle.sheet.specs.declared.setup.Mode.{Mode}
+use Rattle.sheet.specs.Setup.{isStable, isMinding}
 use Rattle.float.specs.Word as Word
 use Rattle.player_machine.specs.Machine.{place}
-use Rattle.meaning.specs.Value.{Value, R, C, isR, reOf, imOf, wide, each, plus, minus, times, fusedSquares, over, quotient, quotientIn, chosen, fused}
+use Rattle.meaning.specs.Value.{Value, R, C, isR, reOf, imOf, wide, each, plus, minus, times, fusedSquares, over, quotient, quotientIn, chosen, fused, scale}
 use Rattle.meaning.specs.Value.{ofOne, ofTwo}
 use Rattle.meaning.specs.Means as Means
 use Rattle.meaning.specs.Means.{Values, put, putPlace, widen, uniWidens, binWidens, uniRow, binRow, asBin, row, means, halved, zeroed, leave, leaveReal, absLeaves, recipLeaves, rootLeaves, realRootLeaves, divideLeaves, stableDivide}
@@ -35,7 +36,7 @@ RootsOut P op = (op ≡ UniOp.Root → P (Loc.Stack 2) → ⊥) × (op ≡ UniOp
 -- an instruction is tidy where the values are X
 abbrev pub TidyAt : Mode → (Loc → Type 0) → Instruction → Values → Type 0
 TidyAt m P Instruction.Nop X = Unit {0}
-TidyAt m P (Instruction.Uni op d a) X = (d < 30) × (a < 30) × RootsOut P op × (op ≡ UniOp.Half → isR (X .reg d) ≡ isR (X .reg a))
+TidyAt m P (Instruction.Uni op d a) X = (d < 30) × (a < 30) × RootsOut P op × (isMinding m ≡ false → op ≡ UniOp.Half → isR (X .reg d) ≡ isR (X .reg a))
 TidyAt m P (Instruction.Bi op d a b) X = (d < 30) × (a < 30) × (b < 30)
 TidyAt m P (Instruction.Mov d a) X = (d < 30) × (a < 30)
 TidyAt m P (Instruction.Load d p) X = (d < 30) × P p
@@ -81,9 +82,14 @@ module _ (P : Loc → Type 0) where
         subst (λ q. Same P (cond q (put 31 (Means.intoTemp n e) X) (put d (quotient n e) (leave 31 (divideLeaves (eqb d 30) n e) X))) (put d (quotient n e) X))
         (sym (ne-eqb d 31 (omega arith))) (same-put d refl (temp-out X _))
 
+    minding : (n e : Value) → Same P (Means.mindingDivide n e d X) (put d (quotient n e) X)
+    minding n e =
+        subst (λ q. Same P (cond q (put 31 (quotient n e) (put 30 (quotient n e) X)) (stableDivide n e d X)) (put d (quotient n e) X))
+        (sym (ne-eqb d 31 (omega arith))) (scaled n e)
+
     -- what a Divide reads in a and b are v and w; b may be Temp
     divided : (m : Mode) (v w : Value) → (m ≡ Mode.Plain → isR v ≡ true → isR w ≡ false → (X .reg a ≡ v) × (X .reg b ≡ w) × (b < 30))
-        → Same P (Means.divideBy m v w d a b X) (put d (quotientIn m v w) X)
+        → Same P (Means.divideBy m v w d a b X) (put d (quotientIn (isStable m) v w) X)
     unfolding Means.divideBy quotientIn quotient reOf
     divided m v (R u) h = alike _
     divided Mode.Plain (C x y) (C u v) h = alike _
@@ -95,21 +101,22 @@ module _ (P : Loc → Type 0) where
         let pb : reOf (X' .reg b) ≡ u = ap reOf (put-other X 31 _ b (omega arith) ∙ t .1) in
         same-put d (λ i. over (Word.times (pa i) (pb i)) (Word.neg (Word.times (pa i) v)) (fusedSquares u v)) (temp-out X _)
     divided Mode.Stable v (C u w) h = scaled _ _
+    divided Mode.Minding v (C u w) h = minding (times v (R (scale u w))) (times (C u w) (R (scale u w)))
 
   -- ---- one operand
 
   module _ (X : Values) (d a : ℕ) (hd : d < 30) (ha : a < 30) where
-    abs-out : (m : Mode) (v : Value) → Same P (absLeaves m v X) X
+    abs-out : (m : Bool) (v : Value) → Same P (absLeaves m v X) X
     unfolding absLeaves
     abs-out m (R x) = alike _
-    abs-out Mode.Plain (C x y) = alike _
-    abs-out Mode.Stable (C x y) = ret-out X _
+    abs-out false (C x y) = alike _
+    abs-out true (C x y) = ret-out X _
 
-    recip-out : (m : Mode) (v : Value) → Same P (recipLeaves m v X) X
+    recip-out : (m : Bool) (v : Value) → Same P (recipLeaves m v X) X
     unfolding recipLeaves
     recip-out m (R x) = alike _
-    recip-out Mode.Plain (C x y) = alike _
-    recip-out Mode.Stable (C x y) = temp-out X _
+    recip-out false (C x y) = alike _
+    recip-out true (C x y) = temp-out X _
 
     two-out : (v : Value) → (P (Loc.Stack 2) → ⊥) → (Y : Values) → Same P (putPlace (Loc.Stack 2) v Y) Y
     two-out v n Y = record { regs = λ r h. refl; places = λ p h. ap (λ q. cond q v (Y .place p)) (other p h) }
@@ -122,7 +129,7 @@ module _ (P : Loc → Type 0) where
         other (Loc.Mem i) h = ne-eqb (place (Loc.Mem i)) 70 (omega arith)
         other (Loc.Param i) h = ne-eqb (place (Loc.Param i)) 70 (omega arith)
 
-    root-out : (m : Mode) (v : Value) (Y : Values) → (P (Loc.Stack 2) → ⊥) → Same P (rootLeaves m v Y) Y
+    root-out : (m : Bool) (v : Value) (Y : Values) → (P (Loc.Stack 2) → ⊥) → Same P (rootLeaves m v Y) Y
     root-out m v Y n = then-same (ret-out _ _) (then-same (temp-out _ _) (two-out _ n Y))
 
     -- of a complex value it is wide already
@@ -134,7 +141,7 @@ module _ (P : Loc → Type 0) where
         go r (yes q) = put-here X a (wide (X .reg a)) r q ∙ ap wide e ∙ sym (ap (X .reg) q ∙ e)
         go r (no q) = put-other X a (wide (X .reg a)) r q
 
-    real-root-out : (m : Mode) → (P (Loc.Stack 2) → ⊥) → (v : Value) → X .reg a ≡ v → Same P (realRootLeaves m v a X) X
+    real-root-out : (m : Bool) → (P (Loc.Stack 2) → ⊥) → (v : Value) → X .reg a ≡ v → Same P (realRootLeaves m v a X) X
     unfolding realRootLeaves
     real-root-out m n (R x) e = alike _
     real-root-out m n (C x y) e = then-same (root-out m (C x y) (widen a X) n) (wide-same x y e)
@@ -152,15 +159,21 @@ module _ (P : Loc → Type 0) where
     half-row h (R z) (C x y) e = absurd (true≢false e)
     half-row h (C z z') (R x) e = absurd (true≢false (sym e))
 
-    uni-row : (m : Mode) (h : ℕ) (op : UniOp) → RootsOut P op → (op ≡ UniOp.Half → isR (X .reg d) ≡ isR (X .reg a))
+    -- in mode 2 it is its row
+    half-by : (q : Bool) (h : ℕ) → (q ≡ false → isR (X .reg d) ≡ isR (X .reg a))
+        → Same P (cond q (put d (each Word.half (X .reg a)) X) (put d (halved h (X .reg d) (X .reg a)) X)) (put d (each Word.half (X .reg a)) X)
+    half-by true h t = alike _
+    half-by false h t = same-put d (half-row h (X .reg d) (X .reg a) (t refl)) (alike X)
+
+    uni-row : (m : Mode) (h : ℕ) (op : UniOp) → RootsOut P op → (isMinding m ≡ false → op ≡ UniOp.Half → isR (X .reg d) ≡ isR (X .reg a))
         → Same P (Means.uni m h op d a X) (uniRow m op d a X)
     unfolding Means.uni ofOne
     uni-row m h UniOp.Neg n t = alike _
     uni-row m h UniOp.Not n t = alike _
-    uni-row m h UniOp.Abs n t = same-put d refl (abs-out m (X .reg a))
-    uni-row m h UniOp.Root n t = same-put d refl (root-out m (X .reg a) (widen a X) (n .0 refl))
-    uni-row m h UniOp.RealRoot n t = same-put d refl (real-root-out m (n .1 refl) (X .reg a) refl)
-    uni-row m h UniOp.Recip n t = same-put d refl (recip-out m (X .reg a))
+    uni-row m h UniOp.Abs n t = same-put d refl (abs-out (isStable m) (X .reg a))
+    uni-row m h UniOp.Root n t = same-put d refl (root-out (isStable m) (X .reg a) (widen a X) (n .0 refl))
+    uni-row m h UniOp.RealRoot n t = same-put d refl (real-root-out (isStable m) (n .1 refl) (X .reg a) refl)
+    uni-row m h UniOp.Recip n t = same-put d refl (recip-out (isStable m) (X .reg a))
     uni-row m h UniOp.Round n t = alike _
     uni-row m h UniOp.Floor n t = alike _
     uni-row m h UniOp.Ceiling n t = alike _
@@ -168,7 +181,7 @@ module _ (P : Loc → Type 0) where
     uni-row m h UniOp.Real n t = alike _
     uni-row m h UniOp.Imaginary n t = alike _
     uni-row m h UniOp.Conjugate n t = alike _
-    uni-row m h UniOp.Half n t = same-put d (half-row h (X .reg d) (X .reg a) (t refl)) (alike X)
+    uni-row m h UniOp.Half n t = half-by (isMinding m) h (λ q. t q refl)
     uni-row m h UniOp.IsZero n t = zero-row UniOp.IsZero m
     uni-row m h UniOp.IsNotZero n t = zero-row UniOp.IsNotZero m
     uni-row m h UniOp.Sign n t = alike _
@@ -209,7 +222,7 @@ module _ (P : Loc → Type 0) where
       let e : put 31 w X .reg a ≡ X .reg a = put-other X 31 w a (omega arith) in
       then-same
       (divided (put 31 w X) d a 31 hd ha m (put 31 w X .reg a) w (λ p q r. absurd (true≢false (sym (t p refl (ap isR (sym e) ∙ q)) ∙ r))))
-      (same-put d (ap (λ v. quotientIn m v w) e) (temp-out X w))
+      (same-put d (ap (λ v. quotientIn (isStable m) v w) e) (temp-out X w))
 
   -- one instruction
   pub tidy-step : (m : Mode) (k : List ℕ) (h : ℕ) (i : Instruction) (X : Values) → TidyAt m P i X → Same P (means m k h i X) (row m k i X)

@@ -204,6 +204,12 @@ cases =
     ∷ two Mode.Plain BinOp.Xor (C 0x0000_ffff_0000_ffff 0x00ff_00ff_00ff_00ff) (C 0x00ff_00ff_00ff_00ff 0x00ff_00ff_00ff_00ff) (C 0x00ff_ff00_00ff_ff00 0)
     -- 3 + 4i of two real halves
     ∷ two Mode.Plain BinOp.Complex (C 0x4008_0000_0000_0000 0x4022_0000_0000_0000) (C 0x4010_0000_0000_0000 0x4022_0000_0000_0000) (C 0x4008_0000_0000_0000 0x4010_0000_0000_0000)
+    -- mode 2 gives stable mode's values: Recip and Abs as scaled above, (3 + 4i) / (1 + 2i), and the halves of 3 and 3 + 5i
+    ∷ one Mode.Minding UniOp.Recip (C 0 0x6bb0_0000_0000_0000) (C 0 0x9430_0000_0000_0000)
+    ∷ one Mode.Minding UniOp.Abs (C 0x6bc8_0000_0000_0000 0x6bd0_0000_0000_0000) (C 0x6bd4_0000_0000_0000 0)
+    ∷ two Mode.Minding BinOp.Divide (C 0x4008_0000_0000_0000 0x4010_0000_0000_0000) (C 0x3ff0_0000_0000_0000 0x4000_0000_0000_0000) (C 0x4001_9999_9999_999a 0xbfd9_9999_9999_999a)
+    ∷ one Mode.Minding UniOp.Half (R 0x4008_0000_0000_0000) (R 0x3ff8_0000_0000_0000)
+    ∷ one Mode.Minding UniOp.Half (C 0x4008_0000_0000_0000 0x4014_0000_0000_0000) (C 0x3ff8_0000_0000_0000 0x4004_0000_0000_0000)
     -- 6 + 2, 6 - 2, 2 - 6, -(6 + 2)
     ∷ three FusedOp.MulAdd (R 0x4018_0000_0000_0000) (R 0x4000_0000_0000_0000) (R 0x4020_0000_0000_0000)
     ∷ three FusedOp.MulSub (R 0x4018_0000_0000_0000) (R 0x4000_0000_0000_0000) (R 0x4010_0000_0000_0000)

@@ -1,5 +1,6 @@
--- Where an instruction does not do its row, or does more (docs/DIFFERENCES.md lists the forms). By the theorem `preserved` what is said to
--- come out is what the listing of the Rust's methods leaves in the store. Each value is typed, and not computed.
+-- Where an instruction does not do its row, or does more (docs/DIFFERENCES.md lists the forms), and what mode 2 mends of it. By the theorem
+-- `preserved` what is said to come out is what the listing of the Rust's methods, or of mode 2, leaves in the store. Each value is typed, and
+-- not computed.
 use Prim.Native.Nat.{ℕ}
 use mathlib.Core.Path.{_≡_, refl}
 use mathlib.Core.List.{List, [], _∷_, map}
@@ -106,14 +107,25 @@ forms =
     -- stable Recip of a complex register, and plain Divide of a real by a complex one, which leaves the real half alone
     ∷ form Mode.Stable ((0, C one one) ∷ []) (Instruction.Uni UniOp.Recip 1 0) (register 31) (C one minusOne) (C six six)
     ∷ form Mode.Plain ((0, R six) ∷ (1, C one one) ∷ []) (Instruction.Bi BinOp.Divide 2 0 1) (register 31) (C two six) (C six six)
-    -- 9: what is left in Ret, by Root and RealRoot of a complex register, by Fused, and in its real half by stable Abs of a complex register
+    -- 9: what is left in Ret, by Root and RealRoot of a complex register, by Fused, in its real half by stable Abs of a complex register, and
+    -- by mode 2's Divide by a complex register into Temp
     ∷ form Mode.Plain ((0, C 0 two) ∷ []) (Instruction.Uni UniOp.Root 1 0) (register 30) (C one one) (C six six)
     ∷ form Mode.Plain ((0, C 0 two) ∷ []) (Instruction.Uni UniOp.RealRoot 1 0) (register 30) (C one one) (C six six)
     ∷ form Mode.Plain ((0, R two) ∷ (1, R three) ∷ []) (Instruction.Fused FusedOp.MulAdd 3 0 1 2) (register 30) (R six) (C six six)
     ∷ form Mode.Stable ((0, C three 0x4010_0000_0000_0000) ∷ []) (Instruction.Uni UniOp.Abs 1 0) (register 30) (C 0x4004_0000_0000_0000 six) (C six six)
+    ∷ form Mode.Minding ((1, C one one) ∷ []) (Instruction.Bi BinOp.Divide 31 0 1) (register 30) (C six 0) (C six six)
     -- 10: what is left in the real half of Stack 2, by Root and RealRoot of a complex register
     ∷ form Mode.Plain ((0, C 0 two) ∷ []) (Instruction.Uni UniOp.Root 1 0) stack2 (C 0 one) (C one one)
     ∷ form Mode.Stable ((0, C two 0) ∷ []) (Instruction.Uni UniOp.RealRoot 1 0) stack2 (C ones one) (C one one)
+    ∷ []
+
+-- In mode 2 the forms 3, 6 and 7 do their rows.
+unfoldable pub mended : List Form
+mended =
+    form Mode.Minding ((1, C one one) ∷ []) (Instruction.Bi BinOp.Divide 31 0 1) (register 31) (C six 0) (C six 0)
+    ∷ form Mode.Minding ((0, R six) ∷ (1, C one one) ∷ []) (Instruction.Bi BinOp.Divide 31 0 1) (register 31) (C three minusThree) (C three minusThree)
+    ∷ form Mode.Minding ((1, R one) ∷ []) (Instruction.Uni UniOp.Half 1 0) (register 1) (C three three) (C three three)
+    ∷ form Mode.Minding ((0, R six) ∷ []) (Instruction.Uni UniOp.Half 1 0) (register 1) (R three) (R three)
     ∷ []
 
 -- what comes out and what the row would give, by the definitions and as typed
@@ -127,3 +139,7 @@ defined f = (
 all-deviate : map defined forms ≡ map (λ (f : Form). (f .comes, f .wanted)) forms
 unfolding forms defined before seen means row Means.uni Means.divideBy Means.halves Means.realHalf Means.absLeaves Means.recipLeaves Means.realRootLeaves Means.halved Means.divideLeaves Means.intoTemp Value.ofOne Value.ofTwo Value.fused Value.reOf Value.imOf Value.each Value.plus Value.minus Value.times Value.quotient Value.bits Value.inverse Value.quotientIn Value.inverseIn Value.modulus Value.larger Value.realRootIn ofBits toBits isNan add sub mul div lt eq ne squareRoot fusedMultiplyAdd
 all-deviate = refl
+
+all-mended : map defined mended ≡ map (λ (f : Form). (f .comes, f .wanted)) mended
+unfolding mended defined before seen means row Means.uni Means.divideBy Means.halves Means.realHalf Means.absLeaves Means.recipLeaves Means.realRootLeaves Means.halved Means.divideLeaves Means.intoTemp Value.ofOne Value.ofTwo Value.fused Value.reOf Value.imOf Value.each Value.plus Value.minus Value.times Value.quotient Value.bits Value.inverse Value.quotientIn Value.inverseIn Value.modulus Value.larger Value.realRootIn ofBits toBits isNan add sub mul div lt eq ne squareRoot fusedMultiplyAdd
+all-mended = refl

@@ -14,6 +14,7 @@ use Rattle.mir.specs.Operation.{uniNumber, binNumber}
 use Rattle.mir.specs.Takes.{oneOf}
 use Rattle.mir.specs.Register.{Ret, Temp}
 use Rattle.sheet.specs.declared.setup.Mode.{Mode}
+use Rattle.sheet.specs.Setup.{isStable, isMinding}
 use Rattle.float.specs.Word as Word
 use Rattle.player_machine.specs.Machine.{place, branches, Way, going, seeking}
 use Rattle.lowering.specs.Labels as Labels
@@ -97,29 +98,30 @@ abbrev pub leaveReal : ℕ → ℕ → Values → Values
 leaveReal r u X = put r (realHalf (X .reg r) u) X
 
 -- stable Abs of a complex value leaves the root of the scaled squares in Ret
-unfoldable pub absLeaves : Mode → Value → Values → Values
-absLeaves m (R x) X = X
-absLeaves Mode.Plain (C x y) X = X
-absLeaves Mode.Stable (C x y) X = leaveReal Ret (scaledSize x y) X
+unfoldable pub absLeaves : Bool → Value → Values → Values
+absLeaves stable (R x) X = X
+absLeaves false (C x y) X = X
+absLeaves true (C x y) X = leaveReal Ret (scaledSize x y) X
 
 -- stable Recip of a complex value leaves the inverse of the scaled value in Temp
-unfoldable pub recipLeaves : Mode → Value → Values → Values
-recipLeaves m (R x) X = X
-recipLeaves Mode.Plain (C x y) X = X
-recipLeaves Mode.Stable (C x y) X = leave Temp (inverse (times (C x y) (R (scale x y)))) X
+unfoldable pub recipLeaves : Bool → Value → Values → Values
+recipLeaves stable (R x) X = X
+recipLeaves false (C x y) X = X
+recipLeaves true (C x y) X = leave Temp (inverse (times (C x y) (R (scale x y)))) X
 
 -- Root of v leaves whether its real half is above 0 in Stack 2, one of the roots in Temp, and the root itself in Ret
-abbrev pub rootLeaves : Mode → Value → Values → Values
-rootLeaves m v X =
-    let w = oneRoot m (reOf v) (imOf v) in
+abbrev pub rootLeaves : Bool → Value → Values → Values
+rootLeaves stable v X =
+    let w = oneRoot stable (reOf v) (imOf v) in
     put Ret (turned w) (put Temp w (putPlace (Loc.Stack 2) (realHalf (X .place (Loc.Stack 2)) (Word.littleThan 0 (reOf v))) X))
 
 -- so does RealRoot, but of a real value
-unfoldable pub realRootLeaves : Mode → Value → ℕ → Values → Values
-realRootLeaves m (R x) a X = X
-realRootLeaves m (C x y) a X = rootLeaves m (C x y) (widen a X)
+unfoldable pub realRootLeaves : Bool → Value → ℕ → Values → Values
+realRootLeaves stable (R x) a X = X
+realRootLeaves stable (C x y) a X = rootLeaves stable (C x y) (widen a X)
 
--- ---- Half: the value that stood in d says how many halves are made. h is the word that comes of a half that a real operand has not.
+-- ---- Half, but in mode 2, where it is its row: the value that stood in d says how many halves are made. h is the word that comes of a half
+-- that a real operand has not.
 
 unfoldable pub halved : ℕ → Value → Value → Value
 halved h (R z) a = R (Word.half (reOf a))
@@ -144,7 +146,7 @@ divideLeaves true n e = e
 divideLeaves false (C x y) e = C x y
 divideLeaves false (R x) e = C (Word.times x (reOf e)) (Word.neg (Word.times x (imOf e)))
 
--- into Temp the dividend is overwritten before it is read: what comes out does not depend on it
+-- into Temp, in mode 1, the dividend is overwritten before it is read: what comes out does not depend on it
 unfoldable pub intoTemp : Value → Value → Value
 intoTemp (C x y) e = quotient e e
 intoTemp (R x) e =
@@ -156,12 +158,17 @@ abbrev pub stableDivide : Value → Value → ℕ → Values → Values
 stableDivide n e d X =
     cond (eqb d Temp) (put Temp (intoTemp n e) X) (put d (quotient n e) (leave Temp (divideLeaves (eqb d Ret) n e) X))
 
+-- mode 2: into Temp it is its row, and the quotient is left in Ret too; into another register as in stable mode
+abbrev pub mindingDivide : Value → Value → ℕ → Values → Values
+mindingDivide n e d X = cond (eqb d Temp) (put Temp (quotient n e) (put Ret (quotient n e) X)) (stableDivide n e d X)
+
 -- by the values of a and b; by a real value, and plain of two complex ones, it is its row
 unfoldable pub divideBy : Mode → Value → Value → ℕ → ℕ → ℕ → Values → Values
 divideBy m v (R u) d a b X = put d (quotient v (R u)) X
 divideBy Mode.Plain (R x) (C u w) d a b X = plainMixed u w d a b X
 divideBy Mode.Plain (C x y) (C u w) d a b X = put d (quotient (C x y) (C u w)) X
 divideBy Mode.Stable v (C u w) d a b X = let k = R (scale u w) in stableDivide (times v k) (times (C u w) k) d X
+divideBy Mode.Minding v (C u w) d a b X = let k = R (scale u w) in mindingDivide (times v k) (times (C u w) k) d X
 
 abbrev pub divide : Mode → ℕ → ℕ → ℕ → Values → Values
 divide m d a b X = divideBy m (X .reg a) (X .reg b) d a b X
@@ -175,10 +182,10 @@ zeroed X = put Temp (C 0 0) X
 unfoldable pub uni : Mode → ℕ → UniOp → ℕ → ℕ → Values → Values
 uni m h UniOp.Neg d a X = uniRow m UniOp.Neg d a X
 uni m h UniOp.Not d a X = uniRow m UniOp.Not d a X
-uni m h UniOp.Abs d a X = put d (ofOne m UniOp.Abs (X .reg a)) (absLeaves m (X .reg a) X)
-uni m h UniOp.Root d a X = put d (ofOne m UniOp.Root (X .reg a)) (rootLeaves m (X .reg a) (widen a X))
-uni m h UniOp.RealRoot d a X = put d (ofOne m UniOp.RealRoot (X .reg a)) (realRootLeaves m (X .reg a) a X)
-uni m h UniOp.Recip d a X = put d (ofOne m UniOp.Recip (X .reg a)) (recipLeaves m (X .reg a) X)
+uni m h UniOp.Abs d a X = put d (ofOne m UniOp.Abs (X .reg a)) (absLeaves (isStable m) (X .reg a) X)
+uni m h UniOp.Root d a X = put d (ofOne m UniOp.Root (X .reg a)) (rootLeaves (isStable m) (X .reg a) (widen a X))
+uni m h UniOp.RealRoot d a X = put d (ofOne m UniOp.RealRoot (X .reg a)) (realRootLeaves (isStable m) (X .reg a) a X)
+uni m h UniOp.Recip d a X = put d (ofOne m UniOp.Recip (X .reg a)) (recipLeaves (isStable m) (X .reg a) X)
 uni m h UniOp.Round d a X = uniRow m UniOp.Round d a X
 uni m h UniOp.Floor d a X = uniRow m UniOp.Floor d a X
 uni m h UniOp.Ceiling d a X = uniRow m UniOp.Ceiling d a X
@@ -186,7 +193,7 @@ uni m h UniOp.Trunc d a X = uniRow m UniOp.Trunc d a X
 uni m h UniOp.Real d a X = uniRow m UniOp.Real d a X
 uni m h UniOp.Imaginary d a X = uniRow m UniOp.Imaginary d a X
 uni m h UniOp.Conjugate d a X = uniRow m UniOp.Conjugate d a X
-uni m h UniOp.Half d a X = put d (halved h (X .reg d) (X .reg a)) X
+uni m h UniOp.Half d a X = cond (isMinding m) (uniRow m UniOp.Half d a X) (put d (halved h (X .reg d) (X .reg a)) X)
 uni m h UniOp.IsZero d a X = uniRow m UniOp.IsZero d a (zeroed X)
 uni m h UniOp.IsNotZero d a X = uniRow m UniOp.IsNotZero d a (zeroed X)
 uni m h UniOp.Sign d a X = uniRow m UniOp.Sign d a X

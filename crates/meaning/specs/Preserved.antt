@@ -52,7 +52,8 @@ pub record StandsWith (n : ℕ) (P : Loc → Type 0) (l : Lowered) (σ₀ : Stor
 
 -- Wherever the sheet stands, the play of its listing stands, with the words of every register and place; so does it end.
 pub record Preserves (l : Lowered) (σ₀ : Store) : Type 0 where
-  -- what each Half of a real register into a complex one takes for an imaginary half: the one word that the meaning leaves open
+  -- what each Half of a real register into a complex one takes for an imaginary half: the one word that the meaning leaves open, and in mode
+  -- 2 none is
   pub lost : ℕ → ℕ
   pub points : (j : ℕ) (X : Values) → meaning (l .sheet) lost σ₀ j ≡ some X → StandsWith 32 Every l σ₀ j X
   pub last : Values

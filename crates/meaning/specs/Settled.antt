@@ -1,12 +1,14 @@
--- Where no Half of a real register into a complex one stands, nothing is left open: the meaning holds whatever such a Half would take.
+-- In mode 2, and where no Half of a real register into a complex one stands, nothing is left open: the meaning holds whatever such a Half
+-- would take.
 use Prim.Native.Nat.{ℕ, _<_}
 use mathlib.Core.Path.{_≡_}
-use mathlib.Core.Bool.{true}
+use mathlib.Core.Bool.{true, false}
 use mathlib.Core.List.{List}
 use mathlib.Core.Option.{some}
 use lib.ListN.{length, getD}
 use Rattle.mir.specs.declared.ops.UniOp.{UniOp}
 use Rattle.mir.specs.declared.records.Instruction.{Instruction}
+use Rattle.sheet.specs.Setup.{isMinding}
 use Rattle.player_machine.specs.Machine.{Store}
 use Rattle.lowering.specs.Realness.{isRealReg}
 use Rattle.complexify.specs.Entry.{answer}
@@ -15,10 +17,10 @@ use Rattle.entries.specs.Entries.{left}
 use Rattle.meaning.specs.Means.{Values}
 use Rattle.meaning.specs.Preserved.{meaning, Every, StandsWith}
 
--- each Half of a register recorded as real goes into one recorded as real
+-- the mode is 2, or each Half of a register recorded as real goes into one recorded as real
 abbrev pub Unmixed : Sheet → Type 0
 Unmixed s =
-    (j : ℕ) → j < length (s .instructions) → (d a : ℕ) → getD (s .instructions) j Instruction.Nop ≡ Instruction.Uni UniOp.Half d a
+    isMinding (s .mode) ≡ false → (j : ℕ) → j < length (s .instructions) → (d a : ℕ) → getD (s .instructions) j Instruction.Nop ≡ Instruction.Uni UniOp.Half d a
     → isRealReg (realAt s j) a ≡ true → isRealReg (realAt s j) d ≡ true
 
 -- (theorem `settled`)

@@ -14,7 +14,7 @@ use Rattle.mir.specs.Operation.{uniNumber}
 use Rattle.mir.specs.Takes.{oneOf}
 use Rattle.mir.specs.Place.{index}
 use Rattle.sheet.specs.declared.setup.Mode.{Mode}
-use Rattle.sheet.specs.Setup.{isStable}
+use Rattle.sheet.specs.Setup.{isStable, isMinding}
 use Rattle.player_machine.specs.Machine.{Store, place, going}
 use Rattle.lowering.specs.declared.realness.Realness.{Realness}
 use Rattle.lowering.specs.Realness.{isRealReg, isRealLoc}
@@ -40,19 +40,19 @@ stray roots op = not roots && oneOf uniNumber op (UniOp.Root ∷ UniOp.RealRoot 
 abbrev pub isStack2 : Loc → Bool
 isStack2 p = eqb (place p) (place (Loc.Stack 2))
 
--- 3: a Half between a real and a complex register
+-- 3: a Half between a real and a complex register, but in mode 2
 abbrev pub differ : Bool → Bool → Bool
 differ true x = not x
 differ false x = x
 
-abbrev pub mixed : UniOp → Bool → Bool → Bool
-mixed op d a = oneOf uniNumber op (UniOp.Half ∷ []) && differ d a
+abbrev pub mixed : Mode → UniOp → Bool → Bool → Bool
+mixed m op d a = not (isMinding m) && (oneOf uniNumber op (UniOp.Half ∷ []) && differ d a)
 
 -- The tests of an instruction, each with its number. 4: in plain mode, a LoadMath that divides a real register by a complex place.
 unfoldable pub tidiness : Mode → Bool → Realness → Instruction → List (Bool × ℕ)
 tidiness m roots ρ Instruction.Nop = []
 tidiness m roots ρ (Instruction.Uni op d a) =
-    (special (d ∷ a ∷ []), 1) ∷ (stray roots op, 2) ∷ (mixed op (isRealReg ρ d) (isRealReg ρ a), 3) ∷ []
+    (special (d ∷ a ∷ []), 1) ∷ (stray roots op, 2) ∷ (mixed m op (isRealReg ρ d) (isRealReg ρ a), 3) ∷ []
 tidiness m roots ρ (Instruction.Bi op d a b) = (special (d ∷ a ∷ b ∷ []), 1) ∷ []
 tidiness m roots ρ (Instruction.Mov d a) = (special (d ∷ a ∷ []), 1) ∷ []
 tidiness m roots ρ (Instruction.Load d p) = (special (d ∷ []), 1) ∷ (roots && isStack2 p, 2) ∷ []

@@ -7,6 +7,7 @@ use Rattle.mir.specs.declared.ops.UniOp.{UniOp}
 use Rattle.mir.specs.declared.ops.BinOp.{BinOp}
 use Rattle.mir.specs.declared.ops.FusedOp.{FusedOp}
 use Rattle.sheet.specs.declared.setup.Mode.{Mode}
+use Rattle.sheet.specs.Setup.{isStable}
 use Rattle.float.specs.Word as Word
 
 -- a real number, one word; or a complex one, its real half and its imaginary half
@@ -146,26 +147,26 @@ power x y = Word.and (Word.plus (halfSize x y) 0x0020_0000_0000_0000) 0x7fe0_000
 abbrev pub oneBy : ℕ → ℕ
 oneBy p = Word.half (Word.xor p INFINITY)
 
--- Divide in each mode: by a complex divisor, stable scales both operands by its factor
-unfoldable pub quotientIn : Mode → Value → Value → Value
-quotientIn m v (R u) = quotient v (R u)
-quotientIn Mode.Plain v (C u w) = quotient v (C u w)
-quotientIn Mode.Stable v (C u w) = let k = R (scale u w) in quotient (times v k) (times (C u w) k)
+-- Divide, by whether the mode is stable (modes 1 and 2): by a complex divisor, stable scales both operands by its factor
+unfoldable pub quotientIn : Bool → Value → Value → Value
+quotientIn stable v (R u) = quotient v (R u)
+quotientIn false v (C u w) = quotient v (C u w)
+quotientIn true v (C u w) = let k = R (scale u w) in quotient (times v k) (times (C u w) k)
 
--- Recip in each mode: stable scales before and after
-unfoldable pub inverseIn : Mode → Value → Value
-inverseIn m (R x) = inverse (R x)
-inverseIn Mode.Plain (C x y) = inverse (C x y)
-inverseIn Mode.Stable (C x y) = let k = R (scale x y) in times (inverse (times (C x y) k)) k
+-- Recip: stable scales before and after
+unfoldable pub inverseIn : Bool → Value → Value
+inverseIn stable (R x) = inverse (R x)
+inverseIn false (C x y) = inverse (C x y)
+inverseIn true (C x y) = let k = R (scale x y) in times (inverse (times (C x y) k)) k
 
--- Abs in each mode: stable scales by one over a power of two, and by the power after the root
+-- Abs: stable scales by one over a power of two, and by the power after the root
 abbrev pub scaledSize : ℕ → ℕ → ℕ
 scaledSize x y = let k = oneBy (power x y) in Word.root (squares (Word.times x k) (Word.times y k))
 
-unfoldable pub modulus : Mode → Value → Value
-modulus m (R x) = R (Word.abs x)
-modulus Mode.Plain (C x y) = C (Word.root (squares x y)) 0
-modulus Mode.Stable (C x y) = C (Word.times (scaledSize x y) (power x y)) 0
+unfoldable pub modulus : Bool → Value → Value
+modulus stable (R x) = R (Word.abs x)
+modulus false (C x y) = C (Word.root (squares x y)) 0
+modulus true (C x y) = C (Word.times (scaledSize x y) (power x y)) 0
 
 -- ---- Root of z = x + iy
 
@@ -173,9 +174,9 @@ modulus Mode.Stable (C x y) = C (Word.times (scaledSize x y) (power x y)) 0
 abbrev pub largerPlain : ℕ → ℕ → ℕ
 largerPlain x y = Word.root (Word.half (Word.plus (Word.root (fusedSquares x y)) (Word.abs x)))
 
-unfoldable pub larger : Mode → ℕ → ℕ → ℕ
-larger Mode.Plain x y = largerPlain x y
-larger Mode.Stable x y =
+unfoldable pub larger : Bool → ℕ → ℕ → ℕ
+larger false x y = largerPlain x y
+larger true x y =
     let r = Word.and (Word.root (power x y)) 0x7fe0_0000_0000_0000 in
     let k = oneBy (Word.times r r) in
     Word.times (largerPlain (Word.times x k) (Word.times y k)) r
@@ -185,9 +186,9 @@ abbrev pub smaller : ℕ → ℕ → ℕ
 smaller y t = let s = Word.half (Word.divide y t) in Word.and s (Word.equal s s)
 
 -- one of the two roots: the larger half is the real one where x is above 0
-abbrev pub oneRoot : Mode → ℕ → ℕ → Value
-oneRoot m x y =
-    let t = larger m x y in
+abbrev pub oneRoot : Bool → ℕ → ℕ → Value
+oneRoot stable x y =
+    let t = larger stable x y in
     let s = smaller y t in
     let q = Word.littleThan 0 x in
     C (Word.ifElse q t s) (Word.ifElse q s t)
@@ -196,23 +197,23 @@ oneRoot m x y =
 abbrev pub turned : Value → Value
 turned w = each (λ h. Word.xor h (Word.sign (reOf w))) w
 
-abbrev pub rootIn : Mode → Value → Value
-rootIn m v = turned (oneRoot m (reOf v) (imOf v))
+abbrev pub rootIn : Bool → Value → Value
+rootIn stable v = turned (oneRoot stable (reOf v) (imOf v))
 
 -- RealRoot is Root but of a real number
-unfoldable pub realRootIn : Mode → Value → Value
-realRootIn m (R x) = R (Word.root x)
-realRootIn m (C x y) = rootIn m (C x y)
+unfoldable pub realRootIn : Bool → Value → Value
+realRootIn stable (R x) = R (Word.root x)
+realRootIn stable (C x y) = rootIn stable (C x y)
 
 -- ---- the table, operation by operation
 
 unfoldable pub ofOne : Mode → UniOp → Value → Value
 ofOne m UniOp.Neg v = each Word.neg v
 ofOne m UniOp.Not v = R (Word.not (reOf v))
-ofOne m UniOp.Abs v = modulus m v
-ofOne m UniOp.Root v = rootIn m v
-ofOne m UniOp.RealRoot v = realRootIn m v
-ofOne m UniOp.Recip v = inverseIn m v
+ofOne m UniOp.Abs v = modulus (isStable m) v
+ofOne m UniOp.Root v = rootIn (isStable m) v
+ofOne m UniOp.RealRoot v = realRootIn (isStable m) v
+ofOne m UniOp.Recip v = inverseIn (isStable m) v
 ofOne m UniOp.Round v = each Word.round v
 ofOne m UniOp.Floor v = each Word.floor v
 ofOne m UniOp.Ceiling v = each Word.ceiling v
@@ -233,7 +234,7 @@ unfoldable pub ofTwo : Mode → BinOp → Value → Value → Value
 ofTwo m BinOp.Plus v w = plus v w
 ofTwo m BinOp.Minus v w = minus v w
 ofTwo m BinOp.Times v w = times v w
-ofTwo m BinOp.Divide v w = quotientIn m v w
+ofTwo m BinOp.Divide v w = quotientIn (isStable m) v w
 ofTwo m BinOp.GreaterThan v w = order Word.greaterThan v w
 ofTwo m BinOp.GreaterThanEqual v w = order Word.greaterThanEqual v w
 ofTwo m BinOp.LittleThan v w = order Word.littleThan v w

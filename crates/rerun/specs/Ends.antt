@@ -58,6 +58,24 @@ _▸▸_ {b} {c} {s} {t} {k} {f} {g} {o} {r} p q =
       zeros = q .zeros;
     }
 
+-- a method that may add, and then one that adds nothing
+infixl 30 _◂▸_
+pub _◂▸_ : {b : Buf} {s : Complexifier} {k o o' : List ℕ} {f g : State → Out} {q r : Output}
+    → Ends b s k f o q → Does (buf o (q .at)) (q .low) g (buf o' (r .at)) (r .low) → q .added ≡ r .added
+    → Ends b s k (λ s. then (f s) g) o' r
+unfolding then
+_◂▸_ {b} {s} {k} {o} {o'} {f} {g} {q} {r} p d e =
+    record {
+      listed =
+          d .listed (table k (q .added))
+          ∙ ap (λ x. pushAll (buf o (q .at)) (g x .records)) (p .kept)
+          ∙ ap (λ x. pushAll x (g (f (state s k) .after) .records)) (p .listed)
+          ∙ simp pushAll-append;
+      kept = ap (λ a. state (r .low) (table k a)) (sym e) ∙ d .kept (table k (q .added)) ∙ ap (λ x. g x .after) (p .kept);
+      few = subst (λ a. a .count ≤ 3) e (p .few);
+      zeros = subst Zeros e (p .zeros);
+    }
+
 -- a method that lists nothing where there are more constants than a table holds
 abbrev pub tabled : (State → Out) → State → Out
 tabled f s = cond (leb (length (s .consts)) 256) (f s) (unlisted s)

@@ -1,7 +1,9 @@
 // The methods of complexify.rs that may name constants. `constants` are those of the finished instructions.
 ghost use Prim.Native.Nat.{_≤_};
 ghost use lib.ListN.{length};
+ghost use lib.Dec.{eqb};
 ghost use Rattle.mir.specs.Encode.{buf};
+ghost use Rattle.mir.specs.Register.{Temp};
 ghost use Rattle.lowering.specs.Complexifier as Spec;
 ghost use Rattle.rerun.specs.Ends.{Ends};
 use super::constants::EXP_MASK_FINITE;
@@ -93,6 +95,35 @@ fn stable_divide(
         at: n,
         added: added,
     }
+}
+
+// By a complex register in mode 2: into Temp it is one into Ret, moved to Temp.
+fn minding_divide(
+    low: Complexifier,
+    constants: &[u64],
+    out: &mut [u8],
+    at: usize,
+    x: bool,
+    dst: u8,
+    s1: u8,
+    s2: u8,
+) -> Output
+    requires { ⌜ length (now constants) ≤ 256 ⌝ }
+    ensures { λ r. ⌜ Ends (buf (now (out .entry)) at) low (now (constants .entry)) (Spec.mindingDivide (eqb dst Temp) x dst s1 s2) (now (out .exit)) r ⌝ }
+{
+    if dst == TEMP {
+        let quotient = stable_divide(low, constants, out, at, x, RET, s1, s2);
+        let added = quotient.added;
+        let low = quotient.low;
+        let moved = low.fmov(out, quotient.at, TEMP, RET);
+        let low = moved.low;
+        return Output {
+            low: low,
+            at: moved.at,
+            added: added,
+        };
+    }
+    stable_divide(low, constants, out, at, x, dst, s1, s2)
 }
 
 pub(crate) fn abs(
@@ -192,6 +223,7 @@ pub(crate) fn divide(
             no_constants(listed)
         }
         Mode::Stable => stable_divide(low, constants, out, at, x, dst, s1, s2),
+        Mode::Minding => minding_divide(low, constants, out, at, x, dst, s1, s2),
     }
 }
 

@@ -12,14 +12,21 @@ use Rattle.sheet.specs.declared.setup.Setup.{Setup}
 use Rattle.sheet.specs.declared.setup.Header.{Header}
 use Rattle.sheet.specs.declared.setup.ConstantCount.{ConstantCount}
 
--- "mode byte (0 plain, 1 stable)"
+-- "mode byte (0 plain, 1 stable)"; "Newer sheets come with mode 2" (document 02, n)
 abbrev pub modeFrom : ℕ → Read Mode
-modeFrom b = cond (eqb b 0) (got Mode.Plain) (cond (eqb b 1) (got Mode.Stable) (refused 8))
+modeFrom b = cond (eqb b 0) (got Mode.Plain) (cond (eqb b 1) (got Mode.Stable) (cond (eqb b 2) (got Mode.Minding) (refused 8)))
 
--- whether a mode is stable
+-- whether a mode is stable: mode 2 is "stable mode, but"
 abbrev pub isStable : Mode → Bool
 isStable Mode.Plain = false
 isStable Mode.Stable = true
+isStable Mode.Minding = true
+
+-- whether it is mode 2, "Half that minds the record"
+abbrev pub isMinding : Mode → Bool
+isMinding Mode.Plain = false
+isMinding Mode.Stable = false
+isMinding Mode.Minding = true
 
 -- "First a header: kind 32, mode byte [..], 64 bytes of realness [..]: length 69." "A wrong header [..] is refused by 8." What is read is
 -- the mode. A sheet of any length is read: document 02, h) "The wrong setup for an over-long sheet thus goes".

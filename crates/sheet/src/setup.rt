@@ -2,7 +2,7 @@
 ghost use mathlib.Core.Path.{_≡_};
 ghost use Prim.Native.Nat.{_≤_};
 ghost use lib.ListN.{length, take, drop};
-ghost use Rattle.sheet.specs.Setup.{modeFrom, isStable, headerFrom, isConstant, isBroken, constantsFrom, wrong, setup, constantAt, asHeader, asConstantCount};
+ghost use Rattle.sheet.specs.Setup.{modeFrom, isStable, isMinding, headerFrom, isConstant, isBroken, constantsFrom, wrong, setup, constantAt, asHeader, asConstantCount};
 use mir::fields::byte;
 use mir::fields::u16_at;
 use words::put_bytes;
@@ -12,6 +12,7 @@ use words::word_at;
 pub enum Mode {
     Plain,
     Stable,
+    Minding,
 }
 
 // `number` is 0, or 8 where the setup is wrong; `places` are the bytes of realness, and the instructions begin at `start`.
@@ -42,6 +43,18 @@ pub fn is_stable(mode: Mode) -> bool
     match mode {
         Mode::Plain => false,
         Mode::Stable => true,
+        Mode::Minding => true,
+    }
+}
+
+// Whether it is mode 2.
+pub fn is_minding(mode: Mode) -> bool
+    ensures { λ r. ⌜ r ≡ isMinding mode ⌝ }
+{
+    match mode {
+        Mode::Plain => false,
+        Mode::Stable => false,
+        Mode::Minding => true,
     }
 }
 
@@ -53,6 +66,9 @@ fn read_mode(b: u8) -> Header
     }
     if b == 1 {
         return Header::Mode(Mode::Stable);
+    }
+    if b == 2 {
+        return Header::Mode(Mode::Minding);
     }
     Header::Wrong
 }

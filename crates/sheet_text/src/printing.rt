@@ -21,7 +21,6 @@ use sheet::reader::NextInstruction;
 use sheet::reader::read_instruction;
 use sheet::setup::Setup;
 use sheet::setup::constant_at;
-use sheet::setup::is_stable;
 use text::line::Line;
 use text::line::empty_line;
 use text::put::put_line;
@@ -132,7 +131,7 @@ pub(crate) fn put_lines(out: &mut [u8], sheet: &[u8], s: Setup) -> usize
     ensures { λ r. ⌜ Puts (now (out .entry)) 0 (linesOf (now (sheet .entry)) s) (now (out .exit)) r ⌝ }
 {
     let mode = s.mode;
-    let at = put_line(out, 0, mode_line(is_stable(mode)));
+    let at = put_line(out, 0, mode_line(mode));
     let places = s.places;
     let at = put_reals(out, at, places);
     let at = put_constants(out, at, sheet, s.count);

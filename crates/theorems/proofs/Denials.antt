@@ -1,12 +1,14 @@
 -- That the statements which the edits of must-fail/ put in place of the theorems are false, each under its edit's name.
 use Prim.Native.Nat.{ℕ, _^_, _≤_}
 use mathlib.Core.Path.{_≡_, refl, sym, ap, _∙_, subst}
-use mathlib.Core.Bool.{true}
+use mathlib.Core.Bool.{true, false}
 use mathlib.Core.List.{List, [], _∷_}
 use native.Mathlib.Omega.{arith}
 use lib.ListN.{length, drop, take, replicate, length-replicate}
 use lib.Dec.{lit<, lit≤}
+use Rattle.mir.specs.declared.ops.UniOp.{UniOp}
 use Rattle.mir.specs.declared.records.Loc.{Loc}
+use Rattle.mir.specs.declared.records.Instruction.{Instruction}
 use Rattle.mir.specs.declared.records.Work.{Work}
 use Rattle.mir.specs.declared.records.Record.{Record}
 use Rattle.mir.specs.Register.{im}
@@ -27,14 +29,18 @@ use Rattle.player_machine.specs.Step.{follows, written, step, steps, PlaysBySte
 use Rattle.player_machine.specs.Draws.{draws, fills, done, Confined}
 use Rattle.lowering.specs.declared.realness.Realness.{Realness}
 use Rattle.lowering.specs.Realness.{fresh, setReg}
+use Rattle.lowering.specs.Complexifier as c
+use Rattle.lowering.specs.Complexifier.{State}
+use Rattle.lowering.specs.Rerun.{rerunUni, rerun}
+use Rattle.lowering.specs.Elsewhere.{ElsewhereStable}
 use Rattle.lowering.specs.Lower.{lowerFrom, lowerSheet}
 use Rattle.leftovers.specs.Leftovers.{Leftover, half, Accepted}
 use Rattle.leftovers.specs.Kept.{Kept, kept-im, Parted}
-use Rattle.leftovers.specs.Examples.{zeros, header, touched, mixing, clean}
-use Rattle.entries.specs.Examples.{bytes, words, Needed, Met, JumpedOver}
+use Rattle.leftovers.specs.Examples.{zeros, header, touched, mixing, stableMixing, mindingMixing, clean}
+use Rattle.entries.specs.Examples.{bytes, words, Needed, Minded, Met, JumpedOver}
 use Rattle.entries.proofs.Entered.{answered}
 use Rattle.entries.proofs.Demand.{entries-demand-3}
-use Rattle.entries.proofs.Examples.{needed, met}
+use Rattle.entries.proofs.Examples.{needed, needed-stable, minded, met}
 use Rattle.figures.specs.Shelf.{refusal}
 use Rattle.figures.specs.Told.{FiguresReported}
 use Rattle.pages.specs.Pages.{rowLine, constantRow}
@@ -55,12 +61,31 @@ needed-where-met n = apart clean 2 n met
 pub reached-half-jumped-over : JumpedOver mixing 1 1 → ⊥
 reached-half-jumped-over j = met-where-mixing (j .met)
 
+pub needed-where-minding : Needed mindingMixing 1 → ⊥
+needed-where-minding n = n .differs (minded .alike)
+
+pub minded-where-stable : Minded stableMixing 1 1 → ⊥
+minded-where-stable m = needed-stable .differs (m .alike)
+
 -- general 0 is complex in the one record and real in the other: its imaginary half would be kept and a leftover
 pub parted-by-two-records : ((ρ π : Realness) → Parted (Kept ρ) (Leftover π)) → ⊥
 parted-by-two-records p =
     let ρ = fresh (replicate 64 0) in
     let π = setReg ρ 0 true in
     p ρ π .notBoth (im 0) (kept-im 0 (lit< tt) refl) (half 0 (lit< tt) refl)
+
+-- ---- mode 2
+
+-- of a Half of a real register mode 2 lists one line, stable mode two
+realFirst : State
+realFirst = record { real = record { regs = true ∷ []; places = [] }; rootDefined = false; consts = [] }
+
+pub stable-everywhere : ElsewhereStable (λ i. false) → ⊥
+unfolding rerun rerunUni c.half realFirst
+stable-everywhere f = differ (ap (λ o. length (o .records)) (f (Instruction.Uni UniOp.Half 1 0) realFirst refl))
+  where
+    differ : _≡_ {A = ℕ} 1 2 → ⊥
+    differ e = omega arith
 
 -- ---- what a record draws on and fills
 

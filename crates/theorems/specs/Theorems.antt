@@ -14,11 +14,12 @@ use Rattle.player_machine.specs.Refusal.{refusal, Refused}
 use Rattle.player_machine.specs.Look.{look}
 use Rattle.player_machine.specs.Looked.{Looked, bench, LookedOn}
 use Rattle.lowering.specs.declared.realness.Realness.{Realness}
+use Rattle.lowering.specs.Elsewhere.{minded, ElsewhereStable}
 use Rattle.leftovers.specs.Leftovers.{Leftover}
 use Rattle.leftovers.specs.Kept.{Kept, Parted}
-use Rattle.leftovers.specs.Examples.{mixing, clean, jumping, clearing}
+use Rattle.leftovers.specs.Examples.{mixing, stableMixing, mindingMixing, clean, jumping, clearing}
 use Rattle.entries.specs.Entries.{EntriesDemand3}
-use Rattle.entries.specs.Examples.{Needed, Met, JumpedOver, Cleared}
+use Rattle.entries.specs.Examples.{Needed, Minded, Met, JumpedOver, Cleared}
 use Rattle.meaning.specs.Preserved.{Preserved}
 use Rattle.meaning.specs.Settled.{Settled}
 use Rattle.meaning.specs.Tidy.{Tidied}
@@ -39,10 +40,14 @@ use Rattle.pages.specs.Uncut.{UncutLaw, Joined}
 pub record Theorems : Type 0 where
   -- demand 2: a call of `lower` leaves what `complexify` lists for the instructions that it finished, all of them where it answers 0
   pub complexified : Complexified
+  -- mode 2 lists and records as stable mode does, but for Half and for Divide into Temp
+  pub elsewhereStable : ElsewhereStable minded
   -- demand 3, of every call of `lower` that answers 0
   pub demand3 : EntriesDemand3
-  -- its condition about Half is needed, and can be met
+  -- its condition about Half is needed, in stable mode too, and not in mode 2; and it can be met
   pub needed : Needed mixing 1
+  pub neededStable : Needed stableMixing 1
+  pub minded : Minded mindingMixing 1 1
   pub met : Met clean 2
   -- a Half that the play jumps over does not stand in the way
   pub jumpedOver : JumpedOver jumping 1 2

@@ -4,7 +4,7 @@
 
 use std::process::ExitCode;
 
-use oracle::format::{two, PARAM, RET, STACK, TEMP};
+use oracle::format::{two, MODES, PARAM, RET, STACK, TEMP};
 use oracle::make;
 use oracle::names::{SHEET_BI, SHEET_UNI};
 use oracle::points::{compared, lowered, Met, FORMS};
@@ -104,19 +104,19 @@ fn every_instruction() -> Vec<Vec<u8>> {
 }
 
 /// The sheet in which those registers are real that have a bit in `reals`, and then the instruction stands.
-fn with_record(stable: bool, reals: usize, instruction: &[u8], constant: u64) -> Vec<u8> {
+fn with_record(mode: u8, reals: usize, instruction: &[u8], constant: u64) -> Vec<u8> {
     let places = make::real_places(&[0, 1, 2, 3].map(|index| (PARAM, index)));
     let loads = (0..4).filter(|i| reals >> i & 1 == 1).map(|i| make::load(FEW[i], PARAM, i as u16));
     let row: Vec<Vec<u8>> = loads.chain([instruction.to_vec()]).collect();
-    make::sheet(stable, &places, &[constant], &row)
+    make::sheet(mode, &places, &[constant], &row)
 }
 
-/// The differences on sheets of one instruction, for every record of its registers, in both modes, each on two stores.
+/// The differences on sheets of one instruction, for every record of its registers, in every mode, each on two stores.
 fn compare_every(met: &mut Met, rng: &mut Rng) -> u64 {
     let (mut sheets, mut barred, mut differences) = (0, 0, 0);
     for instruction in every_instruction() {
-        for (stable, reals) in [false, true].iter().flat_map(|stable| (0..16).map(|reals| (*stable, reals))) {
-            let Some(sheet) = lowered(with_record(stable, reals, &instruction, random::calm_word(rng))) else {
+        for (mode, reals) in MODES.iter().flat_map(|mode| (0..16).map(|reals| (*mode, reals))) {
+            let Some(sheet) = lowered(with_record(mode, reals, &instruction, random::calm_word(rng))) else {
                 barred += 1;
                 continue;
             };
@@ -126,7 +126,7 @@ fn compare_every(met: &mut Met, rng: &mut Rng) -> u64 {
                 if let Err(text) = compared(&sheet, &store, met) {
                     differences += 1;
                     if differences <= SHOWN {
-                        println!("{text}\n  stable {stable}, reals {reals:04b}, instruction {instruction:?}");
+                        println!("{text}\n  mode {mode}, reals {reals:04b}, instruction {instruction:?}");
                     }
                 }
             }

@@ -23,7 +23,7 @@ struct Case {
 }
 
 /// `None` where the instruction is refused.
-fn case(stable: bool, real_place: bool, rooted: bool, real: &[u8], instruction: &[u8]) -> Option<Case> {
+fn case(mode: u8, real_place: bool, rooted: bool, real: &[u8], instruction: &[u8]) -> Option<Case> {
     let places = if real_place { make::real_places(&[(STACK, 7), (STACK, 2), (PARAM, 7)]) } else { [0; 64] };
     let mut row = Vec::new();
     if rooted {
@@ -33,7 +33,7 @@ fn case(stable: bool, real_place: bool, rooted: bool, real: &[u8], instruction: 
     let before = row.len();
     row.push(instruction.to_vec());
     let mut listing = [0; 1024];
-    let (answer, points) = lower_with_points(&make::sheet(stable, &places, &[7], &row), &mut listing, &mut [0; TABLE]);
+    let (answer, points) = lower_with_points(&make::sheet(mode, &places, &[7], &row), &mut listing, &mut [0; TABLE]);
     if answer.number != 0 {
         return None;
     }
@@ -60,8 +60,8 @@ struct Facts {
     strange: u64,
 }
 
-fn title(instruction: &[u8], stable: bool) -> String {
-    let mode = if stable { "stable" } else { "plain" };
+fn title(instruction: &[u8], mode: u8) -> String {
+    let mode = ["plain", "stable", "minding"][mode as usize];
     let op = instruction.get(4).map_or(0, |byte| *byte as usize);
     let name = match two(instruction, 2) {
         1 => UNI[op],
@@ -118,12 +118,13 @@ fn name_of(word: usize) -> String {
     }
 }
 
-fn examine(facts: &mut Facts, instruction: &[u8], stable: bool, case: &Case) {
+fn examine(facts: &mut Facts, instruction: &[u8], mode: u8, case: &Case) {
     facts.cases += 1;
-    let name = title(instruction, stable);
+    let name = title(instruction, mode);
     let known = follow(facts, &name, case);
     let free: BTreeSet<usize> = leftovers(&case.after).into_iter().collect();
-    if !half_of_real(instruction, &case.before) && (0..STORE).any(|i| !known.contains(&i) && !free.contains(&i)) {
+    let excepted = mode != MINDING && half_of_real(instruction, &case.before);
+    if !excepted && (0..STORE).any(|i| !known.contains(&i) && !free.contains(&i)) {
         facts.strange += 1;
         println!("unknown afterwards: {name} {instruction:?} {:?}", case.before.registers);
     }
@@ -139,13 +140,13 @@ fn main() -> ExitCode {
         let root = two(&instruction, 2) == 1 && matches!(instruction[4], uni::ROOT | uni::REAL_ROOT);
         for bits in 0..1u32 << relevant.len() {
             let real: Vec<u8> = (0..relevant.len()).filter(|i| bits >> i & 1 == 1).map(|i| relevant[i]).collect();
-            for choice in 0..8u8 {
-                let (stable, real_place, rooted) = (choice & 1 == 1, choice & 2 == 2, choice & 4 == 4);
+            for (mode, choice) in MODES.iter().flat_map(|mode| (0..4u8).map(|choice| (*mode, choice))) {
+                let (real_place, rooted) = (choice & 1 == 1, choice & 2 == 2);
                 if rooted && !root {
                     continue;
                 }
-                if let Some(case) = case(stable, real_place, rooted, &real, &instruction) {
-                    examine(&mut facts, &instruction, stable, &case);
+                if let Some(case) = case(mode, real_place, rooted, &real, &instruction) {
+                    examine(&mut facts, &instruction, mode, &case);
                 }
             }
         }

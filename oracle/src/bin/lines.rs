@@ -1,4 +1,4 @@
-//! Prints what each instruction lists: every operation of a sheet, every realness of what it reads, both modes.
+//! Prints what each instruction lists: every operation of a sheet, every realness of what it reads, every mode.
 //! Operands stand in registers 0, 1 (and 3), the destination is 2; then again with Ret and Temp in their places.
 //! Constant 0 is the sheet's own, 4000000000000000. Records of Ret and Temp that an instruction does not name are printed
 //! where it sets them, else they stay; `any` is a register whose record before makes no difference.
@@ -38,7 +38,7 @@ struct Outcome {
     after: Realness,
 }
 
-fn play_out(case: &Case, stable: bool, real: &[u8], real_place: bool, rooted: bool) -> Outcome {
+fn play_out(case: &Case, mode: u8, real: &[u8], real_place: bool, rooted: bool) -> Outcome {
     let places = match case.place {
         Some(place) if real_place => make::real_places(&[place]),
         _ => [0; 64],
@@ -51,12 +51,12 @@ fn play_out(case: &Case, stable: bool, real: &[u8], real_place: bool, rooted: bo
     instructions.extend(real.iter().map(|r| make::load_const(*r, 0)));
     let before = instructions.len();
     instructions.push(case.record.clone());
-    let sheet = make::sheet(stable, &places, &[0x4000_0000_0000_0000], &instructions);
+    let sheet = make::sheet(mode, &places, &[0x4000_0000_0000_0000], &instructions);
     let mut listing = vec![0; LISTING_LIMIT];
     let mut constants = vec![0; TABLE];
     let (answer, points) = lower_with_points(&sheet, &mut listing, &mut constants);
     let from = points[before].bytes;
-    let own = if rooted { constants_after_root(stable) } else { 1 };
+    let own = if rooted { constants_after_root(mode) } else { 1 };
     Outcome {
         refused: answer.number,
         lines: records(&listing[from..answer.written as usize]).iter().map(|r| print::record(r)).collect(),
@@ -65,8 +65,8 @@ fn play_out(case: &Case, stable: bool, real: &[u8], real_place: bool, rooted: bo
     }
 }
 
-fn constants_after_root(stable: bool) -> usize {
-    let sheet = make::sheet(stable, &[0; 64], &[0x4000_0000_0000_0000], &[make::uni(names::uni::ROOT, 9, 9)]);
+fn constants_after_root(mode: u8) -> usize {
+    let sheet = make::sheet(mode, &[0; 64], &[0x4000_0000_0000_0000], &[make::uni(names::uni::ROOT, 9, 9)]);
     let mut constants = vec![0; TABLE];
     let (answer, _) = lower_with_points(&sheet, &mut vec![0; 1024], &mut constants);
     answer.count as usize
@@ -90,14 +90,14 @@ fn recorded(case: &Case, outcome: &Outcome, with_real: &Outcome) -> String {
 }
 
 /// The instruction's lines, constants and records; also played with those of Ret and Temp real that are not named.
-fn body(case: &Case, stable: bool, real: &[u8], real_place: bool, rooted: bool) -> String {
-    let outcome = play_out(case, stable, real, real_place, rooted);
+fn body(case: &Case, mode: u8, real: &[u8], real_place: bool, rooted: bool) -> String {
+    let outcome = play_out(case, mode, real, real_place, rooted);
     if outcome.refused != 0 {
         return format!("    refused {}\n", outcome.refused);
     }
     let unnamed = [RET, TEMP].into_iter().filter(|r| !case.registers.contains(r));
     let more: Vec<u8> = real.iter().copied().chain(unnamed).collect();
-    let with_real = play_out(case, stable, &more, real_place, rooted);
+    let with_real = play_out(case, mode, &more, real_place, rooted);
     assert_eq!(outcome.lines, with_real.lines, "{}", case.title);
     let mut text = String::new();
     for line in &outcome.lines {
@@ -113,14 +113,14 @@ fn body(case: &Case, stable: bool, real: &[u8], real_place: bool, rooted: bool) 
     text + &format!("    after: {}\n", recorded(case, &outcome, &with_real))
 }
 
-/// Both modes; equal ones once.
-fn modes(case: &Case, real: &[u8], real_place: bool, rooted: bool) -> [(&'static str, String); 2] {
-    let plain = body(case, false, real, real_place, rooted);
-    let stable = body(case, true, real, real_place, rooted);
-    if plain == stable {
-        [("both modes", plain), ("", String::new())]
-    } else {
-        [("plain", plain), ("stable", stable)]
+/// Every mode; equal ones once.
+fn modes(case: &Case, real: &[u8], real_place: bool, rooted: bool) -> Vec<(&'static str, String)> {
+    let [plain, stable, minding] = MODES.map(|mode| body(case, mode, real, real_place, rooted));
+    match (plain == stable, stable == minding) {
+        (true, true) => vec![("every mode", plain)],
+        (true, false) => vec![("modes 0 and 1", plain), ("mode 2", minding)],
+        (false, true) => vec![("plain", plain), ("modes 1 and 2", stable)],
+        (false, false) => vec![("plain", plain), ("stable", stable), ("mode 2", minding)],
     }
 }
 
@@ -163,7 +163,7 @@ fn show(case: &Case, rooted: bool) {
             if any.is_some() && bits >> dst & 1 == 1 {
                 continue;
             }
-            for (mode, text) in now.iter().filter(|(mode, _)| !mode.is_empty()) {
+            for (mode, text) in &now {
                 print!("  {}; {mode}\n{text}", heading(&distinct, bits, any, *place));
             }
         }

@@ -1,10 +1,10 @@
 //! Lowers document 01's sheet on paper (Mem 4 = 2 * Mem 3), looks at record 1 and plays the listing on Mem 3 = 3 + 4i.
 
-use tulipcricket::sheet::{Bi, Sheet};
+use tulipcricket::sheet::{Bi, Mode, Sheet};
 use tulipcricket::{look, lower, play, Class, Refused, Store, LISTING_LIMIT};
 
 fn main() -> Result<(), Refused> {
-    let mut sheet = Sheet::new(false);
+    let mut sheet = Sheet::new(Mode::Plain);
     let two = sheet.constant(2.0);
     sheet.load_const(0, two).load(1, Class::Mem, 3).bi(Bi::Times, 0, 0, 1).save(0, Class::Mem, 4);
     let lowered = lower(&sheet.bytes(), LISTING_LIMIT)?;

@@ -68,10 +68,21 @@ pub enum Arith {
     Divide = 3,
 }
 
+/// Modes of a sheet.
+#[derive(Clone, Copy, Debug, PartialEq, Eq)]
+pub enum Mode {
+    /// Squares are taken as they are.
+    Plain = 0,
+    /// Operands are scaled first.
+    Stable = 1,
+    /// As stable, but Half of a real register gives a real one, and in a Divide by a complex register into Temp the dividend survives.
+    Minding = 2,
+}
+
 /// A sheet in the making.
 #[derive(Clone, Debug)]
 pub struct Sheet {
-    stable: bool,
+    mode: Mode,
     real_places: [u8; 64],
     constants: Vec<u64>,
     instructions: Vec<u8>,
@@ -84,8 +95,8 @@ fn record(kind: u16, fields: &[u8]) -> Vec<u8> {
 }
 
 impl Sheet {
-    pub fn new(stable: bool) -> Sheet {
-        Sheet { stable, real_places: [0; 64], constants: Vec::new(), instructions: Vec::new() }
+    pub fn new(mode: Mode) -> Sheet {
+        Sheet { mode, real_places: [0; 64], constants: Vec::new(), instructions: Vec::new() }
     }
 
     /// Records a place as real; Mem is always complex.
@@ -171,7 +182,7 @@ impl Sheet {
 
     /// The sheet's bytes: header, constants, instructions.
     pub fn bytes(&self) -> Vec<u8> {
-        let mut bytes = record(32, &[&[self.stable as u8][..], &self.real_places].concat());
+        let mut bytes = record(32, &[&[self.mode as u8][..], &self.real_places].concat());
         for word in &self.constants {
             bytes.extend(record(33, &word.to_le_bytes()));
         }

@@ -1,13 +1,13 @@
 //! The wrapper on document 01's sheet on paper and on short runs: what it accepts, what it refuses, and what it leaves.
 
-use tulipcricket::sheet::{Arith, Bi, Fused, Sheet, Uni, RET};
+use tulipcricket::sheet::{Arith, Bi, Fused, Mode, Sheet, Uni, RET, TEMP};
 use tulipcricket::{
     look, lower, nearest, pages, peak, play, shelf, Class, Looked, Lowered, Refused, Shelf, Store, Why, LISTING_LIMIT,
     PAGE,
 };
 
 fn paper() -> Vec<u8> {
-    let mut sheet = Sheet::new(false);
+    let mut sheet = Sheet::new(Mode::Plain);
     let two = sheet.constant(2.0);
     sheet.load_const(0, two).load(1, Class::Mem, 3).bi(Bi::Times, 0, 0, 1).save(0, Class::Mem, 4);
     sheet.bytes()
@@ -49,7 +49,7 @@ fn wrong_setups_are_refused_by_8() {
 
 #[test]
 fn a_real_place_makes_a_real_register() {
-    let mut sheet = Sheet::new(true);
+    let mut sheet = Sheet::new(Mode::Stable);
     sheet.real(Class::Param, 9).load(7, Class::Param, 9).load(8, Class::Param, 8);
     let found = lower(&sheet.bytes(), LISTING_LIMIT).unwrap();
     assert_eq!((found.real_registers[7], found.real_registers[8], found.real_places[33]), (true, false, 2));
@@ -145,7 +145,7 @@ fn pages_come_by_sixty_lines() {
 
 /// 6 / (1 + i), by instructions that divide register 0, recorded as real, by Mem 3 into register 2.
 fn quotient(divide: impl Fn(&mut Sheet) -> &mut Sheet) -> (f64, f64) {
-    let mut sheet = Sheet::new(false);
+    let mut sheet = Sheet::new(Mode::Plain);
     let six = sheet.constant(6.0);
     divide(sheet.load_const(0, six)).save(2, Class::Mem, 4);
     let found = lower(&sheet.bytes(), LISTING_LIMIT).unwrap();
@@ -196,7 +196,7 @@ fn the_paper_takes_41_bytes_1_constant_and_5_records() {
 
 /// Mem 4 becomes Mem 3 where the real half of Mem 5 is above 1, else its square.
 fn above_a_corner() -> Vec<u8> {
-    let mut sheet = Sheet::new(false);
+    let mut sheet = Sheet::new(Mode::Plain);
     let one = sheet.constant(1.0);
     sheet.load(0, Class::Mem, 3).load(1, Class::Mem, 5).load_const(2, one).bi(Bi::GreaterThan, 2, 1, 2);
     sheet.branch_if(2, 3, false).bi(Bi::Times, 0, 0, 0).label(3).save(0, Class::Mem, 4);
@@ -222,11 +222,11 @@ fn a_formula_with_a_branch_goes_both_ways() {
 fn labels_are_refused_by_10_and_11() {
     let refusal = |sheet: &Sheet| lower(&sheet.bytes(), LISTING_LIMIT).unwrap_err();
     let misplaced = |index| Refused { why: Why::MisplacedLabel, index };
-    assert_eq!(refusal(Sheet::new(false).branch(3)), misplaced(0));
-    assert_eq!(refusal(Sheet::new(false).label(3).branch_if(0, 3, true).label(3)), misplaced(1));
-    assert_eq!(refusal(Sheet::new(false).branch(3).label(3).label(3)), misplaced(2));
-    assert_eq!(refusal(Sheet::new(false).label(2)), misplaced(0));
-    let mut sheet = Sheet::new(false);
+    assert_eq!(refusal(Sheet::new(Mode::Plain).branch(3)), misplaced(0));
+    assert_eq!(refusal(Sheet::new(Mode::Plain).label(3).branch_if(0, 3, true).label(3)), misplaced(1));
+    assert_eq!(refusal(Sheet::new(Mode::Plain).branch(3).label(3).label(3)), misplaced(2));
+    assert_eq!(refusal(Sheet::new(Mode::Plain).label(2)), misplaced(0));
+    let mut sheet = Sheet::new(Mode::Plain);
     let two = sheet.constant(2.0);
     let unequal = refusal(sheet.branch(255).load_const(0, two).label(255));
     assert_eq!(unequal, Refused { why: Why::UnequalRecords, index: 2 });
@@ -236,7 +236,7 @@ fn labels_are_refused_by_10_and_11() {
 #[test]
 fn a_sheet_has_at_most_612_instructions() {
     let nops = |count: usize| {
-        let mut sheet = Sheet::new(false);
+        let mut sheet = Sheet::new(Mode::Plain);
         for _ in 0..count {
             sheet.instruction(0, &[]);
         }
@@ -251,8 +251,8 @@ fn a_sheet_has_at_most_612_instructions() {
 
 #[test]
 fn the_block_is_played_once_for_each_root() {
-    for stable in [false, true] {
-        let mut sheet = Sheet::new(stable);
+    for mode in [Mode::Plain, Mode::Stable, Mode::Minding] {
+        let mut sheet = Sheet::new(mode);
         sheet.load(0, Class::Mem, 3).uni(Uni::Root, 1, 0).uni(Uni::Root, 2, 1).save(2, Class::Mem, 4);
         let found = lower(&sheet.bytes(), LISTING_LIMIT).unwrap();
         let records = play(&found.listing, &found.constants, &mut Store::new(), 0).unwrap().played;
@@ -262,9 +262,40 @@ fn the_block_is_played_once_for_each_root() {
 }
 
 #[test]
+fn a_half_minds_the_record_in_mode_2() {
+    // Half of a real 0 into 1: the real line, and in modes 0 and 1 the imaginary one before it, with 1 left complex
+    let half = |mode| {
+        let mut sheet = Sheet::new(mode);
+        let two = sheet.constant(2.0);
+        let found = lower(&sheet.load_const(0, two).uni(Uni::Half, 1, 0).bytes(), LISTING_LIMIT).unwrap();
+        (found.listing[7..].to_vec(), found.real_registers[1])
+    };
+    let (imaginary, real) = ([7, 0, 1, 0, 13, 7, 5], [7, 0, 1, 0, 13, 6, 4]);
+    assert_eq!(half(Mode::Minding), (real.to_vec(), true));
+    assert_eq!(half(Mode::Stable), ([imaginary, real].concat(), false));
+    assert_eq!(half(Mode::Plain), ([imaginary, real].concat(), false));
+}
+
+#[test]
+fn a_dividend_survives_in_mode_2() {
+    // 6 / 2 into Temp, both complex
+    let quotient = |mode| {
+        let mut sheet = Sheet::new(mode);
+        sheet.load(0, Class::Mem, 0).load(1, Class::Mem, 1).bi(Bi::Divide, TEMP, 0, 1).save(TEMP, Class::Mem, 2);
+        let found = lower(&sheet.bytes(), LISTING_LIMIT).unwrap();
+        let mut store = Store::new();
+        store.set_place(Class::Mem, 0, (6.0, 0.0));
+        store.set_place(Class::Mem, 1, (2.0, 0.0));
+        play(&found.listing, &found.constants, &mut store, 0).unwrap();
+        store.place(Class::Mem, 2)
+    };
+    assert_eq!((quotient(Mode::Minding), quotient(Mode::Stable)), ((3.0, 0.0), (1.0, 0.0)));
+}
+
+#[test]
 fn each_builder_gives_its_record() {
     // the bytes of each record, typed from the paper SHEET: length, kind, fields
-    let mut sheet = Sheet::new(false);
+    let mut sheet = Sheet::new(Mode::Plain);
     sheet.mov(1, RET).fused(Fused::NegMulSub, 1, 2, 3, 4).if_else(5, 6, 7, Class::Stack, 8);
     sheet.load_math(Arith::Minus, 9, 10, Class::Param, 255).load_const_math(Arith::Divide, 11, 12, 0x102);
     sheet.label(3).branch(4).branch_if(13, 5, true);
@@ -284,7 +315,7 @@ fn each_builder_gives_its_record() {
 #[test]
 fn builders_are_lowered_and_played() {
     // (6 - Param 1) * 2 + 6 at Mem 0, half of it at Mem 2
-    let mut sheet = Sheet::new(true);
+    let mut sheet = Sheet::new(Mode::Stable);
     let (six, two) = (sheet.constant(6.0), sheet.constant(2.0));
     sheet.real(Class::Param, 1).load_const(0, six).mov(1, 0).load_math(Arith::Minus, 1, 1, Class::Param, 1);
     sheet.load_const(2, two).fused(Fused::MulAdd, 3, 1, 2, 0).save(3, Class::Mem, 0);

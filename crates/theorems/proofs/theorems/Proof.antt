@@ -9,9 +9,10 @@ use Rattle.player_machine.proofs.Stepping.{by-steps}
 use Rattle.player_machine.proofs.Drawing.{confined}
 use Rattle.player_machine.proofs.Refusing.{refused}
 use Rattle.player_machine.proofs.Looking.{looked, looked-on}
+use Rattle.lowering.proofs.Elsewhere.{elsewhere-stable}
 use Rattle.leftovers.proofs.Words.{parted}
 use Rattle.entries.proofs.Demand.{entries-demand-3}
-use Rattle.entries.proofs.Examples.{needed, met, jumped-over, cleared}
+use Rattle.entries.proofs.Examples.{needed, needed-stable, minded, met, jumped-over, cleared}
 use Rattle.meaning.proofs.Theorem.{preserved}
 use Rattle.meaning.proofs.Settling.{settled}
 use Rattle.meaning.proofs.Tidied.{tidied}
@@ -29,8 +30,11 @@ returns : tie.Need-returns
 returns c =
     record {
       complexified = complexified;
+      elsewhereStable = elsewhere-stable;
       demand3 = entries-demand-3;
       needed = needed;
+      neededStable = needed-stable;
+      minded = minded;
       met = met;
       jumpedOver = jumped-over;
       cleared = cleared;

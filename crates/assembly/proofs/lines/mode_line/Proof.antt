@@ -1,6 +1,5 @@
 -- `lines::mode_line` meets its contract.
 use borrow.Author.Needs.{needs}
-use native.Mathlib.Omega.{arith}
 use lib.Dec.{lit≤}
 use Rattle.text.specs.Text.{ascii}
 use Rattle.text.proofs.Whole.{prints}
@@ -13,7 +12,9 @@ unfolding ascii modeLine
 mode-line-spec =
     tie.close
     (tie.spec
-    (λ c κs. search needs) (λ c. search needs) (λ c κs. search needs)
-    (λ c. simp (c .before .before .before .if1 .taken) (prints (c .before .before .empty-line .ensures) (c .text .ensures) (lit≤ tt)))
-    (λ c κs. search needs) (λ c. search needs) (λ c κs. search needs)
-    (λ c. simp (c .before .before .before .if1 .left) (prints (c .before .before .empty-line2 .ensures) (c .text2 .ensures) (lit≤ tt))))
+    (λ c. search needs) (λ c κs. search needs) (λ c. search needs) (λ c κs. search needs)
+    (λ c. search needs) (λ c κs. search needs) (λ c. search needs) (λ c κs. search needs)
+    (λ c. search needs) (λ c κs. search needs) (λ c. search needs) (λ c κs. search needs)
+    (λ c. simp (c .before .before .before .enum-told .given .1) (prints (c .before .before .empty-line .ensures) (c .text .ensures) (lit≤ tt)))
+    (λ c. simp (c .before .before .before .enum-told2 .given .1) (prints (c .before .before .empty-line2 .ensures) (c .text2 .ensures) (lit≤ tt)))
+    (λ c. simp (c .before .before .before .enum-told3 .given .1) (prints (c .before .before .empty-line3 .ensures) (c .text3 .ensures) (lit≤ tt))))

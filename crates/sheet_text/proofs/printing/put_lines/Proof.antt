@@ -1,9 +1,7 @@
 -- `put_lines` meets its contract.
 use borrow.Author.Needs.{needs}
 use native.Mathlib.Omega.{arith}
-use mathlib.Core.Path.{ap}
-use Rattle.text.proofs.Putting.{long, line-put, renamed, _▹_}
-use Rattle.assembly.specs.Lines.{modeLine}
+use Rattle.text.proofs.Putting.{long, line-put, _▹_}
 use Rattle.sheet_text.proofs.printing.put_lines.Statement.{statement}
 use Rattle.sheet_text.proofs.printing.put_lines.Tie as tie
 
@@ -11,7 +9,7 @@ pub put-lines-spec : {M : Type 1} → statement M
 put-lines-spec =
     tie.close
     (tie.spec
-    (λ c κs. search needs) (λ c κs. search needs) (λ c κs. search needs)
+    (λ c κs. search needs) (λ c κs. search needs)
     (λ c κs.
     let p = c .before .before .before .before .before .mode-line .ensures in
     let f = p .whole .fits in
@@ -53,7 +51,7 @@ put-lines-spec =
     let m = line-put p (omega (arith, f)) (c .before .before .before .before .before .before .before .before .before .before .before .before .before .before .before .put-line .ensures) in
     let k = m .ends in
     let g = long m in
-    renamed (ap modeLine (c .before .before .before .before .before .before .before .before .before .before .before .before .before .before .before .before .before .is-stable .ensures)) m
+    m
     ▹ c .before .before .before .before .before .before .before .before .before .before .put-reals .ensures .0
     ▹ c .before .before .before .before .before .before .put-constants .ensures .0
     ▹ c .before .before .put-instructions .ensures))

@@ -1,18 +1,15 @@
 -- `half` meets its contract.
 use borrow.Author.Needs.{needs}
 use mathlib.Core.Path.{refl}
-use mathlib.Core.List.{map}
-use Rattle.mir.specs.declared.records.Record.{Record}
-use Rattle.lowering.specs.Lines.{halfLines}
-use Rattle.lowering.specs.Complexifier.{half}
-use Rattle.complexifier.specs.Does.{listing}
+use Rattle.complexifier.proofs.Halving.{minding, as-rust}
 use Rattle.complexifier.proofs.state.Complexifier.half.Statement.{statement}
 use Rattle.complexifier.proofs.state.Complexifier.half.Tie as tie
 
 pub half-spec : {M : Type 1} → statement M
-unfolding half
 half-spec =
     tie.close
     (tie.spec
+    (λ c κs. search needs) (λ c κs. search needs) (λ c κs. search needs) (λ c κs. search needs) (λ c. search needs)
+    (λ c. minding (c .before .before .before .before .before .before .before .before .before .args .mode) (c .before .before .before .before .before .before .before .before .before .args .dst) (c .before .before .before .before .before .before .before .before .before .args .s1) (c .before .before .before .before .before .before .if1 .taken) (c .before .before .before .before .before .before .before .is-minding .ensures) (c .before .before .before .before .before .is-real-reg .ensures) (c .before .before .before .minding-half-lines .ensures) (c .copy-real .ensures))
     (λ c κs. search needs) (λ c. search needs)
-    (λ c. listing (map Record.Work (halfLines _ _)) (λ ρ. ρ) (c .before .before .half-lines .ensures) refl))
+    (λ c. as-rust (c .before .before .before .before .before .before .before .args .mode) (c .before .before .before .before .before .before .before .args .dst) (c .before .before .before .before .before .before .before .args .s1) (c .before .before .before .before .if1 .left) (c .before .before .before .before .before .is-minding .ensures) refl (c .before .before .half-lines .ensures)))
