@@ -33,9 +33,9 @@ fn setup_changes_nothing() {
     long_header[0] = 70;
     let mut other_kind = make::header(false, &[255; 64]);
     other_kind[2] = 33;
-    let mut third_mode = make::header(false, &[255; 64]);
-    third_mode[4] = 2;
-    for sheet in [&[], short, &long_header, &other_kind, &third_mode] {
+    let mut fourth_mode = make::header(false, &[255; 64]);
+    fourth_mode[4] = 3;
+    for sheet in [&[], short, &long_header, &other_kind, &fourth_mode] {
         let (answer, listing, constants) = lowered(sheet, 100);
         let expected = Answer { number: SETUP, index: 0, written: 0, count: 0, realness: Realness::all_complex() };
         assert_eq!(answer, expected);
