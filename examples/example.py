@@ -1,4 +1,5 @@
-"""Lowers document 01's sheet on paper (Mem 4 = 2 * Mem 3) and plays it on Mem 3 = 3 + 4i, as examples of C and Rust do."""
+"""Lowers document 01's sheet on paper (Mem 4 = 2 * Mem 3), looks at record 1 and plays the listing on Mem 3 = 3 + 4i, as the examples of C and
+Rust do."""
 
 import tulipcricket as tc
 
@@ -10,6 +11,10 @@ INSTRUCTIONS = bytes([7, 0, 6, 0, 0, 0, 0,                      # LoadConst 0, 0
                       8, 0, 5, 0, 0, 1, 4, 0])                  # Save 0, Mem 4
 
 listing = tc.Sheet(HEADER + CONSTANT + INSTRUCTIONS).lower()
-after = listing.play(tc.Store({"Mem 3": 3 + 4j}))
+store = tc.Store({"Mem 3": 3 + 4j})
+looked = listing.look(store, 1)
+written = ", ".join(f"G{index} = {tc.double_of(word):g}" for index, word in looked.words)
+print(f"record 1 writes {written}; next {looked.follows}")
+after = listing.play(store)
 product = complex(after["Mem 4"])
 print(f"Mem 4 = {product.real:g} + {product.imag:g}i after {after.played} records")
