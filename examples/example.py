@@ -1,5 +1,5 @@
-"""Lowers document 01's sheet on paper (Mem 4 = 2 * Mem 3), looks at record 1 and plays the listing on Mem 3 = 3 + 4i, as the examples of C and
-Rust do."""
+"""Lowers document 01's sheet on paper (Mem 4 = 2 * Mem 3), looks at record 1 and plays the listing on Mem 3 = 3 + 4i, as the examples of
+C and Rust do."""
 
 import tulipcricket as tc
 

@@ -18,7 +18,7 @@ const REGISTERS: [u8; 5] = [0, 1, 29, RET, TEMP];
 /// Cases by answer number, and differences.
 #[derive(Default)]
 struct Tally {
-    numbers: [u64; 12],
+    numbers: [u64; 15],
     differences: u64,
 }
 
@@ -38,7 +38,7 @@ impl Tally {
 
     fn report(&self, what: &str) {
         let total: u64 = self.numbers.iter().sum();
-        println!("{what}: {total} sheets, answers 0 to 11: {:?}, {} differences", self.numbers, self.differences);
+        println!("{what}: {total} sheets, answers 0 to 14: {:?}, {} differences", self.numbers, self.differences);
     }
 }
 
