@@ -64,7 +64,8 @@ fn lowered(machine: &impl Machine, parts: &Parts) -> Result<Option<Lowered>, Str
     let mut stages = Vec::new();
     for count in 0..=parts.instructions.len() {
         let (cut, first, _) = lower(machine, &parts.cut(count));
-        if (cut.number, cut.index) != (UNKNOWN, count as u64) || !listing.starts_with(&first) {
+        let number = if count < INSTRUCTIONS { UNKNOWN } else { LONG };
+        if (cut.number, cut.index) != (number, count as u64) || !listing.starts_with(&first) {
             return Err(format!("the first {count} instructions are not lowered as in the sheet: {cut:?}"));
         }
         stages.push(Stage { bytes: first.len(), records: records(&first).len() as u64, realness: cut.realness });

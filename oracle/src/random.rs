@@ -208,8 +208,8 @@ impl Parts {
         self.prefix(self.instructions.len())
     }
 
-    /// The first `count` instructions, a record that lowering refuses by 2, and the labels behind them: the first ones are lowered as in
-    /// the whole sheet, whatever they branch to.
+    /// The first `count` instructions, a record that lowering refuses, by 2, or behind 612 by 14, and the labels behind them: the first ones
+    /// are lowered as in the whole sheet, whatever they branch to.
     pub fn cut(&self, count: usize) -> Vec<u8> {
         let labels = self.instructions[count..].iter().filter(|r| two(r, 2) == LABEL);
         [self.prefix(count), make::raw(CALL, &[0]), labels.flatten().copied().collect()].concat()
