@@ -10,7 +10,7 @@ use lib.Seq.{drop-cons, drop-drop}
 use lib.Dec.{eqb}
 use Rattle.mir.specs.Read.{Read, got, refused}
 use Rattle.replay.specs.Same.{same}
-use Rattle.assembly.specs.Assembled.{joined, pieces, numberFrom}
+use Rattle.assembly.specs.Assembled.{joined, pieces, uncommented, numberFrom}
 use Rattle.assembly.specs.Reading.{before}
 
 one-more : (n k : ℕ) (t : Bool) → n ≤ k → cond t 0 (suc n) ≤ suc k
@@ -87,3 +87,16 @@ stopped c s i h e = rw (drop-cons s i 0 h, e) (omega arith)
 pub at-end : (c : ℕ) (s : List ℕ) (i : ℕ) → length s ≤ i → i ≡ i + before c (drop i s)
 unfolding before
 at-end c s i h = rw (drop-of-length-le s h) (omega arith)
+
+-- what counts of a line ends before its first `#`
+comment : (b n : ℕ) (s u : List ℕ) (t : Bool) → take n s ≡ u → take (cond t 0 (suc n)) (b ∷ s) ≡ cond t [] (b ∷ u)
+comment b n s u true e = refl
+comment b n s u false e = ap (λ s. b ∷ s) e
+
+counts : (s : List ℕ) → take (before 35 s) s ≡ uncommented s
+unfolding before uncommented
+counts [] = refl
+counts (b ∷ s) = comment b (before 35 s) s (uncommented s) (eqb b 35) (counts s)
+
+pub comment-cut : (l : List ℕ) (e : ℕ) → e ≡ 0 + before 35 l → take (e - 0) l ≡ uncommented l
+comment-cut l e q = let n : e - 0 ≡ before 35 l = omega (arith, q) in ap (λ n. take n l) n ∙ counts l

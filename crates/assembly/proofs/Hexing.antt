@@ -21,10 +21,10 @@ use Rattle.assembly.proofs.Rows.{Row, row}
 -- a digit is the one of its number, and a word's byte
 record Hex (n : ℕ) : Type 0 where
   same : digit (hexDigit n) ≡ n
-  above : T (ltb 32 (hexDigit n))
+  above : T (ltb 35 (hexDigit n))
 
 abbrev isHex : ℕ → Bool
-isHex n = eqb (digit (hexDigit n)) n && ltb 32 (hexDigit n)
+isHex n = eqb (digit (hexDigit n)) n && ltb 35 (hexDigit n)
 
 sixteen : T (passing isHex 16 0)
 sixteen = tt
@@ -33,8 +33,8 @@ hex-digit : (n : ℕ) → n < 16 → Hex n
 hex-digit n h =
     let t = passes isHex 16 n sixteen h in
     record {
-      same = eqb-true (digit (hexDigit n)) n (t-true (eqb (digit (hexDigit n)) n) (and-left (eqb (digit (hexDigit n)) n) (ltb 32 (hexDigit n)) t));
-      above = and-right (eqb (digit (hexDigit n)) n) (ltb 32 (hexDigit n)) t;
+      same = eqb-true (digit (hexDigit n)) n (t-true (eqb (digit (hexDigit n)) n) (and-left (eqb (digit (hexDigit n)) n) (ltb 35 (hexDigit n)) t));
+      above = and-right (eqb (digit (hexDigit n)) n) (ltb 35 (hexDigit n)) t;
     }
 
 -- the digits of bytes, the highest first
@@ -74,9 +74,9 @@ are-both : (v w : List ℕ) → T (areDigits v) → T (areDigits w) → T (areDi
 are-both [] w s t = t
 are-both (b ∷ v) w s t = both (isDigit b) (areDigits (v ++ w)) (and-left (isDigit b) (areDigits v) s) (are-both v w (and-right (isDigit b) (areDigits v) s) t)
 
-over-two : (v w : List ℕ) → T (over 32 v) → T (over 32 w) → T (over 32 (v ++ w))
+over-two : (v w : List ℕ) → T (over 35 v) → T (over 35 w) → T (over 35 (v ++ w))
 over-two [] w s t = t
-over-two (b ∷ v) w s t = both (ltb 32 b) (over 32 (v ++ w)) (and-left (ltb 32 b) (over 32 v) s) (over-two v w (and-right (ltb 32 b) (over 32 v) s) t)
+over-two (b ∷ v) w s t = both (ltb 35 b) (over 35 (v ++ w)) (and-left (ltb 35 b) (over 35 v) s) (over-two v w (and-right (ltb 35 b) (over 35 v) s) t)
 
 digit-low : (n : ℕ) → n < 16 → T (isDigit (hexDigit n))
 digit-low n h = true-t (isDigit (hexDigit n)) (lt-ltb (digit (hexDigit n)) 16 (subst (λ x. x < 16) (sym (hex-digit n h .same)) h))
@@ -88,18 +88,18 @@ two-digits b h =
     both (isDigit (hexDigit (b / 16))) (isDigit (hexDigit (b % 16)) && true) (digit-low (b / 16) d)
     (both (isDigit (hexDigit (b % 16))) true (digit-low (b % 16) m) tt)
 
-two-over : (b : ℕ) → b < 256 → T (over 32 (two b))
+two-over : (b : ℕ) → b < 256 → T (over 35 (two b))
 two-over b h =
     let d : b / 16 < 16 = omega arith in
     let m : b % 16 < 16 = omega arith in
-    both (ltb 32 (hexDigit (b / 16))) (ltb 32 (hexDigit (b % 16)) && true) (hex-digit (b / 16) d .above)
-    (both (ltb 32 (hexDigit (b % 16))) true (hex-digit (b % 16) m .above) tt)
+    both (ltb 35 (hexDigit (b / 16))) (ltb 35 (hexDigit (b % 16)) && true) (hex-digit (b / 16) d .above)
+    (both (ltb 35 (hexDigit (b % 16))) true (hex-digit (b % 16) m .above) tt)
 
 all-digits : (bs : List ℕ) → Low bs → T (areDigits (digits bs))
 all-digits [] h = tt
 all-digits (b ∷ bs) h = are-both (digits bs) (two b) (all-digits bs (h .1)) (two-digits b (h .0))
 
-all-over : (bs : List ℕ) → Low bs → T (over 32 (digits bs))
+all-over : (bs : List ℕ) → Low bs → T (over 35 (digits bs))
 all-over [] h = tt
 all-over (b ∷ bs) h = over-two (digits bs) (two b) (all-over bs (h .1)) (two-over b (h .0))
 

@@ -1,5 +1,6 @@
 mod Short
 mod Chains
+mod Runs
 mod Pieces
 mod Cutting
 mod Digits

@@ -8,11 +8,11 @@ use lib.ListN.{length, take, drop, getD}
 use Rattle.mir.specs.Read.{Read, got, refused, andThen}
 use Rattle.text.specs.declared.line.Line.{Line}
 use Rattle.text.specs.Line.{emptyLine, addAll}
-use Rattle.assembly.specs.Assembled.{Reading, pieces, numberFrom, heads, nothing, lineOf}
+use Rattle.assembly.specs.Assembled.{Reading, wordsOf, numberFrom, heads, nothing, lineOf}
 use Rattle.assembly.specs.declared.reading.WordTaken.{WordTaken}
-use Rattle.assembly.specs.Reading.{before, asWordTaken, wordsPut}
+use Rattle.assembly.specs.Reading.{run, asWordTaken, wordsPut}
 use Rattle.assembly.specs.Making.{Told, partOf, tagged, asLine, told}
-use Rattle.assembly.proofs.Cutting.{cutting}
+use Rattle.assembly.proofs.Runs.{no-words, word-at}
 use Rattle.assembly.proofs.Wording.{words-put}
 use Rattle.assembly.proofs.Every.{afterFirst, part-at}
 
@@ -28,29 +28,30 @@ tagging n t = tag (t .ok) n (t .line)
 abbrev pub Said : Read Reading → Read Told
 Said r = andThen r told
 
-first : (l : List ℕ) (e : ℕ) → 0 < length l → e ≡ 0 + before 32 l
-    → lineOf (pieces 32 l) ≡ andThen (numberFrom 0 (map (λ h. h .word) heads) (take (e - 0) l)) (afterFirst (pieces 32 (drop (e + 1) l)))
-unfolding lineOf
-first l e h q = ap lineOf (cutting 32 l 0 e h q)
+-- where the blanks at the front end at i
+module _ (l : List ℕ) (i : ℕ) (q : i ≡ 0 + run 1 l) where
+  pub read-empty : {r : Read Told} → length l ≤ i → r ≡ refused 3 → r ≡ Said (lineOf (wordsOf l))
+  unfolding lineOf
+  read-empty h p = p ∙ sym (ap (λ ws. Said (lineOf ws)) (no-words l 0 i q h))
 
-pub read-at : (l : List ℕ) (e n m : ℕ) {p : Read Line} {r : Read Told} → 0 < length l → e ≡ 0 + before 32 l
-    → got n ≡ numberFrom 0 (map (λ h. h .word) heads) (take (e - 0) l) → drop m l ≡ drop (e + 1) l
-    → p ≡ wordsPut (getD heads n nothing .sorts) (addAll emptyLine (getD heads n nothing .start)) (pieces 32 (drop m l))
-    → r ≡ andThen p (tagged (partOf n)) → r ≡ Said (lineOf (pieces 32 l))
-read-at l e n m {p} {r} h q g d f t =
-    let h' = getD heads n nothing in
-    t
-    ∙ ap (λ x. andThen p (tagged x)) (sym (part-at n))
-    ∙ ap (λ x. andThen x (tagged (h' .part))) f
-    ∙ ap (λ x. andThen (wordsPut (h' .sorts) (addAll emptyLine (h' .start)) (pieces 32 x)) (tagged (h' .part))) d
-    ∙ words-put (h' .part) (h' .sorts) (pieces 32 (drop (e + 1) l)) (h' .start)
-    ∙ sym (ap Said (first l e h q ∙ sym (ap (λ x. andThen x (afterFirst (pieces 32 (drop (e + 1) l)))) g)))
+  -- and the first word at e
+  module _ (e : ℕ) (h : i < length l) (z : e ≡ i + run 0 (drop i l)) where
+    first : lineOf (wordsOf l)
+        ≡ andThen (numberFrom 0 (map (λ h. h .word) heads) (take (e - i) (drop i l))) (afterFirst (wordsOf (drop e l)))
+    unfolding lineOf
+    first = ap lineOf (word-at l 0 i q e h z)
 
-pub read-none : (l : List ℕ) (e : ℕ) {r : Read Told} → 0 < length l → e ≡ 0 + before 32 l
-    → refused 3 ≡ numberFrom 0 (map (λ h. h .word) heads) (take (e - 0) l) → r ≡ refused 3 → r ≡ Said (lineOf (pieces 32 l))
-read-none l e h q g p = p ∙ sym (ap Said (first l e h q ∙ sym (ap (λ x. andThen x (afterFirst (pieces 32 (drop (e + 1) l)))) g)))
+    pub read-at : (n : ℕ) {p : Read Line} {r : Read Told} → got n ≡ numberFrom 0 (map (λ h. h .word) heads) (take (e - i) (drop i l))
+        → p ≡ wordsPut (getD heads n nothing .sorts) (addAll emptyLine (getD heads n nothing .start)) (wordsOf (drop e l))
+        → r ≡ andThen p (tagged (partOf n)) → r ≡ Said (lineOf (wordsOf l))
+    read-at n {p} g f t =
+        let h' = getD heads n nothing in
+        t
+        ∙ ap (λ x. andThen p (tagged x)) (sym (part-at n))
+        ∙ ap (λ x. andThen x (tagged (h' .part))) f
+        ∙ words-put (h' .part) (h' .sorts) (wordsOf (drop e l)) (h' .start)
+        ∙ sym (ap Said (first ∙ sym (ap (λ x. andThen x (afterFirst (wordsOf (drop e l)))) g)))
 
-pub read-empty : (l : List ℕ) {r : Read Told} → length l ≡ 0 → r ≡ refused 3 → r ≡ Said (lineOf (pieces 32 l))
-unfolding lineOf pieces
-read-empty [] h p = p
-read-empty (b ∷ l) h p = absurd (omega (arith, h))
+    pub read-none : {r : Read Told} → refused 3 ≡ numberFrom 0 (map (λ h. h .word) heads) (take (e - i) (drop i l)) → r ≡ refused 3
+        → r ≡ Said (lineOf (wordsOf l))
+    read-none g p = p ∙ sym (ap Said (first ∙ sym (ap (λ x. andThen x (afterFirst (wordsOf (drop e l)))) g)))

@@ -8,8 +8,8 @@ use borrow.Author.Tests.{ne-eqb}
 use lib.Dec.{T, eqb}
 use lib.ListN.{length, getD}
 use Rattle.mir.specs.Read.{Read, got, refused, andThen}
-use Rattle.assembly.specs.Assembled.{numberFrom, wordBytes, Sort, LineKind, FirstWord, nothing, heads, Reading, onto, taking, takingAll, noMore, begun, lineOf, pieces, Draft, withLine, firstLine, stepped, afterLine, assembledFrom}
-use Rattle.assembly.proofs.Pieces.{isWord, areWords, tails, split, first, both}
+use Rattle.assembly.specs.Assembled.{numberFrom, wordBytes, Sort, LineKind, FirstWord, nothing, heads, Reading, onto, taking, takingAll, noMore, begun, lineOf, pieces, uncommented, wordsOf, Draft, withLine, firstLine, withWords, stepped, afterLine, assembledFrom}
+use Rattle.assembly.proofs.Pieces.{isWord, areWords, tails, line-words, first, both}
 use Rattle.assembly.proofs.Words.{Stands, head-word}
 
 -- words that stand for bytes, sort by sort
@@ -32,11 +32,14 @@ taken part start (and {k} {w} {b} {ks} {ws} {bs} e t f) =
     ∙ taken part (start ++ b) f
     ∙ ap (λ b. got (record { part = part; bytes = b; words = [] })) (append-assoc start b bs)
 
--- a line with its line feed: where it is cut, and what is read
+-- a line with its line feed: where it is cut, its words, and what is read
 pub record Says (text : List ℕ) (part : LineKind) (bytes : List ℕ) : Type 0 where
   pub content : List ℕ
   pub cuts : (s : List ℕ) → pieces 10 (text ++ s) ≡ content ∷ pieces 10 s
-  pub said : lineOf (pieces 32 content) ≡ got (record { part = part; bytes = bytes; words = [] })
+  pub first : List ℕ
+  pub others : List (List ℕ)
+  pub words : wordsOf (uncommented content) ≡ first ∷ others
+  pub said : lineOf (first ∷ others) ≡ got (record { part = part; bytes = bytes; words = [] })
 
 module _ (n : ℕ) (h : FirstWord) (l : n < 59) (e : getD heads n nothing ≡ h) where
   read : (ws : List (List ℕ)) (bs : List ℕ) → Fields (h .sorts) ws bs
@@ -56,7 +59,10 @@ module _ (n : ℕ) (h : FirstWord) (l : n < 59) (e : getD heads n nothing ≡ h)
       record {
         content = h .word ++ tails ws;
         cuts = λ s. ap (pieces 10) (append-assoc (h .word ++ tails ws) (10 ∷ []) s) ∙ first (h .word) ws s t u;
-        said = ap lineOf (split (h .word) ws t u) ∙ read ws bs f;
+        first = h .word;
+        others = ws;
+        words = line-words (h .word) ws t u;
+        said = read ws bs f;
       }
 
 pub retold : {t u : List ℕ} {part : LineKind} {a b : List ℕ} → t ≡ u → a ≡ b → Says t part a → Says u part b
@@ -96,7 +102,8 @@ by-line {a} {b} {text} {bytes} {part} p h e =
       goes = λ n rest.
           let k : suc n ≡ 1 + n = omega arith in
           ap (assembledFrom n a) (p .cuts rest)
-          ∙ ap (λ t. afterLine n (cond t (firstLine (lineOf (pieces 32 (p .content)))) (andThen (lineOf (pieces 32 (p .content))) (λ r. withLine a (r .part) (r .bytes)))) (λ s. assembledFrom (suc n) s (pieces 10 rest))) z
+          ∙ ap (λ ws. afterLine n (withWords a ws) (λ s. assembledFrom (suc n) s (pieces 10 rest))) (p .words)
+          ∙ ap (λ t. afterLine n (cond t (firstLine (lineOf (p .first ∷ p .others))) (andThen (lineOf (p .first ∷ p .others)) (λ r. withLine a (r .part) (r .bytes)))) (λ s. assembledFrom (suc n) s (pieces 10 rest))) z
           ∙ ap (λ x. afterLine n (andThen x (λ r. withLine a (r .part) (r .bytes))) (λ s. assembledFrom (suc n) s (pieces 10 rest))) (p .said)
           ∙ ap (λ x. afterLine n x (λ s. assembledFrom (suc n) s (pieces 10 rest))) e
           ∙ ap (λ n. assembledFrom n b (pieces 10 rest)) k;
@@ -113,7 +120,8 @@ by-first {a} {b} {text} {bytes} {part} p h e =
       goes = λ n rest.
           let k : suc n ≡ 1 + n = omega arith in
           ap (assembledFrom n a) (p .cuts rest)
-          ∙ ap (λ t. afterLine n (cond (eqb t 0) (firstLine (lineOf (pieces 32 (p .content)))) (andThen (lineOf (pieces 32 (p .content))) (λ r. withLine a (r .part) (r .bytes)))) (λ s. assembledFrom (suc n) s (pieces 10 rest))) h
+          ∙ ap (λ ws. afterLine n (withWords a ws) (λ s. assembledFrom (suc n) s (pieces 10 rest))) (p .words)
+          ∙ ap (λ t. afterLine n (cond (eqb t 0) (firstLine (lineOf (p .first ∷ p .others))) (andThen (lineOf (p .first ∷ p .others)) (λ r. withLine a (r .part) (r .bytes)))) (λ s. assembledFrom (suc n) s (pieces 10 rest))) h
           ∙ ap (λ x. afterLine n (firstLine x) (λ s. assembledFrom (suc n) s (pieces 10 rest))) (p .said)
           ∙ ap (λ x. afterLine n x (λ s. assembledFrom (suc n) s (pieces 10 rest))) e
           ∙ ap (λ n. assembledFrom n b (pieces 10 rest)) k;

@@ -1,19 +1,17 @@
 -- The lines of a text, one after the other.
 use Prim.Native.Nat.{ℕ, zero, suc, _+_, _-_, _≤_, _<_}
 use mathlib.Core.Path.{_≡_, refl, sym, ap, _∙_, subst}
-use mathlib.Core.Bool.{Bool, true, false, not, cond}
+use mathlib.Core.Bool.{Bool, true, false, cond, _&&_}
 use mathlib.Core.List.{List, [], _∷_, _++_}
 use native.Mathlib.Omega.{arith}
 use native.Mathlib.Numerals.{add-one}
 use borrow.Author.Tests.{eq-eqb, ne-eqb}
-use lib.Dec.{ltb, leb, eqb}
+use lib.Dec.{eqb}
 use lib.ListN.{length, take, drop, drop-of-length-le, length-drop}
-use Rattle.mir.specs.declared.records.Loc.{Loc}
-use Rattle.mir.specs.Read.{Read, got, refused, refuse, andThen}
-use Rattle.mir.specs.Field.{placeAt}
-use Rattle.sheet.specs.Instruction.{instructionFrom}
-use Rattle.assembly.specs.Assembled.{LineKind, mode, real, constantLine, instruction, Reading, Draft, pieces, lineOf, grown, isGot}
-use Rattle.assembly.specs.Assembled.{withPlace, withLine, opened, firstLine, stepped}
+use Rattle.mir.specs.Read.{Read, got, refused, andThen}
+use Rattle.mir.specs.Field.{byteAt}
+use Rattle.assembly.specs.Assembled.{Reading, Draft, pieces, unmarked, uncommented, wordsOf, lineOf}
+use Rattle.assembly.specs.Assembled.{withLine, firstLine, withWords, stepped}
 use Rattle.assembly.specs.Assembled.{Assembled, accepted, refusedAt, afterLine, assembledFrom, assembled}
 use Rattle.assembly.specs.Reading.{before}
 use Rattle.assembly.specs.declared.reading.LineRead.{LineRead}
@@ -24,96 +22,68 @@ use Rattle.assembly.proofs.Cutting.{cutting, ends-within}
 use Rattle.assembly.proofs.Growing.{makes-as}
 use Rattle.assembly.proofs.Heard.{Heard}
 
--- a line by its reading
-module _ (s : Draft) (l : List ℕ) where
-  abbrev after : Read Reading → Read Draft
-  after x = cond (eqb (s .stage) 0) (firstLine x) (andThen x (λ r. withLine s (r .part) (r .bytes)))
+-- a line by the reading of its words
+module _ (s : Draft) (ws : List (List ℕ)) where
+  pub step-none : (m : Made) (out : List ℕ) → Room m out → s ≡ sheetOf m out → ws ≡ []
+      → Makes (withWords s ws) (record { len = m .len; count = m .count; instructions = m .instructions; stage = m .stage; why = 0 }) out
+  unfolding withWords
+  step-none m out room e f =
+      makes-as (ap got (sym e) ∙ sym (ap (withWords s) f))
+      (record { same = refl; low = record { constants = room .1 .constants; instructions = room .1 .instructions; bytes = room .1 .bytes } })
 
-  is-after : after (lineOf (pieces 32 l)) ≡ stepped s l
-  unfolding stepped
-  is-after = refl
+  module _ {w : List ℕ} {vs : List (List ℕ)} (some : ws ≡ w ∷ vs) where
+    abbrev after : Read Reading → Read Draft
+    after x = cond (eqb (s .stage) 0) (firstLine x) (andThen x (λ r. withLine s (r .part) (r .bytes)))
 
-  pub step-heard : (t : LineRead) {m : Made} {o : List ℕ} → Heard (pieces 32 l) t
-      → Makes (withRead s (partOf (t .head)) (take (t .line .len) (t .line .bytes))) m o → Makes (stepped s l) m o
-  step-heard t h =
-      let p = h .part in
-      let b = h .text in
-      makes-as ((λ i. withRead s (p i) (b i)) ∙ sym (ap after (h .found)) ∙ is-after)
+    is-after : after (lineOf ws) ≡ withWords s ws
+    unfolding withWords
+    is-after = ap (λ ws. after (lineOf ws)) some ∙ sym (ap (withWords s) some)
 
-  pub unheard-first : lineOf (pieces 32 l) ≡ refused 3 → s .stage ≡ 0 → refused 1 ≡ stepped s l
-  unheard-first e z =
-      sym (ap (λ t. cond t (refused 1) (refused 3)) (eq-eqb (s .stage) 0 z)) ∙ sym (ap after e) ∙ is-after
+    pub step-heard : (t : LineRead) {m : Made} {o : List ℕ} → Heard ws t
+        → Makes (withRead s (partOf (t .head)) (take (t .line .len) (t .line .bytes))) m o → Makes (withWords s ws) m o
+    step-heard t h =
+        let p = h .part in
+        let b = h .text in
+        makes-as ((λ i. withRead s (p i) (b i)) ∙ sym (ap after (h .found)) ∙ is-after)
 
-  pub unheard-later : lineOf (pieces 32 l) ≡ refused 3 → (s .stage ≡ 0 → ⊥) → refused 3 ≡ stepped s l
-  unheard-later e z =
-      sym (ap (λ t. cond t (refused 1) (refused 3)) (ne-eqb (s .stage) 0 z)) ∙ sym (ap after e) ∙ is-after
+    pub unheard-first : lineOf ws ≡ refused 3 → s .stage ≡ 0 → refused 1 ≡ withWords s ws
+    unheard-first e z =
+        sym (ap (λ t. cond t (refused 1) (refused 3)) (eq-eqb (s .stage) 0 z)) ∙ sym (ap after e) ∙ is-after
 
--- behind a line no sheet is at its start
-abbrev Going : Read Draft → Type 0
-Going (got s) = 0 < s .stage
-Going (refused n) = Unit {0}
+    pub unheard-later : lineOf ws ≡ refused 3 → (s .stage ≡ 0 → ⊥) → refused 3 ≡ withWords s ws
+    unheard-later e z =
+        sym (ap (λ t. cond t (refused 1) (refused 3)) (ne-eqb (s .stage) 0 z)) ∙ sym (ap after e) ∙ is-after
 
-going-test : (t : Bool) (n : ℕ) (r : Read Draft) → Going r → Going (refuse t n r)
-going-test true n r h = tt
-going-test false n r h = h
-
-going-either : (t : Bool) (a b : Read Draft) → Going a → Going b → Going (cond t a b)
-going-either true a b h k = h
-going-either false a b h k = k
-
-going-place : (s : Draft) (p : Read Loc) → Going (withPlace s p)
-going-place s (got (Loc.Stack i)) = omega arith
-going-place s (got (Loc.Mem i)) = tt
-going-place s (got (Loc.Param i)) = omega arith
-going-place s (refused n) = tt
-
-going-line : (s : Draft) (p : LineKind) (b : List ℕ) → Going (withLine s p b)
-unfolding withLine
-going-line s mode b = tt
-going-line s real b = going-test (ltb 1 (s .stage)) 3 (withPlace s (placeAt b 0)) (going-place s (placeAt b 0))
-going-line s constantLine b =
-    let r = got (grown s (suc (s .count)) (s .instructions) 2 b) in
-    going-test (ltb 2 (s .stage)) 3 (refuse (leb 251 (s .count)) 2 r) (going-test (leb 251 (s .count)) 2 r (omega arith))
-going-line s instruction b =
-    let r = got (grown s (s .count) (suc (s .instructions)) 3 b) in
-    let t = not (isGot (instructionFrom (s .count) b)) in
-    going-test (leb 612 (s .instructions)) 4 (refuse t 3 r) (going-test t 3 r (omega arith))
-
-going-opened : (p : LineKind) (b : List ℕ) → Going (opened p b)
-going-opened mode b = omega arith
-going-opened real b = tt
-going-opened constantLine b = tt
-going-opened instruction b = tt
-
-going-first : (x : Read Reading) → Going (firstLine x)
-going-first (got r) = going-opened (r .part) (r .bytes)
-going-first (refused n) = tt
-
-going-then : (s : Draft) (x : Read Reading) → Going (andThen x (λ r. withLine s (r .part) (r .bytes)))
-going-then s (got r) = going-line s (r .part) (r .bytes)
-going-then s (refused n) = tt
-
-going : (s : Draft) (l : List ℕ) → Going (stepped s l)
+-- a line without its comment
+pub by-words : (s : Draft) (l : List ℕ) {u : List ℕ} {m : Made} {o : List ℕ} → u ≡ uncommented l → Makes (withWords s (wordsOf u)) m o
+    → Makes (stepped s l) m o
 unfolding stepped
-going s l =
-    let x = lineOf (pieces 32 l) in
-    going-either (eqb (s .stage) 0) (firstLine x) (andThen x (λ r. withLine s (r .part) (r .bytes))) (going-first x) (going-then s x)
+by-words s l e h = makes-as (ap (λ u. withWords s (wordsOf u)) e) h
+
+-- a byte order mark, by the tests of three bytes
+module _ (t : List ℕ) where
+  abbrev behindMark : Bool → Bool → Bool → List ℕ
+  behindMark x y z = cond (x && (y && z)) (drop 3 t) t
+
+  pub by-marks : (x y z : Bool) → eqb (byteAt t 0) 239 ≡ x → eqb (byteAt t 1) 187 ≡ y → eqb (byteAt t 2) 191 ≡ z → behindMark x y z ≡ unmarked t
+  unfolding unmarked
+  by-marks x y z e f g = sym (λ i. behindMark (e i) (f i) (g i))
 
 -- what the loop keeps, before the line k + 1, which begins at a position
 pub record MadeSoFar (t : List ℕ) (s : Made) (out : List ℕ) (at k : ℕ) : Type 0 where
   pub near : k ≤ at
+  pub count : k ≤ length t
   pub room : Room s out
-  pub fresh : s .stage ≡ 0 → k ≡ 0
   pub same : assembledFrom (suc k) (sheetOf s out) (pieces 10 (drop at t)) ≡ assembled t
 
-pub at-start : (t out : List ℕ) {s : Made} → s ≡ refusal 0 → 69184 ≤ length out → MadeSoFar t s out 0 0
+pub at-start : (t out : List ℕ) (at : ℕ) {s : Made} → s ≡ refusal 0 → 69184 ≤ length out → drop at t ≡ unmarked t → MadeSoFar t s out at 0
 unfolding assembled
-at-start t out e h =
+at-start t out at e h d =
     record {
       near = omega arith;
+      count = omega arith;
       room = (h, subst Low (sym e) (record { constants = omega arith; instructions = omega arith; bytes = omega arith }));
-      fresh = λ z. refl;
-      same = ap (λ s. assembledFrom 1 (sheetOf s out) (pieces 10 t)) e;
+      same = (λ i. assembledFrom 1 (sheetOf (e i) out) (pieces 10 (d i)));
     }
 
 pub inside : (t : List ℕ) (at e : ℕ) → at < length t → e ≡ at + before 10 (drop at t) → (at ≤ e) × (e ≤ length t)
@@ -130,9 +100,9 @@ module _ (t : List ℕ) (s : Made) (out : List ℕ) (at k e : ℕ) (kept : MadeS
   unfolding assembledFrom pieces
   ended h = sym (ap (λ x. assembledFrom (suc k) (sheetOf s out) (pieces 10 x)) (drop-of-length-le t h)) ∙ kept .same
 
-  pub no-line : length t ≤ at → s .stage ≡ 0 → refusedAt 1 1 ≡ assembled t
+  pub no-line : length t ≤ at → s .stage ≡ 0 → refusedAt (k + 1) 1 ≡ assembled t
   no-line h z =
-      ap (λ n. refusedAt (suc n) 1) (sym (kept .fresh z))
+      ap (λ n. refusedAt n 1) (add-one k)
       ∙ sym (ap (λ b. cond b (refusedAt (suc k) 1) (accepted (take (s .len) out))) (eq-eqb (s .stage) 0 z))
       ∙ ended h
 
@@ -163,11 +133,10 @@ module _ (t : List ℕ) (s : Made) (out : List ℕ) (at k e : ℕ) (kept : MadeS
         let x : asSheet m o ≡ got (sheetOf m o) = ap (λ b. cond b (got (sheetOf m o)) (refused (m .why))) v in
         let far = further t at e n h g d in
         let near = kept .near in
-        let some : 0 < m .stage = subst Going (sym (made .same) ∙ x) (going (sheetOf s out) (take (e - at) (drop at t))) in
         record {
           near = omega (arith, far, near);
+          count = omega (arith, h, near);
           room = (subst (λ n. 69184 ≤ n) (sym w) (kept .room .0), made .low);
-          fresh = λ z. absurd (omega (arith, some, z));
           same =
               ap (λ j. assembledFrom (suc j) (sheetOf m o) (pieces 10 (drop n t))) (add-one k)
               ∙ ap (λ y. assembledFrom (suc (suc k)) (sheetOf m o) (pieces 10 y)) d

@@ -22,7 +22,7 @@ use Rattle.sheet.proofs.Setting.{Right, right}
 use Rattle.text.specs.Text.{ascii}
 use Rattle.assembly.specs.Lines.{modeLine}
 use Rattle.assembly.specs.SheetText.{realLines, constantLines, instructionLines, ofSetup, linesOf, sheetText, Readable}
-use Rattle.assembly.specs.Assembled.{aMode, mode, heads, wordBytes, Draft, noSheet, accepted, refusedAt, assembledFrom, assembled, pieces}
+use Rattle.assembly.specs.Assembled.{aMode, mode, heads, wordBytes, Draft, noSheet, accepted, refusedAt, assembledFrom, assembled, pieces, unmarked}
 use Rattle.assembly.specs.RoundTrip.{RoundTrip}
 use Rattle.assembly.proofs.Pieces.{tails}
 use Rattle.assembly.proofs.Words.{modeByte, modeName, mode-word}
@@ -122,6 +122,13 @@ opening m =
         (λ t. let k = ltb-false i 64 t in let n = lib.ListN.length-take 64 ps in
         subst (λ x. x < 256) (sym (lib.ListN.List·getD-eq-default (take 64 ps) 0 {n = i} (omega (arith, n, k)))) (omega arith))
 
+-- a sheet's text begins with no byte order mark
+no-mark : (m : Mode) (a b c : List ℕ) → unmarked (modeLine m ++ a ++ b ++ c) ≡ modeLine m ++ a ++ b ++ c
+unfolding unmarked modeLine ascii
+no-mark Mode.Plain a b c = refl
+no-mark Mode.Stable a b c = refl
+no-mark Mode.Minding a b c = refl
+
 pub round-trip : RoundTrip sheetText
 unfolding sheetText assembled assembledFrom pieces
 round-trip s bytes r =
@@ -151,7 +158,8 @@ round-trip s bytes r =
         a ▹ onward-as refl (ap (λ m. record { bytes = take (69 + 12 * m) s; count = m; instructions = 0; stage = b .far }) o) (b .way)
         ▹ onward-as (ap (λ d. instructionLines (d .items)) (sym all)) refl (c .way) in
         let e : eqb (c .far) 0 ≡ false = ne-eqb (c .far) 0 (λ x. omega (arith, x, c .some)) in
-        ap (λ u. assembledFrom 1 noSheet (pieces 10 (linesOf s u))) (k .whole)
+        ap (λ u. assembledFrom 1 noSheet (pieces 10 (unmarked (linesOf s u)))) (k .whole)
+        ∙ ap (λ l. assembledFrom 1 noSheet (pieces 10 l)) (no-mark (k .mode) (realLines (take 64 (drop 5 s)) 512 0) (constantLines (constantsOf s n)) (instructionLines (ofSetup s (record { number = 0; mode = k .mode; places = take 64 (drop 5 s); count = n; start = 69 + 12 * n }) .items)))
         ∙ ap (λ l. assembledFrom 1 noSheet (pieces 10 l)) (sym (append-nil (linesOf s (record { number = 0; mode = k .mode; places = take 64 (drop 5 s); count = n; start = 69 + 12 * n }))))
         ∙ way .goes 1 []
         ∙ ap (λ t. cond t (refusedAt (way .lines + 1) 1) (accepted s)) e

@@ -10,11 +10,11 @@ use lib.Seq.{drop-cons}
 use Rattle.mir.specs.Read.{Read, got, refused, andThen}
 use Rattle.text.specs.declared.line.Line.{Line}
 use Rattle.text.specs.Line.{emptyLine, addAll, addAll-append}
-use Rattle.assembly.specs.Assembled.{Sort, LineKind, Reading, pieces, wordBytes, onto, taking, takingAll, noMore}
+use Rattle.assembly.specs.Assembled.{Sort, LineKind, Reading, wordsOf, wordBytes, onto, taking, takingAll, noMore}
 use Rattle.assembly.specs.declared.reading.WordTaken.{WordTaken}
-use Rattle.assembly.specs.Reading.{before, sortOf, asWordTaken, wordsPut}
+use Rattle.assembly.specs.Reading.{run, sortOf, asWordTaken, wordsPut}
 use Rattle.assembly.specs.Making.{Told, tagged, told}
-use Rattle.assembly.proofs.Cutting.{cutting}
+use Rattle.assembly.proofs.Runs.{no-words, word-at}
 
 pub behind-end : (s : List ℕ) (e : ℕ) → length s ≤ e → drop e s ≡ drop (e + 1) s
 behind-end s e h = let g : length s ≤ e + 1 = omega (arith, h) in drop-of-length-le s h ∙ sym (drop-of-length-le s g)
@@ -25,49 +25,49 @@ after : (r : Read (List ℕ)) (line : Line) (ks : List Sort) (ws : List (List �
 after (got b) line ks ws = refl
 after (refused n) line ks ws = refl
 
-module _ (sorts l : List ℕ) (k at e : ℕ) (line : Line) {r : Read Line}
-    (known : wordsPut (map sortOf (drop k sorts)) line (pieces 32 (drop at l)) ≡ r) where
-  pub no-word : k < length sorts → length l ≤ at → refused 3 ≡ r
-  unfolding wordsPut pieces
-  no-word h g = rw (drop-cons sorts k 0 h, drop-of-length-le l g) at known
-
-  -- the word there, and the words behind it
-  abbrev here : Read (List ℕ)
-  here = wordBytes (sortOf (getD sorts k 0)) (take (e - at) (drop at l))
-
-  abbrev onward : Line → Read Line
-  onward m = wordsPut (map sortOf (drop (k + 1) sorts)) m (pieces 32 (drop (e + 1) l))
-
-  next-word : k < length sorts → at < length l → e ≡ at + before 32 (drop at l) → andThen here (λ b. onward (addAll line b)) ≡ r
+-- from a position on, where the blanks end at i
+module _ (sorts l : List ℕ) (k at i : ℕ) (line : Line) {r : Read Line}
+    (known : wordsPut (map sortOf (drop k sorts)) line (wordsOf (drop at l)) ≡ r) (q : i ≡ at + run 1 (drop at l)) where
+  pub no-word : k < length sorts → length l ≤ i → refused 3 ≡ r
   unfolding wordsPut
-  next-word h g q = rw (add-one k) (rw (drop-cons sorts k 0 h, cutting 32 l at e g q) at known)
+  no-word h g = rw (drop-cons sorts k 0 h, no-words l at i q g) at known
 
-  module _ (t : WordTaken) (h : k < length sorts) (g : at < length l) (q : e ≡ at + before 32 (drop at l))
-      (put : asWordTaken t ≡ andThen here (λ b. got (addAll line b))) where
-    through : andThen (asWordTaken t) onward ≡ r
-    through =
-        ap (λ x. andThen x onward) put
-        ∙ sym (after here line (map sortOf (drop (k + 1) sorts)) (pieces 32 (drop (e + 1) l)))
-        ∙ next-word h g q
+  -- the word there, which ends at e, and the words behind it
+  module _ (e : ℕ) (h : k < length sorts) (g : i < length l) (p : e ≡ i + run 0 (drop i l)) where
+    abbrev here : Read (List ℕ)
+    here = wordBytes (sortOf (getD sorts k 0)) (take (e - i) (drop i l))
 
-    pub bad-word : t .ok ≡ false → asWordTaken t ≡ r
-    bad-word f =
-        let x : asWordTaken t ≡ refused 3 = ap (λ b. cond b (got (t .line)) (refused 3)) f in
-        x ∙ sym (ap (λ x. andThen x onward) x) ∙ through
+    abbrev onward : Line → Read Line
+    onward m = wordsPut (map sortOf (drop (k + 1) sorts)) m (wordsOf (drop e l))
 
-    pub good-word : (n : ℕ) → t .ok ≡ true → drop n l ≡ drop (e + 1) l
-        → wordsPut (map sortOf (drop (k + 1) sorts)) (t .line) (pieces 32 (drop n l)) ≡ r
-    good-word n f d =
-        let x : asWordTaken t ≡ got (t .line) = ap (λ b. cond b (got (t .line)) (refused 3)) f in
-        ap (λ x. wordsPut (map sortOf (drop (k + 1) sorts)) (t .line) (pieces 32 x)) d ∙ sym (ap (λ x. andThen x onward) x) ∙ through
+    next-word : andThen here (λ b. onward (addAll line b)) ≡ r
+    unfolding wordsPut
+    next-word = rw (add-one k) (rw (drop-cons sorts k 0 h, word-at l at i q e g p) at known)
 
-  pub all-put : length sorts ≤ k → length l ≤ at → got line ≡ r
-  unfolding wordsPut pieces
-  all-put h g = rw (drop-of-length-le sorts h, drop-of-length-le l g) at known
+    module _ (t : WordTaken) (put : asWordTaken t ≡ andThen here (λ b. got (addAll line b))) where
+      through : andThen (asWordTaken t) onward ≡ r
+      through =
+          ap (λ x. andThen x onward) put
+          ∙ sym (after here line (map sortOf (drop (k + 1) sorts)) (wordsOf (drop e l)))
+          ∙ next-word
 
-  pub too-many : length sorts ≤ k → at < length l → refused 3 ≡ r
+      pub bad-word : t .ok ≡ false → asWordTaken t ≡ r
+      bad-word f =
+          let x : asWordTaken t ≡ refused 3 = ap (λ b. cond b (got (t .line)) (refused 3)) f in
+          x ∙ sym (ap (λ x. andThen x onward) x) ∙ through
+
+      pub good-word : t .ok ≡ true → wordsPut (map sortOf (drop (k + 1) sorts)) (t .line) (wordsOf (drop e l)) ≡ r
+      good-word f =
+          let x : asWordTaken t ≡ got (t .line) = ap (λ b. cond b (got (t .line)) (refused 3)) f in
+          sym (ap (λ x. andThen x onward) x) ∙ through
+
+  pub all-put : length sorts ≤ k → length l ≤ i → got line ≡ r
   unfolding wordsPut
-  too-many h g = rw (drop-of-length-le sorts h, cutting 32 l at (at + before 32 (drop at l)) g refl) at known
+  all-put h g = rw (drop-of-length-le sorts h, no-words l at i q g) at known
+
+  pub too-many : length sorts ≤ k → i < length l → refused 3 ≡ r
+  unfolding wordsPut
+  too-many h g = rw (drop-of-length-le sorts h, word-at l at i q (i + run 0 (drop i l)) g refl) at known
 
 -- what is put is what the definition reads
 module _ (part : LineKind) where

@@ -1,9 +1,9 @@
--- A sheet from its text: a line is words between single spaces, its first word says what it is, the others are its fields in order.
+-- A sheet from its text: the first word of a line says what it is, the others are its fields in order.
 use Prim.Native.Nat.{ℕ, zero, suc, _+_, _-_, _*_, _/_, _%_, _^_}
 use Prim.Native.String.{String}
 use mathlib.Core.Bool.{Bool, true, false, not, cond, _&&_, _||_}
 use mathlib.Core.List.{List, [], _∷_, _++_, map}
-use lib.ListN.{length, getD, set, replicate}
+use lib.ListN.{length, getD, set, drop, replicate}
 use lib.Dec.{ltb, leb, eqb}
 use Rattle.mir.specs.declared.records.Loc.{Loc}
 use Rattle.mir.specs.declared.records.Instruction.{Instruction}
@@ -26,6 +26,30 @@ joined b (w ∷ ws) = (b ∷ w) ∷ ws
 unfoldable pub pieces : ℕ → List ℕ → List (List ℕ)
 pieces c [] = []
 pieces c (b ∷ s) = cond (eqb b c) ([] ∷ pieces c s) (joined b (pieces c s))
+
+-- a text may begin with a byte order mark, EF BB BF, which counts for nothing
+unfoldable pub unmarked : List ℕ → List ℕ
+unmarked s = cond (eqb (byteAt s 0) 239 && (eqb (byteAt s 1) 187 && eqb (byteAt s 2) 191)) (drop 3 s) s
+
+-- of a line counts what stands before its first `#`
+unfoldable pub uncommented : List ℕ → List ℕ
+uncommented [] = []
+uncommented (b ∷ s) = cond (eqb b 35) [] (b ∷ uncommented s)
+
+-- the bytes between words: space, tab and carriage return
+unfoldable pub isBlank : ℕ → Bool
+isBlank b = eqb b 32 || (eqb b 9 || eqb b 13)
+
+-- whether a word ends before these bytes: none is left, or the first is a blank
+abbrev pub wordEnds : List ℕ → Bool
+wordEnds [] = true
+wordEnds (b ∷ s) = isBlank b
+
+-- the words: the longest runs of bytes that are no blanks
+unfoldable pub wordsOf : List ℕ → List (List ℕ)
+unfolding isBlank
+wordsOf [] = []
+wordsOf (b ∷ s) = cond (isBlank b) (wordsOf s) (cond (wordEnds s) ((b ∷ []) ∷ wordsOf s) (joined b (wordsOf s)))
 
 -- the number of a word in a row of words, of which the first has number n; 3: it is none of them
 unfoldable pub numberFrom : ℕ → List (List ℕ) → List ℕ → Read ℕ
@@ -235,10 +259,16 @@ abbrev pub firstLine : Read Reading → Read Draft
 firstLine (got r) = opened (r .part) (r .bytes)
 firstLine (refused n) = refused 1
 
+-- a line by its words; one without words counts for nothing
+unfoldable pub withWords : Draft → List (List ℕ) → Read Draft
+unfolding lineOf withLine
+withWords s [] = got s
+withWords s (w ∷ ws) =
+    cond (eqb (s .stage) 0) (firstLine (lineOf (w ∷ ws))) (andThen (lineOf (w ∷ ws)) (λ r. withLine s (r .part) (r .bytes)))
+
 unfoldable pub stepped : Draft → List ℕ → Read Draft
-unfolding pieces lineOf withLine
-stepped s l =
-    cond (eqb (s .stage) 0) (firstLine (lineOf (pieces 32 l))) (andThen (lineOf (pieces 32 l)) (λ r. withLine s (r .part) (r .bytes)))
+unfolding uncommented wordsOf withWords
+stepped s l = withWords s (wordsOf (uncommented l))
 
 -- a sheet's bytes, or the number of the first line that is refused, and why (1: no mode, 2: sheet full, with 251 constants, 3: no
 -- such line, 4: sheet too long)
@@ -246,7 +276,7 @@ pub data Assembled : Type 0 where
   accepted : List ℕ → Assembled
   refusedAt : ℕ → ℕ → Assembled
 
--- line after line, of which the first has number n; a text without a line has no mode
+-- line after line, of which the first has number n; where no mode was found, it is missed behind the last line
 abbrev pub ended : ℕ → Draft → Assembled
 ended n s = cond (eqb (s .stage) 0) (refusedAt n 1) (accepted (s .bytes))
 
@@ -263,8 +293,8 @@ abbrev pub noSheet : Draft
 noSheet = record { bytes = []; count = 0; instructions = 0; stage = 0 }
 
 unfoldable pub assembled : List ℕ → Assembled
-unfolding pieces assembledFrom
-assembled text = assembledFrom 1 noSheet (pieces 10 text)
+unfolding pieces unmarked assembledFrom
+assembled text = assembledFrom 1 noSheet (pieces 10 (unmarked text))
 
 -- the sheet, or the line of its refusal
 abbrev pub outcome : Assembled → List ℕ

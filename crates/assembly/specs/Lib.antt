@@ -1,6 +1,7 @@
 pub mod Lines
 pub mod SheetText
 pub mod Assembled
+pub mod Facts
 pub mod RoundTrip
 pub mod Reading
 pub mod Making

@@ -8,12 +8,21 @@ use Rattle.text.specs.declared.line.Line.{Line}
 use Rattle.text.specs.Line.{emptyLine, addAll}
 use Rattle.assembly.specs.declared.reading.Number.{Number}
 use Rattle.assembly.specs.declared.reading.WordTaken.{WordTaken}
-use Rattle.assembly.specs.Assembled.{FirstWord, Sort, aRegister, aClass, anIndex, aByte, aMode, bits, wordBytes}
+use Rattle.assembly.specs.Assembled.{isBlank, FirstWord, Sort, aRegister, aClass, anIndex, aByte, aMode, bits, wordBytes}
 
 -- how many bytes stand before the first byte c
 unfoldable pub before : ℕ → List ℕ → ℕ
 before c [] = 0
 before c (b ∷ s) = cond (eqb b c) 0 (suc (before c s))
+
+-- 1 for a blank, 0 for another byte
+abbrev pub blankness : ℕ → ℕ
+blankness b = cond (isBlank b) 1 0
+
+-- how many bytes at the front are blanks, by 1, or how many are none, by 0
+unfoldable pub run : ℕ → List ℕ → ℕ
+run k [] = 0
+run k (b ∷ s) = cond (eqb (blankness b) k) (suc (run k s)) 0
 
 abbrev pub asNumber : Number → Read ℕ
 asNumber (Number.At n) = got n

@@ -1,11 +1,11 @@
 // A sheet made of its text, line after line, in lent bytes.
 ghost use Prim.Native.Nat.{_^_, _%_, _≤_};
 ghost use mathlib.Core.Path.{_≡_};
-ghost use lib.ListN.{length, take};
+ghost use lib.ListN.{length, take, drop};
 ghost use Rattle.mir.specs.Read.{got};
 ghost use Rattle.mir.specs.Field.{placeAt};
-ghost use Rattle.assembly.specs.Assembled.{real, constantLine, instruction, marked, grown, withLine, opened, stepped};
-ghost use Rattle.assembly.specs.Assembled.{assembled, outcome, written};
+ghost use Rattle.assembly.specs.Assembled.{real, constantLine, instruction, marked, grown, withLine, opened, wordsOf};
+ghost use Rattle.assembly.specs.Assembled.{unmarked, withWords, stepped, assembled, outcome, written};
 ghost use Rattle.assembly.specs.Lines.{longText};
 ghost use Rattle.assembly.specs.Reading.{asNumber};
 ghost use Rattle.assembly.specs.Making.{partOf, placeBit, withBit, sheetOf, refusal, Room, Grows, Makes, withRead, asAssembled};
@@ -15,6 +15,7 @@ use super::reading::Number;
 use super::reading::behind;
 use super::reading::piece_end;
 use super::reading::read_line;
+use super::reading::run_end;
 use lowering::realness::power_of;
 use mir::fields::byte;
 use mir::fields::u16_at;
@@ -213,11 +214,20 @@ fn with_first(out: &mut [u8], s: Made, head: usize, b: &[u8], n: usize) -> Made
     with_read(out, s, head, b)
 }
 
-// A line more.
-fn step(out: &mut [u8], s: Made, l: &[u8]) -> Made
+// The words of a line more; no words change nothing.
+fn with_words(out: &mut [u8], s: Made, l: &[u8]) -> Made
     requires { ⌜ Room s (now out) ⌝ }
-    ensures { λ r. ⌜ Makes (stepped (sheetOf s (now (out .entry))) (now (l .entry))) r (now (out .exit)) ⌝ }
+    ensures { λ r. ⌜ Makes (withWords (sheetOf s (now (out .entry))) (wordsOf (now (l .entry)))) r (now (out .exit)) ⌝ }
 {
+    if l.len() <= run_end(l, 0, 1) {
+        return Made {
+            len: s.len,
+            count: s.count,
+            instructions: s.instructions,
+            stage: s.stage,
+            why: 0,
+        };
+    }
     let t = read_line(l);
     if t.ok {
         let line = t.line;
@@ -228,6 +238,28 @@ fn step(out: &mut [u8], s: Made, l: &[u8]) -> Made
         return refuse(1);
     }
     refuse(3)
+}
+
+// A line more, without its comment.
+fn step(out: &mut [u8], s: Made, l: &[u8]) -> Made
+    requires { ⌜ Room s (now out) ⌝ }
+    ensures { λ r. ⌜ Makes (stepped (sheetOf s (now (out .entry))) (now (l .entry))) r (now (out .exit)) ⌝ }
+{
+    let end = piece_end(l, 0, b'#');
+    with_words(out, s, &l[0..end])
+}
+
+// Behind a byte order mark, if the text begins with one.
+fn text_start(t: &[u8]) -> usize
+    ensures { λ r. ⌜ drop r (now (t .entry)) ≡ unmarked (now (t .entry)) ⌝ }
+{
+    if byte(t, 0) != 0xef {
+        return 0;
+    }
+    if byte(t, 1) != 0xbb {
+        return 0;
+    }
+    if byte(t, 2) == 0xbf { 3 } else { 0 }
 }
 
 // A sheet that is made, its bytes; or the line that is refused, and why (0: none is).
@@ -243,7 +275,7 @@ fn make(out: &mut [u8], t: &[u8]) -> MakeAnswer
     ensures { λ r. ⌜ (asAssembled r (now (out .exit)) ≡ assembled (now (t .entry))) × (r .len ≤ 69184) ⌝ }
 {
     let mut s = refuse(0);
-    let mut at: usize = 0;
+    let mut at = text_start(t);
     let mut k: u64 = 0;
     while at < t.len() {
         let end = piece_end(t, at, b'\n');
@@ -261,7 +293,7 @@ fn make(out: &mut [u8], t: &[u8]) -> MakeAnswer
     if s.stage == 0 {
         return MakeAnswer {
             len: 0,
-            line: 1,
+            line: k + 1,
             why: 1,
         };
     }

@@ -3,9 +3,9 @@ ghost use mathlib.Core.Path.{_≡_};
 ghost use Prim.Native.Nat.{_+_, _%_};
 ghost use lib.ListN.{drop, getD};
 ghost use mathlib.Core.List.{[], _∷_, map};
-ghost use Rattle.assembly.specs.Assembled.{pieces, numberFrom, registerWords, classWords, indexWords, modeWords};
+ghost use Rattle.assembly.specs.Assembled.{pieces, wordsOf, numberFrom, registerWords, classWords, indexWords, modeWords};
 ghost use Rattle.assembly.specs.Assembled.{heads, nothing, lineOf, digit, pair, areDigits, bitsOf, wordBytes};
-ghost use Rattle.assembly.specs.Reading.{before, asNumber, asWordTaken, sortOf, wordsPut, headPut};
+ghost use Rattle.assembly.specs.Reading.{before, blankness, run, asNumber, asWordTaken, sortOf, wordsPut, headPut};
 ghost use Rattle.assembly.specs.Making.{partOf, tagged, asLine, told};
 ghost use Rattle.text.specs.Line.{emptyLine, addAll};
 ghost use Rattle.mir.specs.Read.{got, refused, andThen};
@@ -21,6 +21,33 @@ pub fn piece_end(s: &[u8], at: usize, c: u8) -> usize
     let mut i = at;
     while i < s.len() {
         if s[i] == c {
+            return i;
+        }
+        i += 1;
+    }
+    i
+}
+
+// 1 for a blank, 0 for another byte.
+fn blankness_of(b: u8) -> u8
+    ensures { λ r. ⌜ r ≡ blankness b ⌝ }
+{
+    if b == b' ' {
+        return 1;
+    }
+    if b == b'\t' {
+        return 1;
+    }
+    if b == b'\r' { 1 } else { 0 }
+}
+
+// Where the blanks that begin at a position end, by 1, or where the word ends, by 0.
+pub(crate) fn run_end(s: &[u8], at: usize, k: u8) -> usize
+    ensures { λ r. ⌜ r ≡ at + run k (drop at (now (s .entry))) ⌝ }
+{
+    let mut i = at;
+    while i < s.len() {
+        if blankness_of(s[i]) != k {
             return i;
         }
         i += 1;
@@ -247,25 +274,26 @@ pub(crate) fn behind(s: &[u8], end: usize) -> usize
 
 // The bytes of a line's words from a position on, by their sorts; there is no word more, and no word fewer.
 pub fn put_words(start: Line, sorts: &[u8], l: &[u8], from: usize) -> WordTaken
-    ensures { λ r. ⌜ asWordTaken r ≡ wordsPut (map sortOf (now (sorts .entry))) start (pieces 32 (drop from (now (l .entry)))) ⌝ }
+    ensures { λ r. ⌜ asWordTaken r ≡ wordsPut (map sortOf (now (sorts .entry))) start (wordsOf (drop from (now (l .entry)))) ⌝ }
 {
     let mut line = start;
     let mut at = from;
     let mut k: usize = 0;
     while k < sorts.len() {
-        if l.len() <= at {
+        let word = run_end(l, at, 1);
+        if l.len() <= word {
             return without(line);
         }
-        let end = piece_end(l, at, b' ');
-        let t = put_word(line, sorts[k], &l[at..end]);
+        let end = run_end(l, word, 0);
+        let t = put_word(line, sorts[k], &l[word..end]);
         if !t.ok {
             return t;
         }
         line = t.line;
-        at = behind(l, end);
+        at = end;
         k += 1;
     }
-    if at < l.len() {
+    if run_end(l, at, 1) < l.len() {
         return without(line);
     }
     with_word(line)
@@ -300,7 +328,7 @@ const SORTS: [u8; 295] = *b"\
 
 // The bytes of a line by the number of its first word; the others begin at a position.
 fn put_rest(n: usize, l: &[u8], at: usize) -> WordTaken
-    ensures { λ r. ⌜ asWordTaken r ≡ headPut (getD heads n nothing) (pieces 32 (drop at (now (l .entry)))) ⌝ }
+    ensures { λ r. ⌜ asWordTaken r ≡ headPut (getD heads n nothing) (wordsOf (drop at (now (l .entry)))) ⌝ }
 {
     if n < 59 {
         let from = 5 * n;
@@ -343,14 +371,15 @@ fn no_line() -> LineRead
 
 // What a line is, and its bytes.
 pub fn read_line(l: &[u8]) -> LineRead
-    ensures { λ r. ⌜ asLine r ≡ andThen (lineOf (pieces 32 (now (l .entry)))) told ⌝ }
+    ensures { λ r. ⌜ asLine r ≡ andThen (lineOf (wordsOf (now (l .entry)))) told ⌝ }
 {
-    if l.len() == 0 {
+    let word = run_end(l, 0, 1);
+    if l.len() <= word {
         return no_line();
     }
-    let end = piece_end(l, 0, b' ');
-    match head_number(&l[0..end]) {
-        Number::At(n) => with_head(n, put_rest(n, l, behind(l, end))),
+    let end = run_end(l, word, 0);
+    match head_number(&l[word..end]) {
+        Number::At(n) => with_head(n, put_rest(n, l, end)),
         Number::None => no_line(),
     }
 }

@@ -21,7 +21,11 @@ make-spec =
     Inv-loop
     μ-loop
     (λ c κs. search needs)
-    (λ c. let d = c .before .before .before in (refl, at-start (d .args .t .now) (d .args .out .now) (c .refuse .ensures) (d .pre)))
+    (λ c κs. search needs)
+    (λ c.
+    let d = c .before .before .before .before in
+    let a = d .args in
+    (refl, at-start (a .t .now) (a .out .now) (c .text-start .result) (c .before .refuse .ensures) (d .pre) (c .text-start .ensures)))
     (λ c κs. search needs)
     (λ c. let k = inside _ _ _ (c .before .before .loop-test .taken) (c .before .piece-end .ensures) in omega (arith, k))
     (λ c. let k = inside _ _ _ (c .before .before .loop-test .taken) (c .before .piece-end .ensures) in omega (arith, k))
@@ -38,7 +42,7 @@ make-spec =
     let d = c .before .before .before .before .before .before .before in
     let v = d .before .before .loop in
     let p = d .piece-end in
-    let t = d .before .before .before .before .before .before .args .t .now in (
+    let t = d .before .before .before .before .before .before .before .args .t .now in (
       refused-here t (v .s) (v .out) (v .at) (v .k) (p .result) (v .inv .1) (d .before .loop-test .taken) (p .ensures)
           (c .before .before .before .before .step .ensures) (c .if1 .taken),
       omega arith,
@@ -52,7 +56,7 @@ make-spec =
     let d = c .before .before .before .before .before .before .before .before in
     let more = d .before .loop-test .taken in
     let k = inside _ _ _ more (d .piece-end .ensures) in
-    let t = d .before .before .before .before .before .before .args .t .now in
+    let t = d .before .before .before .before .before .before .before .args .t .now in
     let far = further t (d .before .before .loop .at) (d .piece-end .result) (c .behind .result) more (k .0) (c .behind .ensures) in
     omega (arith, far, more))
     (λ c.
@@ -62,20 +66,21 @@ make-spec =
     let more = d .before .loop-test .taken in
     let k = inside _ _ _ more (p .ensures) in
     let q = c .before .before .before .before .before .step in
-    let t = d .before .before .before .before .before .before .args .t .now in (
+    let t = d .before .before .before .before .before .before .before .args .t .now in (
       omega (arith, q .kept .0, v .inv .0),
       next-line t (v .s) (v .out) (v .at) (v .k) (p .result) (v .inv .1) more (p .ensures) (q .ensures) (c .behind .result)
           (c .before .if1 .left) (k .0) (c .behind .ensures) (omega (arith, q .kept .0)),
     ))
+    (λ c. omega (arith, c .before .before .before .loop .inv .1 .count))
     (λ c. omega (arith, c .before .before .before .loop .inv .0))
     (λ c.
     let d = c .before .before .before in
     let v = d .loop in
-    let t = d .before .before .before .before .args .t .now in
+    let t = d .before .before .before .before .before .args .t .now in
     (no-line t (v .s) (v .out) (v .at) (v .k) 0 (v .inv .1) (omega arith) (c .if2 .taken), omega arith))
     (λ c. omega (arith, c .before .before .before .loop .inv .0))
     (λ c.
     let d = c .before .before .before in
     let v = d .loop in
-    let t = d .before .before .before .before .args .t .now in
+    let t = d .before .before .before .before .before .args .t .now in
     (all-lines t (v .s) (v .out) (v .at) (v .k) 0 (v .inv .1) (omega arith) (c .if2 .left), let r = v .inv .1 .room .1 in omega (arith, r .constants, r .instructions, r .bytes))))

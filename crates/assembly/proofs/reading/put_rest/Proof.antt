@@ -3,7 +3,7 @@ use borrow.Author.Needs.{needs}
 use native.Mathlib.Omega.{arith}
 use mathlib.Core.Path.{_≡_, _∙_}
 use lib.ListN.{drop, getD}
-use Rattle.assembly.specs.Assembled.{pieces}
+use Rattle.assembly.specs.Assembled.{wordsOf}
 use Rattle.assembly.proofs.Table.{startLengths, starts, sortCounts, sortsOf, start-short, sorts-few, row, no-row}
 use Rattle.assembly.proofs.reading.put_rest.Statement.{statement}
 use Rattle.assembly.proofs.reading.put_rest.Tie as tie
@@ -32,11 +32,11 @@ put-rest-spec =
     (λ c.
     let a = c .before .before .before .before .before .before .before .before .before .before .before .before .before .args in
     c .put-words .ensures
-    ∙ row (a .n) (c .before .before .before .before .before .before .before .before .before .byte .result) (c .before .before .before .before .before .before .before .byte2 .result) (pieces 32 (drop (a .at) (a .l .now))) (omega arith) (c .before .before .before .before .before .before .before .before .before .byte .ensures) (c .before .before .before .before .before .before .before .byte2 .ensures)
+    ∙ row (a .n) (c .before .before .before .before .before .before .before .before .before .byte .result) (c .before .before .before .before .before .before .before .byte2 .result) (wordsOf (drop (a .at) (a .l .now))) (omega arith) (c .before .before .before .before .before .before .before .before .before .byte .ensures) (c .before .before .before .before .before .before .before .byte2 .ensures)
     (c .before .before .before .before .before .before .empty-line .ensures) (c .before .before .before .text .ensures .same))
     (λ c κs. search needs)
     (λ c. omega arith) (λ c. omega arith) (λ c. omega arith)
     (λ c κs. search needs)
     (λ c.
     let a = c .before .before .before .before .before .before .args in
-    c .put-words2 .ensures ∙ no-row (a .n) (pieces 32 (drop (a .at) (a .l .now))) (omega arith) (c .before .before .before .empty-line2 .ensures)))
+    c .put-words2 .ensures ∙ no-row (a .n) (wordsOf (drop (a .at) (a .l .now))) (omega arith) (c .before .before .before .empty-line2 .ensures)))
