@@ -199,7 +199,9 @@ static const uint8_t listed[] = {7, 0, 6, 0, 4, 0, 0, 9, 0, 11, 0, 6, 7, 1, 3, 0
 static void lower(const Environment *e) {
     uint8_t listing[64], listing_after[sizeof listing];
     uint64_t constants[TULIPCRICKET_CONSTANTS / 8], constants_after[TULIPCRICKET_CONSTANTS / 8];
-    uint64_t answer[TULIPCRICKET_LOWER_ANSWER / 8], expected[TULIPCRICKET_LOWER_ANSWER / 8] = {0, 4, sizeof listed, 1};
+    uint8_t answer[TULIPCRICKET_LOWER_ANSWER];
+    static const uint8_t expected[TULIPCRICKET_LOWER_ANSWER] = {
+        [8] = 4, [16] = sizeof listed, [24] = 1, [128 + 4] = 1, 1, 1, 1}; /* filled: G4 to G7; drawn on: nothing */
     memset(listing, LENT, sizeof listing);
     memset(constants, LENT, sizeof constants);
     memset(answer, LENT, sizeof answer);
@@ -209,7 +211,7 @@ static void lower(const Environment *e) {
     constants_after[0] = 0x4000000000000000;
     enter(e);
     uint32_t number = tulipcricket_lower(sheet, sizeof sheet, listing, sizeof listing, (uint8_t *)constants, sizeof constants,
-                                         (uint8_t *)answer, sizeof answer);
+                                         answer, sizeof answer);
     kept(e, "tulipcricket_lower", leave());
     holds(e, "the sheet's answer", number == 0 && memcmp(answer, expected, sizeof answer) == 0);
     holds(e, "the sheet's listing", memcmp(listing, listing_after, sizeof listing) == 0);
@@ -311,41 +313,40 @@ static void empty(void) {
     static uint8_t store[TULIPCRICKET_STORE], constants[TULIPCRICKET_CONSTANTS], zeros[TULIPCRICKET_STORE];
     uint8_t *volatile nowhere = NULL;
     uint8_t *none = nowhere;
-    uint64_t lowered[TULIPCRICKET_LOWER_ANSWER / 8], wrong[TULIPCRICKET_LOWER_ANSWER / 8] = {8};
-    uint64_t played[TULIPCRICKET_PLAY_ANSWER / 8];
-    uint8_t *answer = (uint8_t *)lowered, *end = (uint8_t *)played;
-    memset(lowered, LENT, sizeof lowered);
-    memset(played, LENT, sizeof played);
+    static const uint8_t wrong[TULIPCRICKET_LOWER_ANSWER] = {8};
+    uint8_t answer[TULIPCRICKET_LOWER_ANSWER], end[TULIPCRICKET_PLAY_ANSWER];
+    memset(answer, LENT, sizeof answer);
+    memset(end, LENT, sizeof end);
     holds(&e, "lower of nothing at all", tulipcricket_lower(none, 0, none, 0, none, 0, none, 0) == 8);
     holds(&e, "play of nothing at all", tulipcricket_play(none, 0, none, 0, none, 0, 0, none, 0) == 8);
     holds(&e, "lower of no sheet",
-          tulipcricket_lower(none, 0, none, 0, constants, sizeof constants, answer, sizeof lowered) == 8 &&
-              memcmp(lowered, wrong, sizeof lowered) == 0);
+          tulipcricket_lower(none, 0, none, 0, constants, sizeof constants, answer, sizeof answer) == 8 &&
+              memcmp(answer, wrong, sizeof answer) == 0);
     holds(&e, "lower of a header into no room",
-          tulipcricket_lower(sheet, 69, none, 0, constants, sizeof constants, answer, sizeof lowered) == 0 &&
-              memcmp(lowered, zeros, sizeof lowered) == 0);
+          tulipcricket_lower(sheet, 69, none, 0, constants, sizeof constants, answer, sizeof answer) == 0 &&
+              memcmp(answer, zeros, sizeof answer) == 0);
     holds(&e, "lower with no constants",
-          tulipcricket_lower(sheet, 69, none, 0, none, 0, answer, sizeof lowered) == 8 &&
-              memcmp(lowered, wrong, sizeof lowered) == 0);
+          tulipcricket_lower(sheet, 69, none, 0, none, 0, answer, sizeof answer) == 8 &&
+              memcmp(answer, wrong, sizeof answer) == 0);
     holds(&e, "play on no store",
-          tulipcricket_play(none, 0, none, 0, none, 0, 0, end, sizeof played) == 8 && memcmp(played, wrong, sizeof played) == 0);
+          tulipcricket_play(none, 0, none, 0, none, 0, 0, end, sizeof end) == 8 && memcmp(end, wrong, sizeof end) == 0);
     holds(&e, "play of no records",
-          tulipcricket_play(none, 0, none, 0, store, sizeof store, 0, end, sizeof played) == 0 &&
-              memcmp(played, zeros, sizeof played) == 0);
+          tulipcricket_play(none, 0, none, 0, store, sizeof store, 0, end, sizeof end) == 0 &&
+              memcmp(end, zeros, sizeof end) == 0);
     holds(&e, "nearest of nothing at all", tulipcricket_nearest(0, 0, none, 0, none, 0) == 8);
     holds(&e, "nearest of no points",
-          tulipcricket_nearest(0, 0, none, 0, end, sizeof played) == 0 && memcmp(played, zeros, sizeof played) == 0);
+          tulipcricket_nearest(0, 0, none, 0, end, sizeof end) == 0 && memcmp(end, zeros, sizeof end) == 0);
     holds(&e, "peak of no run", tulipcricket_peak(none, 0, 1, none, 0) == 0 && tulipcricket_peak(none, 0, 0, none, 0) == 12);
     holds(&e, "shelf of nothing at all", tulipcricket_shelf(none, 0, none, 0) == 8);
     holds(&e, "look at nothing at all", tulipcricket_look(none, 0, none, 0, none, 0, 0, none, 0) == 8);
     holds(&e, "look at the end of no records",
           tulipcricket_look(none, 0, none, 0, store, sizeof store, 0, answer, TULIPCRICKET_LOOK_ANSWER) == 0 &&
-              memcmp(lowered, zeros, TULIPCRICKET_LOOK_ANSWER) == 0);
+              memcmp(answer, zeros, TULIPCRICKET_LOOK_ANSWER) == 0);
     holds(&e, "pages of nothing at all", tulipcricket_pages(none, 0, none, 0, none, 0, none, 0) == 8);
     holds(&e, "no page of no records",
-          tulipcricket_pages(none, 0, none, 0, none, 0, end, sizeof played) == 0 && memcmp(played, zeros, sizeof played) == 0);
+          tulipcricket_pages(none, 0, none, 0, none, 0, end, sizeof end) == 0 && memcmp(end, zeros, sizeof end) == 0);
     holds(&e, "shelf of no sheet",
-          tulipcricket_shelf(none, 0, answer, TULIPCRICKET_SHELF_ANSWER) == 8 && memcmp(lowered, wrong, TULIPCRICKET_SHELF_ANSWER) == 0);
+          tulipcricket_shelf(none, 0, answer, TULIPCRICKET_SHELF_ANSWER) == 8 && memcmp(answer, wrong, TULIPCRICKET_SHELF_ANSWER) == 0);
     holds(&e, "nothing else is written",
           memcmp(store, zeros, sizeof store) == 0 && memcmp(constants, zeros, sizeof constants) == 0);
 }

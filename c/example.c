@@ -1,5 +1,5 @@
 /* Lowers document 01's sheet on paper (Mem 4 = 2 * Mem 3), looks at record 1, LoadComplex G6 G7 Mem 3, and plays the listing on Mem 3 = 3 + 4i.
- * Prints "record 1 writes G6 = 3, G7 = 4; next 2" and "Mem 4 = 6 + 8i after 5 records". */
+ * Prints "the listing draws on 0 registers", "record 1 writes G6 = 3, G7 = 4; next 2" and "Mem 4 = 6 + 8i after 5 records". */
 #include <stdio.h>
 #include <string.h>
 
@@ -15,12 +15,16 @@ static uint64_t store[TULIPCRICKET_STORE / 8];
 static size_t mem(size_t i) { return 66 + 512 + 2 * i; }
 
 int main(void) {
-    uint64_t lowered[TULIPCRICKET_LOWER_ANSWER / 8], looked[TULIPCRICKET_LOOK_ANSWER / 8], played[TULIPCRICKET_PLAY_ANSWER / 8];
+    uint8_t answer[TULIPCRICKET_LOWER_ANSWER];
+    uint64_t lowered[4], looked[TULIPCRICKET_LOOK_ANSWER / 8], played[TULIPCRICKET_PLAY_ANSWER / 8];
     double in[2] = {3, 4}, out[2];
-    if (tulipcricket_lower(sheet, sizeof sheet, listing, sizeof listing, constants, sizeof constants, (uint8_t *)lowered,
-                           sizeof lowered) != 0)
+    int drawn = 0;
+    if (tulipcricket_lower(sheet, sizeof sheet, listing, sizeof listing, constants, sizeof constants, answer, sizeof answer) != 0)
         return 1;
-    memcpy(store + mem(3), in, sizeof in); /* x86-64 has the lowest byte first too */
+    memcpy(lowered, answer, sizeof lowered); /* x86-64 has the lowest byte first too */
+    for (size_t i = 0; i < 66; i++) drawn += answer[194 + i];
+    printf("the listing draws on %d registers\n", drawn);
+    memcpy(store + mem(3), in, sizeof in);
     if (tulipcricket_look(listing, lowered[2], constants, 8 * lowered[3], (const uint8_t *)store, sizeof store, 1, (uint8_t *)looked,
                           sizeof looked) != 0)
         return 1;

@@ -35,7 +35,7 @@ enum {
     TULIPCRICKET_LISTING_LIMIT = 65536,  /* bytes of a listing */
     TULIPCRICKET_CONSTANTS = 2048,       /* bytes of the constants: 256 words */
     TULIPCRICKET_STORE = 12816,          /* bytes of a store: 1,602 words */
-    TULIPCRICKET_LOWER_ANSWER = 128,
+    TULIPCRICKET_LOWER_ANSWER = 260,
     TULIPCRICKET_PLAY_ANSWER = 24,
     TULIPCRICKET_POINTS_LIMIT = 8192,    /* bytes of the reference points: 512 of two words */
     TULIPCRICKET_NEAREST_ANSWER = 24,
@@ -58,18 +58,27 @@ const char *tulipcricket_word(uint32_t number);
  *            612, whatever it is. Labels are looked for past them, so that a sheet takes time in proportion to its bytes.
  * listing    the room for the listing, up to 65,536 bytes.
  * constants  2,048 bytes.
- * answer     128 bytes:
+ * answer     260 bytes:
  *              0  number
  *              8  index: of the refused instruction; accepted, the count of instructions
  *             16  bytes of the listing written
  *             24  count of constants
  *             32  32 bytes, 1 where the sheet's register of that number (30 Ret, 31 Temp) is recorded as real, else 0
  *             64  64 bytes of the places recorded as real, as in a header: bit i mod 8 of byte i div 8 for Stack i, then Param
+ *            128  66 bytes, 1 where the listing's register of that number (64 Ret, 65 Temp) is filled at the end, else 0
+ *            194  66 bytes, 1 where it is drawn on before being filled, else 0
+ *
+ * The last 66 are marks. Over the order of play from record 0, a record draws on the registers whose words it reads, and fills those that it
+ * writes; a Xor of a register with itself draws on nothing. At a label from 3 up a register is filled only if it is on every way in, and the
+ * record after a Branch to such a label counts as reached from it. Where no mark is set, two plays from record 0 on stores that agree in all
+ * places end with equal places, however their registers began: only the places of the store before need be kept. Where marks are set, the
+ * stores must agree in the marked registers too. A mark does not say that two plays differ: no play may go that way, or what it draws on may
+ * not matter.
  *
  * Refused by 1 to 7, 10, 11 or 14: the listing and the constants of the instructions before the refused one are written, and the answer is
- * theirs. Such a listing is played only if it has the label of each of its branches.
+ * theirs, marks too. Such a listing is played only if it has the label of each of its branches.
  * Bytes of the listing past those written, and constants past those counted, are always as lent.
- * Refused by 8: listing and constants are as lent, and the answer is 8 and zeros; but where the answer is not 128 bytes, it is as lent
+ * Refused by 8: listing and constants are as lent, and the answer is 8 and zeros; but where the answer is not 260 bytes, it is as lent
  * too. */
 uint32_t tulipcricket_lower(const uint8_t *sheet, size_t sheet_len, uint8_t *listing, size_t listing_len,
                             uint8_t *constants, size_t constants_len, uint8_t *answer, size_t answer_len);

@@ -13,6 +13,7 @@ from itertools import product
 from pathlib import Path
 from tempfile import TemporaryDirectory
 
+from marks import marks
 from sheets import KINDS, MEM, MODES, OPERATIONS, PARAM, RET, STACK, TEMP, Case, lower, read
 
 FRONT = Path(__file__).resolve().parent.parent / "bin" / "tulipcricket"
@@ -97,15 +98,25 @@ def sheets() -> Iterator[bytes]:
         yield sheet
 
 
+def drawn_line(marked: bytes) -> str:
+    """What the program prints of the registers that are marked."""
+    names = [f"G{i}" for i in range(64)] + ["Ret", "Temp"]
+    return " ".join(["draws on", *([name for name, mark in zip(names, marked) if mark] or ["nothing"])])
+
+
 def lowered(sheet: bytes, folder: Path) -> Case:
-    """The sheet with the listing and constants that the program gives."""
+    """The sheet with the listing and constants that the program gives, which prints the marks of docs/SHEET.md, 7."""
     paths = [folder / name for name in ("sheet", "listing", "constants")]
     paths[0].write_bytes(sheet)
-    subprocess.run([str(FRONT), "lower", *map(str, paths)], check=True, stdout=subprocess.DEVNULL)
+    said = subprocess.run([str(FRONT), "lower", *map(str, paths)], check=True, stdout=subprocess.PIPE, text=True).stdout
     number, index, kept = lower(sheet, 65536, 256, None)
+    listing = paths[1].read_bytes()
+    marked = marks(listing)
+    if said.splitlines()[1] != drawn_line(marked[1]):
+        raise SystemExit(f"{said.splitlines()[1]}, and the paper's is {drawn_line(marked[1])}: {sheet.hex()}")
     words = paths[2].read_bytes()
     constants = [int.from_bytes(words[i:i + 8], "little") for i in range(0, len(words), 8)]
-    return Case(sheet, 65536, 256, number, index, bytes(kept.registers), bytes(kept.places), paths[1].read_bytes(), constants)
+    return Case(sheet, 65536, 256, number, index, bytes(kept.registers), bytes(kept.places), marked, listing, constants)
 
 
 def cases() -> list[Case]:

@@ -2,8 +2,9 @@
 
 A reader written from that paper: setup, refusals 1 to 6, 10 and 11 and
 what is recorded as real. It makes no listing, so 7 is taken from the list: up to
-that instruction nothing else may refuse. Compares number, index and the
-record of realness; prints a line for each difference (at most 20), then
+that instruction nothing else may refuse; and what is filled and marked (7) is
+found by going through the listing of the list. Compares number, index, the
+record of realness and the marks; prints a line for each difference (at most 20), then
 how many sheets there were and how many differ. Exit status 1 if any does.
 
 The list is the one called `sheets` that oracle/'s make-lists writes; its
@@ -15,6 +16,7 @@ from typing import NamedTuple
 
 sys.dont_write_bytecode = True
 
+from marks import marks
 from run import MOST_LINES, Reader
 
 RET, TEMP = 30, 31
@@ -278,14 +280,16 @@ class Case(NamedTuple):
     index: int
     flags: bytes
     places: bytes
+    marks: tuple[bytes, bytes]
     listing: bytes
     constants: list[int]
 
 
 def read_case(reader):
     length, room, table, number, index, written, constants = (reader.u32() for _ in range(7))
-    flags, places = reader.take(32), reader.take(64)
-    return Case(reader.take(length), room, table, number, index, flags, places, reader.take(written), reader.words(constants))
+    flags, places, filled, drawn = (reader.take(count) for count in (32, 64, 66, 66))
+    sheet, listing = reader.take(length), reader.take(written)
+    return Case(sheet, room, table, number, index, flags, places, (filled, drawn), listing, reader.words(constants))
 
 
 def cases(path):
@@ -305,7 +309,8 @@ def main():
     for case in cases(sys.argv[1]):
         full_at = case.index if case.number == LISTING_FULL else None
         number, index, record = lower(case.sheet, case.room, case.table, full_at)
-        if (number, index) != case[3:5] or bytes(record.registers) != case.flags or record.places != case.places:
+        same_record = bytes(record.registers) == case.flags and record.places == case.places
+        if (number, index) != case[3:5] or not same_record or marks(case.listing) != case.marks:
             differ += 1
             if differ <= MOST_LINES:
                 print("sheet %d: %d at %d, the list has %d at %d" % (count, number, index, case.number, case.index))

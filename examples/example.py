@@ -1,5 +1,5 @@
-"""Lowers document 01's sheet on paper (Mem 4 = 2 * Mem 3), looks at record 1 and plays the listing on Mem 3 = 3 + 4i, as the examples of
-C and Rust do."""
+"""Lowers document 01's sheet on paper (Mem 4 = 2 * Mem 3), tells how many registers the listing draws on, looks at record 1 and plays the
+listing on Mem 3 = 3 + 4i, as the examples of C and Rust do."""
 
 import tulipcricket as tc
 
@@ -10,7 +10,9 @@ INSTRUCTIONS = bytes([7, 0, 6, 0, 0, 0, 0,                      # LoadConst 0, 0
                       8, 0, 2, 0, 2, 0, 0, 1,                   # Times 0, 0, 1
                       8, 0, 5, 0, 0, 1, 4, 0])                  # Save 0, Mem 4
 
-listing = tc.Sheet(HEADER + CONSTANT + INSTRUCTIONS).lower()
+sheet = tc.Sheet(HEADER + CONSTANT + INSTRUCTIONS)
+listing = sheet.lower()
+print(f"the listing draws on {len(sheet.drawn_on())} registers")
 store = tc.Store({"Mem 3": 3 + 4j})
 looked = listing.look(store, 1)
 written = ", ".join(f"G{index} = {tc.double_of(word):g}" for index, word in looked.words)

@@ -23,7 +23,10 @@ static void breach(const char *fact, int line) {
     abort();
 }
 
-enum { GUARD = 64, ROOM = 65544, WORDS = TULIPCRICKET_STORE / 8 };
+enum { GUARD = 64, ROOM = 65544, WORDS = TULIPCRICKET_STORE / 8, REGISTERS = 66, XOR = 13 };
+
+/* Where a lowering's answer has its marks. */
+enum { FILLED = 128, DRAWN = FILLED + REGISTERS };
 
 /* A lent slice of `length` bytes after GUARD bytes; the bytes around it are not to be touched. */
 typedef struct {
@@ -114,6 +117,49 @@ static void refused_setup(const Lowering *l, uint8_t fill) {
     }
 }
 
+static size_t place(const uint8_t *at) { return 66 + 512 * (size_t)at[0] + 2 * two(at + 1); }
+
+/* Marks the words that an accepted record may write. */
+static void mark(uint8_t marks[WORDS], const uint8_t *record) {
+    const uint8_t *fields = record + 4;
+    switch (two(record + 2)) {
+    case 1: case 2: case 7: marks[fields[1]] = 1; break;
+    case 3: case 4: case 6: case 8: marks[fields[0]] = 1; break;
+    case 5: marks[place(fields + 1)] = 1; break;
+    case 11: marks[fields[0]] = marks[fields[1]] = 1; break;
+    case 12: marks[place(fields + 2)] = marks[place(fields + 2) + 1] = 1; break;
+    case 13: marks[fields[1]] = marks[fields[2]] = 1; break;
+    }
+}
+
+/* Marks the registers that a record reads. */
+static void mark_read(uint8_t marks[REGISTERS], const uint8_t *record) {
+    const uint8_t *fields = record + 4;
+    size_t from = 0, count = 0;
+    switch (two(record + 2)) {
+    case 1: from = 2, count = 1; break;
+    case 2: from = 2, count = fields[0] == XOR && fields[2] == fields[3] ? 0 : 2; break;
+    case 3: from = 1, count = 1; break;
+    case 5: case 17: count = 1; break;
+    case 7: from = 2, count = 3; break;
+    case 8: from = 1, count = 2; break;
+    case 12: count = 2; break;
+    case 13: from = 3, count = 4; break;
+    }
+    for (size_t i = 0; i < count; i++) marks[fields[from + i]] = 1;
+}
+
+/* A register filled is one that a record writes; one drawn on is one that a record reads. */
+static void are_marks(const Lowering *l) {
+    uint8_t written[WORDS] = {0}, drawn[REGISTERS] = {0};
+    const uint8_t *listing = l->listing.at, *answer = l->answer.at;
+    for (size_t at = 0, next; (next = readable(listing + at, word_at(answer + 16) - at)) > 0; at += next) {
+        mark(written, listing + at);
+        mark_read(drawn, listing + at);
+    }
+    for (size_t i = 0; i < REGISTERS; i++) HOLDS(answer[FILLED + i] <= written[i] && answer[DRAWN + i] <= drawn[i]);
+}
+
 /* What holds of every answer whose setup was not refused. */
 static void answered(const Lowering *l, int own, uint8_t fill) {
     const uint8_t *answer = l->answer.at, *sheet = l->sheet.at;
@@ -132,6 +178,7 @@ static void answered(const Lowering *l, int own, uint8_t fill) {
     for (int i = 0; i < own; i++)
         HOLDS(memcmp(l->constants.at + 8 * i, sheet + HEADER_LENGTH + i * CONSTANT_LENGTH + 4, 8) == 0);
     for (int i = 32; i < 64; i++) HOLDS(answer[i] <= 1);
+    are_marks(l);
     for (int i = 0; i < 32; i++) HOLDS((answer[64 + i] & ~sheet[5 + i]) == 0);
     HOLDS(memcmp(answer + 96, sheet + 37, 32) == 0);
 }
@@ -144,6 +191,7 @@ static void agrees(const Lowering *l, const Lowering *whole) {
     HOLDS(word_at(answer + 16) <= word_at(other + 16) && word_at(answer + 24) <= word_at(other + 24));
     HOLDS(memcmp(l->listing.at, whole->listing.at, word_at(answer + 16)) == 0);
     HOLDS(memcmp(l->constants.at, whole->constants.at, 8 * word_at(answer + 24)) == 0);
+    for (size_t i = 0; i < REGISTERS; i++) HOLDS(answer[DRAWN + i] <= other[DRAWN + i]);
 }
 
 /* Playing */
@@ -196,21 +244,6 @@ static Shape shape_of(const uint8_t *listing, size_t length) {
         if (inside && kind == 15 && listing[at + 4] == 0) inside = 0, ended = 1;
     }
     return shape;
-}
-
-static size_t place(const uint8_t *at) { return 66 + 512 * (size_t)at[0] + 2 * two(at + 1); }
-
-/* Marks the words that an accepted record may write. */
-static void mark(uint8_t marks[WORDS], const uint8_t *record) {
-    const uint8_t *fields = record + 4;
-    switch (two(record + 2)) {
-    case 1: case 2: case 7: marks[fields[1]] = 1; break;
-    case 3: case 4: case 6: case 8: marks[fields[0]] = 1; break;
-    case 5: marks[place(fields + 1)] = 1; break;
-    case 11: marks[fields[0]] = marks[fields[1]] = 1; break;
-    case 12: marks[place(fields + 2)] = marks[place(fields + 2) + 1] = 1; break;
-    case 13: marks[fields[1]] = marks[fields[2]] = 1; break;
-    }
 }
 
 /* Words that no record writes are as lent. */
@@ -337,6 +370,20 @@ static int awaits(const uint8_t *listing, size_t length) {
     return !filled(awaited, sizeof awaited, 0);
 }
 
+/* A play on a store that differs in every register without a mark ends with the same answer and equal places. */
+static void ends_alike(const uint8_t *slices[3], const size_t lengths[4], const uint8_t drawn[REGISTERS]) {
+    static Play first, second;
+    static uint8_t other[TULIPCRICKET_STORE];
+    const uint8_t *others[3] = {slices[0], slices[1], other};
+    memcpy(other, slices[2], sizeof other);
+    for (size_t i = 0; i < 8 * REGISTERS; i++)
+        if (!drawn[i / 8]) other[i] = (uint8_t)~other[i];
+    play(&first, slices, lengths, 0, 0xa5);
+    play(&second, others, lengths, 0, 0xa5);
+    HOLDS(same(&first.answer, second.answer.at));
+    HOLDS(memcmp(first.store.at + 8 * REGISTERS, second.store.at + 8 * REGISTERS, sizeof other - 8 * REGISTERS) == 0);
+}
+
 /* What was listed is played from record 0; after a refusal, unless it has a branch whose label was still to come. */
 static void is_played(const Lowering *l) {
     static uint8_t store[TULIPCRICKET_STORE];
@@ -346,6 +393,7 @@ static void is_played(const Lowering *l) {
     int open = awaits(slices[0], lengths[0]);
     HOLDS(l->number != 0 || !open);
     HOLDS(check_play(slices, lengths, 0) == (open ? 9 : 0));
+    if (!open) ends_alike(slices, lengths, l->answer.at + DRAWN);
 }
 
 /* Pages */

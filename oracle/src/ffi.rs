@@ -3,6 +3,7 @@
 use crate::format::{word, SETUP};
 use crate::lists::LENT;
 use crate::machine::Machine;
+use crate::marks::{Marks, REGISTERS};
 use crate::player::Played;
 use crate::reference::{Answer, Realness};
 
@@ -67,7 +68,7 @@ extern "C" {
     ) -> u32;
 }
 
-const LOWER_ANSWER: usize = 128;
+pub const LOWER_ANSWER: usize = 260;
 const PLAY_ANSWER: usize = 24;
 
 /// `tulipcricket_lower` over slices; the number it returns.
@@ -168,16 +169,20 @@ fn from_bytes(bytes: &[u8], words: &mut [u64]) {
     }
 }
 
-/// The 128 bytes of a lowering's answer.
+/// Flags of a byte each.
+fn flags<const N: usize>(bytes: &[u8], at: usize) -> [bool; N] {
+    std::array::from_fn(|i| {
+        assert!(bytes[at + i] <= 1, "a flag is 0 or 1");
+        bytes[at + i] == 1
+    })
+}
+
+/// The 260 bytes of a lowering's answer.
 fn lowered(number: u32, bytes: &[u8]) -> Answer {
     assert_eq!(number as u64, word(bytes, 0), "the returned number is the answer's");
-    let mut registers = [false; 32];
-    for (flag, byte) in registers.iter_mut().zip(&bytes[32..64]) {
-        assert!(*byte <= 1, "a register flag is 0 or 1");
-        *flag = *byte == 1;
-    }
-    let realness = Realness { registers, places: bytes[64..128].try_into().unwrap() };
-    Answer { number, index: word(bytes, 8), written: word(bytes, 16), count: word(bytes, 24), realness }
+    let realness = Realness { registers: flags(bytes, 32), places: bytes[64..128].try_into().unwrap() };
+    let marks = Marks { filled: flags(bytes, 128), drawn: flags(bytes, 128 + REGISTERS) };
+    Answer { number, index: word(bytes, 8), written: word(bytes, 16), count: word(bytes, 24), realness, marks }
 }
 
 /// The library that is linked.
@@ -238,7 +243,7 @@ fn wrong_play(constants: usize, words: usize, length: usize) -> Option<String> {
 pub fn wrong_lengths() -> Vec<String> {
     let mut found = Vec::new();
     for constants in [0, 8, 2040, 2047, 2048, 2049, 2056] {
-        found.extend([0, 127, 128, 129, 256].map(|length| wrong_lower(constants, length)));
+        found.extend([0, 128, 259, 260, 261, 520].map(|length| wrong_lower(constants, length)));
     }
     for constants in [0, 7, 8, 9, 2047, 2048, 2056] {
         for words in [0, 8, 12_808, 12_815, 12_817, 12_824] {

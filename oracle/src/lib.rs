@@ -5,6 +5,7 @@
 pub mod boundary;
 pub mod branches;
 pub mod claim;
+pub mod drawn;
 pub mod encode;
 #[cfg(feature = "linked")]
 pub mod ffi;
@@ -15,6 +16,7 @@ pub mod lists;
 pub mod look;
 pub mod machine;
 pub mod make;
+pub mod marks;
 pub mod meaning;
 pub mod names;
 pub mod nearest;

@@ -6,6 +6,7 @@
 //!   u32 length of the sheet, u32 bytes of the listing slice lent, u32 words of the constants slice lent,
 //!   u32 number, u32 index, u32 bytes written, u32 count of constants,
 //!   96 bytes of realness (32 register flags by sheet number, 64 bytes of places as in a header),
+//!   132 bytes of marks (66 of the registers filled, 66 of those drawn on before being filled, by listing number),
 //!   the sheet, the listing bytes written, the words of the constants counted.
 //! Lent bytes and words are all LENT; those past the ones written must still be.
 //!
@@ -63,6 +64,7 @@ fn sheet_case(out: &mut Vec<u8>, case: &ToLower) {
     numbers(out, &head);
     out.extend(answer.realness.registers.map(|real| real as u8));
     out.extend(answer.realness.places);
+    out.extend([answer.marks.filled, answer.marks.drawn].concat().iter().map(|mark| *mark as u8));
     out.extend(&case.sheet);
     out.extend(&listing[..answer.written as usize]);
     words(out, &constants[..answer.count as usize]);

@@ -288,6 +288,17 @@ fn named(parts: &Parts) -> Vec<u8> {
     found
 }
 
+/// The sheet with a Load from Mem of every register that it names before its instructions; that changes no record.
+pub fn filling(rng: &mut Rng, parts: &Parts) -> Parts {
+    let mut registers = named(parts);
+    registers.sort();
+    registers.dedup();
+    let load = |register| make::load(register, MEM, rng.below(8) as u16);
+    let mut instructions: Vec<Vec<u8>> = registers.into_iter().map(load).collect();
+    instructions.extend(parts.instructions.iter().cloned());
+    Parts { head: parts.head.clone(), instructions }
+}
+
 /// The sheet with labels and branches put between its instructions; they list themselves and change no record.
 pub fn woven(rng: &mut Rng, parts: &Parts) -> Parts {
     let (_, points) = lower_with_points(&parts.sheet(), &mut vec![0; LISTING_LIMIT], &mut [0; TABLE]);

@@ -1,6 +1,6 @@
-//! Document 01's lowering with document 02's branches, its limit of 612 instructions and its mode 2: the wrapper written from their rules,
-//! around the Rust's own `complexify`; in mode 2 Half and a Divide into Temp are listed by the Rust's methods in the order that document 02
-//! gives.
+//! Document 01's lowering with document 02's branches, its limit of 612 instructions, its mode 2 and its marks: the wrapper written from their
+//! rules, around the Rust's own `complexify`; in mode 2 Half and a Divide into Temp are listed by the Rust's methods in the order that document
+//! 02 gives; the marks are those of the Rust's listing.
 
 use std::cell::Cell;
 use std::collections::HashSet;
@@ -9,6 +9,7 @@ use std::sync::Once;
 
 use crate::encode;
 use crate::format::*;
+use crate::marks::{self, Marks};
 use crate::rust::complexify::{divide_by_ret, half_minding, listed_by, realness, Complexifier};
 use crate::rust::config::Config;
 use crate::rust::mir::{ArithOp, BinOp, Instruction, Mir, UniOp};
@@ -77,11 +78,13 @@ pub struct Answer {
     pub written: u64,
     pub count: u64,
     pub realness: Realness,
+    pub marks: Marks,
 }
 
 impl Answer {
     fn setup() -> Answer {
-        Answer { number: SETUP, index: 0, written: 0, count: 0, realness: Realness::all_complex() }
+        let realness = Realness::all_complex();
+        Answer { number: SETUP, index: 0, written: 0, count: 0, realness, marks: Marks::none() }
     }
 }
 
@@ -567,6 +570,7 @@ pub fn lower_with_points(sheet: &[u8], listing: &mut [u8], constants: &mut [u64]
         written: work.listing.len() as u64,
         count: work.constants.len() as u64,
         realness: work.realness,
+        marks: marks::of(&work.listing),
     };
     (answer, points)
 }

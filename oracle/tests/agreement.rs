@@ -255,7 +255,7 @@ fn the_list_of_sheets_says_what_the_reference_says() {
     assert_eq!(r.number(), cases.len());
     for case in &cases {
         let [length, room, table, number, index, written, count] = std::array::from_fn(|_| r.number());
-        let realness = r.bytes(96);
+        let (realness, filled, drawn) = (r.bytes(96), r.bytes(66), r.bytes(66));
         assert_eq!((r.bytes(length), room, table), (&case.sheet[..], case.room, case.table));
         let mut listing = vec![lists::LENT; room];
         let mut constants = vec![lists::LENT_WORD; table];
@@ -266,6 +266,7 @@ fn the_list_of_sheets_says_what_the_reference_says() {
         );
         assert_eq!(realness[..32], answer.realness.registers.map(|real| real as u8));
         assert_eq!(realness[32..], answer.realness.places);
+        assert_eq!((filled, drawn), (&answer.marks.filled.map(u8::from)[..], &answer.marks.drawn.map(u8::from)[..]));
         assert_eq!(r.bytes(written), &listing[..written]);
         assert_eq!(r.words(count), constants[..count]);
         assert!(listing[written..].iter().all(|b| *b == lists::LENT));

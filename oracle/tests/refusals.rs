@@ -2,6 +2,7 @@
 
 use oracle::format::*;
 use oracle::make;
+use oracle::marks::Marks;
 use oracle::names::{bi, uni};
 use oracle::reference::{lower, Answer, Realness};
 
@@ -37,7 +38,8 @@ fn setup_changes_nothing() {
     fourth_mode[4] = 3;
     for sheet in [&[], short, &long_header, &other_kind, &fourth_mode] {
         let (answer, listing, constants) = lowered(sheet, 100);
-        let expected = Answer { number: SETUP, index: 0, written: 0, count: 0, realness: Realness::all_complex() };
+        let (realness, marks) = (Realness::all_complex(), Marks::none());
+        let expected = Answer { number: SETUP, index: 0, written: 0, count: 0, realness, marks };
         assert_eq!(answer, expected);
         assert_eq!((listing, constants), (vec![9; 100], vec![9; TABLE]));
     }

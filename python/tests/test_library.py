@@ -58,8 +58,22 @@ class Functions(unittest.TestCase):
         self.assertEqual((answer.number, answer.index), (0, 4))
         self.assertEqual(answer.real_registers, (False,) * 32)
         self.assertEqual(answer.real_places, bytes(64))
+        self.assertEqual((answer.filled, answer.drawn), ((4, 5, 6, 7), ()))
         answer = library.lower(SHEET[:88])
         self.assertEqual((answer.number, answer.index, answer.real_registers[0], answer.listing), (0, 1, True, LISTING[:7]))
+
+    def test_drawn_on(self) -> None:
+        """Save 0, Mem 4 alone draws on G4 and G5, and so does what stands before a refusal; Save 30 on Ret and Temp; 8 draws on nothing."""
+        head, save = SHEET[:69], SHEET[-8:]
+        self.assertEqual(Sheet(SHEET).drawn_on(), ())
+        self.assertEqual(Sheet(head + save).drawn_on(), ("G4", "G5"))
+        self.assertEqual(Sheet(head + save[:4] + b"\x1e" + save[5:]).drawn_on(), ("Ret", "Temp"))
+        refused = library.lower(head + save + b"\0")
+        self.assertEqual((refused.number, refused.drawn, refused.filled), (1, (4, 5), ()))
+        self.assertEqual(library.lower(b"").drawn, ())
+        with self.assertRaises(Refused) as caught:
+            Sheet(head + save + b"\0").drawn_on()
+        self.assertEqual((caught.exception.number, caught.exception.index), (1, 1))
 
     def test_lower_refused(self) -> None:
         """8 of no sheet, 2 of an unknown kind at its index and line, 7 of no room."""

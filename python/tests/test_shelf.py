@@ -104,8 +104,32 @@ class Folders(Shelves):
         legend = (folder / "LEGEND").read_text()
         self.assertIn("  1090  Param 0    real  x  ", legend)
         self.assertIn("  7ff8000000000007  lost 7, first at point 3, cause: ____", legend)
+        self.assertIn("The listing draws on no register before it fills it: what stood in the\nregisters of the file before does", legend)
         whole = texts.check("f", [name for name, _ in texts.FILES], []).splitlines()
         self.assertLessEqual(len(whole), 60)
+
+    def test_drawn_on(self) -> None:
+        """LEGEND names the registers that a sheet draws on, and check repeats it; of a listing alone it is not told."""
+        save = bytes.fromhex("4500200000" + "00" * 64 + "0800050000010400" "080005001e010500")
+        (self.room / "save.sheet").write_bytes(save)
+        self.assertEqual(self.called("shelve", "--sheet", "save.sheet", "f"), (0, "", ""))
+        told = "The listing draws on these registers before it fills them, so keep their\nwords of the file before: G4, G5, Ret, Temp.\n"
+        self.assertTrue((self.room / "f" / "LEGEND").read_text().endswith(told))
+        self.assertIn("LEGEND: the sheet, lowered again, draws on G4, G5, Ret, Temp", self.check("f")[1])
+        legend = (self.room / "f" / "LEGEND").read_text()
+        (self.room / "f" / "LEGEND").write_text(legend.replace(", Ret, Temp", ""))
+        status, lines = self.check("f")
+        self.assertEqual(status, 1)
+        self.assertIn("differs: LEGEND: it says otherwise; the sheet, lowered again, draws on G4, G5, Ret, Temp", lines)
+        (self.room / "f" / "LEGEND").write_text(texts.NOT_TOLD)
+        self.assertIn("LEGEND: it does not tell which registers are drawn on; the sheet, lowered again, draws on G4, G5, Ret, Temp",
+                      self.check("f")[1])
+        lowered = library.lower(save)
+        (self.room / "l").write_bytes(lowered.listing)
+        (self.room / "c").write_bytes(lowered.constants)
+        self.assertEqual(self.called("shelve", "--listing", "l", "--constants", "c", "g"), (0, "", ""))
+        self.assertIn("is not told of\na listing without its sheet", (self.room / "g" / "LEGEND").read_text())
+        self.assertFalse([line for line in self.check("g")[1] if line.startswith("LEGEND")])
 
     def test_whole_or_not(self) -> None:
         """A folder that exists, a table that is none, a name that no manifest carries: nothing is left."""

@@ -17,7 +17,7 @@ from .folder import Folder, Unreadable, shown
 from .formula import Formula, validated_points
 from .points import Head, NoPoints, Played, Proved, Reader, Second, answer_words, line_of
 from .shelve import cell_word, csv_line, formula_head
-from .texts import name_of
+from .texts import NOT_TOLD, name_of, names_of, outside
 from .words import written
 
 MOST_FORMULA = 1 << 20
@@ -122,12 +122,25 @@ def check_sheet(report: Report, folder: Folder) -> None:
         return
     report.compare(lowered.listing, folder.read("listing", library.LISTING_LIMIT), "listing", "the sheet, lowered again, gives it")
     report.compare(lowered.constants, folder.read("constants", library.CONSTANTS), "constants", "the sheet, lowered again, gives them")
+    if folder.has("LEGEND"):
+        check_drawn(report, folder.read("LEGEND", MOST_TEXT).decode(errors="replace"), lowered.drawn)
     if folder.has("origins"):
         made = kept.origins(sheet)
         if made is None:
             report.not_repeated("origins: this library does not make them")
         else:
             report.compare(made, folder.read("origins", MOST_TEXT), "origins", "the sheet, lowered again, gives them")
+
+
+def check_drawn(report: Report, legend: str, drawn: Sequence[int]) -> None:
+    """LEGEND says which registers the listing draws on before it fills them."""
+    words = f"the sheet, lowered again, draws on {names_of(drawn)}"
+    if "\n".join(outside(drawn)) in legend:
+        report.say(f"LEGEND: {words}")
+    elif NOT_TOLD in legend:
+        report.say(f"LEGEND: it does not tell which registers are drawn on; {words}")
+    else:
+        report.differs(f"LEGEND: it says otherwise; {words}")
 
 
 def check_pages(report: Report, folder: Folder) -> None:

@@ -70,10 +70,9 @@ def origins(sheet: bytes) -> Optional[bytes]:
     return None
 
 
-def drawn_on(sheet: bytes) -> Optional[Tuple[int, ...]]:
-    """The registers on which the listing of a sheet draws from outside; None, since the library has no such function yet."""
-    del sheet
-    return None
+def drawn_on(sheet: bytes) -> Tuple[int, ...]:
+    """The registers on which the listing of a sheet draws before it fills them, by number."""
+    return library.lower(sheet).drawn
 
 
 def version() -> bytes:

@@ -18,7 +18,7 @@ LONGEST_SHEET = 9201
 LISTING_LIMIT = 65536
 CONSTANTS = 2048
 STORE = 12816
-LOWER_ANSWER = 128
+LOWER_ANSWER = 260
 PLAY_ANSWER = 24
 POINTS_LIMIT = 8192
 NEAREST_ANSWER = 24
@@ -95,7 +95,8 @@ def word(number: int) -> str:
 
 @dataclass(frozen=True)
 class Lowered:
-    """What lowering gives back."""
+    """What lowering gives back; `filled` and `drawn` are registers of the listing by number, filled at its end and drawn on before being
+    filled."""
 
     number: int
     index: int
@@ -103,6 +104,13 @@ class Lowered:
     constants: bytes
     real_registers: Tuple[bool, ...]
     real_places: bytes
+    filled: Tuple[int, ...]
+    drawn: Tuple[int, ...]
+
+
+def marked(marks: bytes) -> Tuple[int, ...]:
+    """The registers whose mark is set."""
+    return tuple(register for register, mark in enumerate(marks) if mark)
 
 
 def lower(sheet: bytes, room: int = LISTING_LIMIT) -> Lowered:
@@ -112,8 +120,9 @@ def lower(sheet: bytes, room: int = LISTING_LIMIT) -> Lowered:
     answer = ctypes.create_string_buffer(LOWER_ANSWER)
     library().tulipcricket_lower(sheet, len(sheet), listing, room, constants, CONSTANTS, answer, LOWER_ANSWER)
     number, index, length, count = struct.unpack_from("<4Q", answer.raw)
-    flags = answer.raw[32:64]
-    return Lowered(number, index, listing.raw[:length], constants.raw[: 8 * count], tuple(map(bool, flags)), answer.raw[64:])
+    flags, places, filled, drawn = struct.unpack_from("<32s64s66s66s", answer.raw, 32)
+    return Lowered(number, index, listing.raw[:length], constants.raw[: 8 * count], tuple(map(bool, flags)), places,
+                   marked(filled), marked(drawn))
 
 
 @dataclass(frozen=True)

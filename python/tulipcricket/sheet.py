@@ -9,6 +9,7 @@ from typing import Iterator, Mapping, Optional, Sequence, Tuple, Union
 
 from . import library
 from .errors import Refused
+from .texts import name_of
 from .words import double_of, hexadecimal, word_of
 
 Number = Union[int, float, complex]
@@ -126,12 +127,22 @@ class Sheet:
     def _line(self, index: int) -> Optional[int]:
         return self.lines[index] if index < len(self.lines) else None
 
-    def lower(self, room: int = library.LISTING_LIMIT) -> Listing:
-        """The listing. Raises Refused."""
+    def _lowered(self, room: int) -> library.Lowered:
+        """The answer of lowering. Raises Refused."""
         answer = library.lower(self.data, room)
         if answer.number != 0:
             raise Refused(answer.number, answer.index, self._line(answer.index))
+        return answer
+
+    def lower(self, room: int = library.LISTING_LIMIT) -> Listing:
+        """The listing. Raises Refused."""
+        answer = self._lowered(room)
         return Listing(answer.listing, answer.constants)
+
+    def drawn_on(self) -> Tuple[str, ...]:
+        """The registers that the listing draws on before it fills them, by name. Where there is none, plays from record 0 on stores with
+        equal places end with equal places; else where these registers are equal too. Raises Refused."""
+        return tuple(map(name_of, self._lowered(library.LISTING_LIMIT).drawn))
 
     def shelf(self) -> library.Shelf:
         """How much shelf the sheet takes, with no listing made. Raises Refused."""

@@ -2,12 +2,15 @@
 
 from __future__ import annotations
 
+import textwrap
 from typing import Iterable, List, Mapping, NamedTuple, Optional, Sequence, Tuple
 
 from .words import MARK, hexadecimal
 
 WIDTH = 72
 _CLASSES = ("Stack", "Mem", "Param")
+NOT_TOLD = "Which registers the listing draws on before it fills them is not told"
+"""In a LEGEND of a listing without its sheet, and in each that was made before lowering told it."""
 
 
 class Named(NamedTuple):
@@ -31,6 +34,11 @@ def name_of(word: int) -> str:
     return place_of(word) if word < 66 else f"{place_of(word)} {('re', 'im')[word % 2]}"
 
 
+def names_of(registers: Sequence[int]) -> str:
+    """The names of registers, or nothing."""
+    return ", ".join(map(place_of, registers)) or "nothing"
+
+
 def _rows(words: Iterable[Named]) -> List[str]:
     """The legend's rows, with blanks for unit and calibration."""
     rows: List[str] = []
@@ -51,14 +59,15 @@ def _marks(marks: Mapping[int, int]) -> List[str]:
     return ["Marks of lost readings (SHELF, 1), and the cause that each names:", *rows]
 
 
-def _outside(registers: Optional[Sequence[int]]) -> List[str]:
-    """What the listing draws on from outside."""
+def outside(registers: Optional[Sequence[int]]) -> List[str]:
+    """What the listing draws on from outside; None of a listing without its sheet."""
     if registers is None:
-        return ["Which registers the listing draws on before it fills them is not told",
-                "by this version of the program: keep the file before."]
-    if not registers:
-        return ["The listing draws on no register that it has not filled: what stood in", "the registers before does not matter."]
-    return ["The listing draws on these registers before it fills them: " + ", ".join(place_of(one) for one in registers) + "."]
+        words = f"{NOT_TOLD} of a listing without its sheet: keep the registers of the file before."
+    elif not registers:
+        words = "The listing draws on no register before it fills it: what stood in the registers of the file before does not matter."
+    else:
+        words = f"The listing draws on these registers before it fills them, so keep their words of the file before: {names_of(registers)}."
+    return textwrap.wrap(words, WIDTH)
 
 
 def legend(folder: str, version: str, start: int, put: Sequence[Named], answer: Sequence[Named], others: Sequence[Named],
@@ -71,7 +80,7 @@ def legend(folder: str, version: str, start: int, put: Sequence[Named], answer: 
              "Words of the answer:", head, *_rows(answer), ""]
     if others:
         lines += ["Other names, as each play leaves them:", head, *_rows(others), ""]
-    lines += [*_marks(marks), "", *_outside(registers)]
+    lines += [*_marks(marks), "", *outside(registers)]
     return "".join(f"{line}\n" for line in lines)
 
 

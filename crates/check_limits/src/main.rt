@@ -1,5 +1,5 @@
 // Lowers sheets at the limits of the rules, and the sheets of the misreadings that the rules name. Writes for each the answer, the
-// constants that lowering added, the registers recorded as real and the listing; for a misreading also registers after a play.
+// constants that lowering added, the registers recorded as real, the listing's registers filled and those drawn on before, and the listing; for a misreading also registers after a play.
 
 mod print;
 mod sheets;
@@ -24,6 +24,10 @@ fn lowered(
     print::answer(name, a);
     print::constants(constants, own, a.count);
     print::real(a.real);
+    let filled = a.filled;
+    print::marks(b"  filled", filled);
+    let drawn = a.drawn;
+    print::marks(b"  drawn on", drawn);
     print::listing(listing, a.written, a.count);
     a
 }
@@ -207,11 +211,21 @@ fn complex_divide() {
     misreading(b"plain Divide of a complex Temp", sheet, 0, &first, 0, 8);
 }
 
+// Branch 3, Save of 0 to Mem 1, Label 3: the record after a Branch is taken as reached.
+fn behind_a_branch() {
+    let sheet = header(PLAIN)
+        .records(b"\x05\x00\x0f\x00\x03")
+        .records(b"\x08\x00\x05\x00\x00\x01\x01\x00")
+        .records(b"\x05\x00\x0e\x00\x03");
+    limit(b"a Save behind a Branch", sheet, 0);
+}
+
 fn main() {
     registers();
     places();
     constants();
     barred();
+    behind_a_branch();
     second_root(b"a second Root, plain", PLAIN);
     second_root(b"a second Root, stable", STABLE);
     divide_to_temp(b"stable Divide to Temp", STABLE);

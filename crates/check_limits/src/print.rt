@@ -64,6 +64,21 @@ pub(crate) fn real(r: Realness) {
     }
 }
 
+// The listing's registers whose marks are set, on one line.
+pub(crate) fn marks(before: &[u8], marks: [bool; 66]) {
+    write(before);
+    let mut i: usize = 0;
+    while i < 66 {
+        if marks[i] {
+            let name = empty_line().byte(b' ').register(i as u8);
+            let bytes = name.bytes;
+            first(&bytes, name.len);
+        }
+        i += 1;
+    }
+    write(b"\n");
+}
+
 // The record at a position, and where the next begins. There is none after one that is refused.
 fn record(listing: &[u8], at: usize, count: usize) -> usize {
     match read_record(listing, at, count) {

@@ -7,21 +7,25 @@ use native.Mathlib.Omega.{arith}
 use borrow.Author.Tests.{eq-eqb, ne-eqb, lt-ltb, le-ltb}
 use lib.ListN.{length, take, drop}
 use lib.Seq.{sets, length-sets}
+use Rattle.mir.specs.declared.records.Record.{Record}
+use Rattle.mir.specs.Encode.{encodeAll}
 use Rattle.sheet.specs.declared.setup.Setup.{Setup}
 use Rattle.sheet.specs.Setup.{setup, constantsOf}
 use Rattle.sheet.specs.Instruction.{instructions}
 use Rattle.sheet.proofs.Setting.{Right, right, length-constants}
 use Rattle.lowering.specs.Realness.{fresh}
 use Rattle.lowering.specs.Labels.{noneStanding}
-use Rattle.lowering.specs.Lower.{lowerFrom, lowerSheet}
+use Rattle.lowering.specs.Lower.{lowerFrom, lowerSheet, listed}
 use Rattle.complexifier.specs.declared.state.Complexifier.{Complexifier}
 use Rattle.complexifier.specs.Does.{state}
 use Rattle.complexify.specs.declared.entry.LowerAnswer.{LowerAnswer}
 use Rattle.complexify.specs.declared.turn.Cursor.{Cursor}
+use Rattle.complexify.specs.declared.turn.Stop.{Stop}
 use Rattle.complexify.specs.Entry.{wrongSetup, refusedSetup, answerOf, answer, listingAfter, constantsAfter}
-use Rattle.complexify.specs.Taken.{Ready, Appended, left, Ran}
+use Rattle.complexify.specs.Taken.{Ready, Appended, left, withMarks, Ran}
 use Rattle.complexify.proofs.Copies.{kept-first, taken-first, kept-then, kept-sets}
 use Rattle.complexify.proofs.Grown.{space-start}
+use Rattle.complexify.proofs.Finished.{listed-bytes}
 
 -- what the entry promises of its answer and of the two slices
 pub record Answered (sheet listing constants : List ℕ) (a : LowerAnswer) (listing' constants' : List ℕ) : Type 0 where
@@ -77,17 +81,24 @@ module _ (sheet listing constants : List ℕ) (x : Setup) (e : x ≡ setup sheet
           space = space-start (take (x .count) constants₁) (let z = ap length (first k) ∙ own-length in omega (arith, own-few, z));
         }
 
-    pub answering : {constants₁ listing' constants' : List ℕ} {low : Complexifier} {a : LowerAnswer}
+    pub answering : {constants₁ listing' constants' : List ℕ} {low : Complexifier} {stop : Stop} {a : LowerAnswer}
         → constants₁ ≡ sets constants 0 (constantsOf sheet (x .count))
         → low ≡ record { real = fresh (x .places); «root_defined» = false }
-        → Ran (left (x .mode) (length listing) (x .count) sheet noneStanding listing constants₁ (beginning low)) listing constants₁ (beginning low) listing' constants' a
+        → Ran (left (x .mode) (length listing) (x .count) sheet noneStanding listing constants₁ (beginning low)) listing constants₁ (beginning low) listing' constants' stop
+        → ((rs : List Record) → take (stop .written) listing' ≡ encodeAll rs → a ≡ withMarks rs stop)
         → Answered sheet listing constants a listing' constants'
     unfolding lowerSheet
-    answering {constants₁} {listing'} {constants'} {low} {a} k h r =
+    answering {constants₁} {listing'} {constants'} {low} {stop} {a} k h r m =
+        let o = lowerSheet sheet (length listing) in
+        let rs = listed sheet (o .index) in
         record {
-          answered = r .answer ∙ ap answerOf whole ∙ sym (simp rightly);
-          bytes = kept-sets listing listing' 0 (a .written) (r .listing) ∙ ap (sets listing 0) (sym (r .bytes) ∙ ap (λ w. w .bytes) whole) ∙ sym (simp rightly);
-          words = kept-sets constants constants' 0 (a .count) kept ∙ ap (sets constants 0) (sym (r .consts) ∙ ap (λ w. w .state .consts) whole) ∙ sym (simp rightly);
+          answered =
+              m rs (sym (r .bytes) ∙ ap (λ w. w .bytes) whole ∙ listed-bytes sheet (length listing))
+              ∙ ap (withMarks rs) (r .stopped)
+              ∙ ap (answerOf rs) whole
+              ∙ sym (simp rightly);
+          bytes = kept-sets listing listing' 0 (stop .written) (r .listing) ∙ ap (sets listing 0) (sym (r .bytes) ∙ ap (λ w. w .bytes) whole) ∙ sym (simp rightly);
+          words = kept-sets constants constants' 0 (stop .count) kept ∙ ap (sets constants 0) (sym (r .consts) ∙ ap (λ w. w .state .consts) whole) ∙ sym (simp rightly);
         }
       where
         whole : left (x .mode) (length listing) (x .count) sheet noneStanding listing constants₁ (beginning low) ≡ lowerSheet sheet (length listing)
@@ -107,7 +118,7 @@ module _ (sheet listing constants : List ℕ) (x : Setup) (e : x ≡ setup sheet
             (record { real = fresh (y .places); rootDefined = false; consts = constantsOf sheet (y .count) }))
             e
 
-        kept : Appended constants 0 constants' (a .count)
+        kept : Appended constants 0 constants' (stop .count)
         kept =
             kept-then
             (subst (λ l. Appended constants 0 l (x .count)) (sym k)

@@ -2,5 +2,6 @@ pub mod Copies
 pub mod Grown
 mod Bounds
 pub mod Turns
+pub mod Finished
 mod Answers
 pub mod Within

@@ -31,14 +31,13 @@ use Rattle.lowering.proofs.Ahead.{labelIn, seen-first}
 use Rattle.lowering.proofs.Tests.{no, neither, goes-on, refused-label, refused-barred, refused-long}
 use Rattle.lines.proofs.Fitting.{pushAll-fits}
 use Rattle.complexifier.specs.Does.{state}
-use Rattle.complexify.specs.declared.entry.LowerAnswer.{LowerAnswer}
 use Rattle.rerun.specs.declared.output.Output.{Output}
 use Rattle.complexify.specs.declared.turn.Cursor.{Cursor}
 use Rattle.complexify.specs.declared.turn.Next.{Next}
-use Rattle.complexify.specs.Entry.{answerOf}
+use Rattle.complexify.specs.declared.turn.Stop.{Stop}
 use Rattle.rerun.specs.Ends.{Ends, tabled, untabled}
 use Rattle.refusals.specs.Noted.{Noted, roleRead, tell, PassedFirst}
-use Rattle.complexify.specs.Taken.{space, Ready, Appended, endedAt, goesOn, left, refusal, finished, full, Finished, Fits, Extended, LoweredOne, Taken, Ran}
+use Rattle.complexify.specs.Taken.{space, Ready, Appended, endedAt, goesOn, left, refusal, finished, full, Finished, Fits, Extended, LoweredOne, Taken, stoppedAt, stopOf, Ran}
 use Rattle.complexify.proofs.Bounds.{staged, spaced}
 use Rattle.complexify.proofs.Copies.{taken, kept-store, kept-none, kept-then}
 use Rattle.refusals.proofs.Marking.{standsAt, SeenFirst, Follows, follows, passed-as}
@@ -423,17 +422,17 @@ module _ {mode : Mode} {own : ℕ} {sheet stage listing constants marks rows mar
           (subst (λ l'. Turn mode own sheet listing constants marks rows p l' constants marks' rows' (refusal k p)) (sym (q .1))
           (turn-stopped ready (on-done own sheet (p .at) few (done-refused own sheet (p .at) k e inside)))))
 
--- the answer where the work ends
-ran : {whole : Ended} {listing constants : List ℕ} {start : Cursor} {listing' constants' : List ℕ} (number : ℕ) (p : Cursor) {a : LowerAnswer}
+-- where the work ends
+ran : {whole : Ended} {listing constants : List ℕ} {start : Cursor} {listing' constants' : List ℕ} (number : ℕ) (p : Cursor) {a : Stop}
     → whole ≡ endedAt number listing' constants' p → Appended listing (start .written) listing' (p .written)
     → Appended constants (start .count) constants' (p .count)
-    → a ≡ record { number = number; index = p .index; written = p .written; count = p .count; real = p .low .real }
+    → a ≡ stoppedAt number p
     → Ran whole listing constants start listing' constants' a
 ran {whole} {listing} {constants} {start} {listing'} {constants'} number p {a} e b w h =
     let x : p .written ≡ length (take (p .written) listing') = sym (simp length-take (omega (arith, b .fits, b .long))) in
     let y : p .count ≡ length (take (p .count) constants') = sym (simp length-take (omega (arith, w .fits, w .long))) in
     record {
-      answer = h ∙ (λ j. record { number = number; index = p .index; written = x j; count = y j; real = p .low .real }) ∙ ap answerOf (sym e);
+      stopped = h ∙ (λ j. record { number = number; index = p .index; written = x j; count = y j; real = p .low .real }) ∙ ap stopOf (sym e);
       bytes = ap (λ w. w .bytes) e ∙ ap (λ a. take (a .written) listing') (sym h);
       consts = ap (λ w. w .state .consts) e ∙ ap (λ a. take (a .count) constants') (sym h);
       listing = subst (λ a. Appended listing (start .written) listing' (a .written)) (sym h) b;
@@ -505,13 +504,13 @@ module _ {mode : Mode} {own : ℕ} {sheet listing₀ constants₀ : List ℕ} {s
             same = sym (turned-same ∙ on-false _ _ _ e) ∙ s .same;
           }
 
-      pub ran-refused : {a : LowerAnswer} → r .done ≡ true
-          → a ≡ record { number = r .number; index = r .stand .index; written = r .stand .written; count = r .stand .count; real = r .stand .low .real }
+      pub ran-refused : {a : Stop} → r .done ≡ true
+          → a ≡ stoppedAt (r .number) (r .stand)
           → Ran (left mode (length listing₀) own sheet noneStanding listing₀ constants₀ start) listing₀ constants₀ start listing' constants' a
       ran-refused e h =
           ran (r .number) (r .stand) (sym (s .same) ∙ turned-same ∙ on-true _ _ _ e) (kept-then (s .bytes) (t .turned .bytes)) (kept-then (s .words) (t .turned .words)) h
 
-    pub ran-ended : {a : LowerAnswer} → Done (instructionFrom own) sheet (p .at) 0
-        → a ≡ record { number = 0; index = p .index; written = p .written; count = p .count; real = p .low .real }
+    pub ran-ended : {a : Stop} → Done (instructionFrom own) sheet (p .at) 0
+        → a ≡ stoppedAt 0 p
         → Ran (left mode (length listing₀) own sheet noneStanding listing₀ constants₀ start) listing₀ constants₀ start listing constants a
     ran-ended d h = ran 0 p (sym (s .same) ∙ stopped mode (length listing₀) own sheet (s .before) listing constants p 0 (on-end own sheet (p .at) (p .index) d)) (s .bytes) (s .words) h

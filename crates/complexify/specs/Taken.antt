@@ -7,6 +7,7 @@ use lib.ListN.{length, take, drop}
 use lib.Seq.{sets}
 use lib.Dec.{ltb}
 use Rattle.mir.specs.declared.records.Instruction.{Instruction}
+use Rattle.mir.specs.declared.records.Record.{Record}
 use Rattle.mir.specs.Read.{Read, got, refused}
 use Rattle.mir.specs.Decode.{Item}
 use Rattle.sheet.specs.declared.setup.Mode.{Mode}
@@ -14,12 +15,13 @@ use Rattle.sheet.specs.Instruction.{instructionsOn}
 use Rattle.lowering.specs.Complexifier.{position, MIN_POSITIVE, INFINITY, QUARTER, EXP_MASK_FINITE, FLOOR_FINITE}
 use Rattle.lowering.specs.Labels.{Standing, role, misplaced, unequal, passed}
 use Rattle.lowering.specs.Lower.{Ended, ended, past, lowerFrom}
+use Rattle.marks.specs.Marks.{drawnOn, filledBy, registers}
 use Rattle.complexifier.specs.Does.{state}
 use Rattle.rerun.specs.declared.output.Output.{Output}
 use Rattle.complexify.specs.declared.entry.LowerAnswer.{LowerAnswer}
 use Rattle.complexify.specs.declared.turn.Cursor.{Cursor}
 use Rattle.complexify.specs.declared.turn.Next.{Next}
-use Rattle.complexify.specs.Entry.{answerOf}
+use Rattle.complexify.specs.declared.turn.Stop.{Stop}
 
 -- the constants, with one place for each of the five that stable mode names and that are not there yet
 unfoldable pub absent : ℕ → List ℕ → ℕ
@@ -118,9 +120,36 @@ abbrev pub Taken : Mode → List ℕ → List ℕ → Cursor → List ℕ → Li
 Taken mode listing constants p listing' constants' r (got x) = LoweredOne mode (x .item) (x .next) listing constants p listing' constants' r
 Taken mode listing constants p listing' constants' r (refused n) = (r ≡ refusal n p) × (listing' ≡ listing) × (constants' ≡ constants)
 
+-- where the loop stops: at a number, and with what the work ends with
+abbrev pub stoppedAt : ℕ → Cursor → Stop
+stoppedAt number p = record { number = number; index = p .index; written = p .written; count = p .count; real = p .low .real }
+
+abbrev pub stopOf : Ended → Stop
+stopOf e =
+    record {
+      number = e .number;
+      index = e .index;
+      written = length (e .bytes);
+      count = length (e .state .consts);
+      real = e .state .real;
+    }
+
+-- a stop's answer, with the marks of records
+abbrev pub withMarks : List Record → Stop → LowerAnswer
+withMarks rs s =
+    record {
+      number = s .number;
+      index = s .index;
+      written = s .written;
+      count = s .count;
+      real = s .real;
+      filled = registers (filledBy rs);
+      drawn = registers (drawnOn rs);
+    }
+
 -- the whole loop
-pub record Ran (whole : Ended) (l k : List ℕ) (p : Cursor) (l' k' : List ℕ) (r : LowerAnswer) : Type 0 where
-  pub answer : r ≡ answerOf whole
+pub record Ran (whole : Ended) (l k : List ℕ) (p : Cursor) (l' k' : List ℕ) (r : Stop) : Type 0 where
+  pub stopped : r ≡ stopOf whole
   pub bytes : whole .bytes ≡ take (r .written) l'
   pub consts : whole .state .consts ≡ take (r .count) k'
   pub listing : Appended l (p .written) l' (r .written)

@@ -1,37 +1,45 @@
 // The lowering entry.
 ghost use mathlib.Core.Path.{_≡_};
 ghost use Prim.Native.Nat.{_<_, _≤_};
-ghost use lib.ListN.{length, drop, replicate};
+ghost use mathlib.Core.List.{List};
+ghost use lib.ListN.{length, take, drop, replicate};
+ghost use Rattle.mir.specs.declared.records.Record.{Record};
+ghost use Rattle.mir.specs.Encode.{encodeAll};
 ghost use Rattle.lowering.specs.Labels.{noneStanding};
 ghost use Rattle.complexify.specs.Entry as Spec;
 ghost use Rattle.refusals.specs.Noted.{Noted};
-ghost use Rattle.complexify.specs.Taken.{Ready, Ran, left};
+ghost use Rattle.complexify.specs.Taken.{Ready, Ran, left, stoppedAt, withMarks};
 use super::copying::copy_constants;
 use super::turn::Cursor;
+use super::turn::Stop;
 use super::turn::one;
 use complexifier::state::Complexifier;
 use lowering::realness::Realness;
+use marks_pass::marks_of;
 use refusals::labels::find_labels;
 use refusals::labels::pass_at;
 use sheet::reader::LONGEST;
 use sheet::setup::Mode;
 use sheet::setup::read_setup;
 
-// The number (0: accepted), an instruction's index, the bytes written, the count of constants, and the final record of realness.
+// The number (0: accepted), an instruction's index, the bytes written, the count of constants, and the final record of realness: registers
+// and places, and which of a listing's registers are filled. Then which of them are drawn on before being filled.
 pub struct LowerAnswer {
     pub number: u8,
     pub index: usize,
     pub written: usize,
     pub count: usize,
     pub real: Realness,
+    pub filled: [bool; 66],
+    pub drawn: [bool; 66],
 }
 
-fn answer_at(number: u8, p: Cursor) -> LowerAnswer
-    ensures { λ r. ⌜ r ≡ record { number = number; index = p .index; written = p .written; count = p .count; real = p .low .real } ⌝ }
+fn stop_at(number: u8, p: Cursor) -> Stop
+    ensures { λ r. ⌜ r ≡ stoppedAt number p ⌝ }
 {
     let low = p.low;
     let real = low.real;
-    LowerAnswer {
+    Stop {
         number: number,
         index: p.index,
         written: p.written,
@@ -40,7 +48,8 @@ fn answer_at(number: u8, p: Cursor) -> LowerAnswer
     }
 }
 
-fn wrong_setup() -> LowerAnswer
+// What a wrong setup gives.
+pub fn wrong_setup() -> LowerAnswer
     ensures { λ r. ⌜ r ≡ Spec.refusedSetup ⌝ }
 {
     let places = [0u8; 64];
@@ -50,6 +59,8 @@ fn wrong_setup() -> LowerAnswer
         written: 0,
         count: 0,
         real: Realness::fresh(places),
+        filled: [false; 66],
+        drawn: [false; 66],
     }
 }
 
@@ -63,7 +74,7 @@ fn run(
     rows: &mut [u8],
     listing: &mut [u8],
     constants: &mut [u64],
-) -> LowerAnswer
+) -> Stop
     requires { ⌜ Ready (replicate 704 0) (now listing) (now constants) start ⌝ }
     requires { ⌜ start .index ≤ 612 ⌝ }
     requires { ⌜ Noted noneStanding (drop (start .at) (now sheet)) (now marks) (now rows) ⌝ }
@@ -73,22 +84,22 @@ fn run(
     let mut p = start;
     while p.at < sheet.len() {
         if p.index == LONGEST {
-            return answer_at(14, p);
+            return stop_at(14, p);
         }
         let low = p.low;
         let real = low.real;
         let number = pass_at(sheet, p.at, real, marks, rows);
         if number != 0 {
-            return answer_at(number, p);
+            return stop_at(number, p);
         }
         let t = one(sheet, own, mode, p, &mut stage, listing, constants);
         let next = t.stand;
         if t.done {
-            return answer_at(t.number, next);
+            return stop_at(t.number, next);
         }
         p = next;
     }
-    answer_at(0, p)
+    stop_at(0, p)
 }
 
 // The same, from marks made by looking ahead: a sheet with labels needs a row for each, one without none.
@@ -99,7 +110,7 @@ fn run_marked(
     start: Cursor,
     listing: &mut [u8],
     constants: &mut [u64],
-) -> LowerAnswer
+) -> Stop
     requires { ⌜ Ready (replicate 704 0) (now listing) (now constants) start ⌝ }
     requires { ⌜ start .index ≤ 612 ⌝ }
     ensures { λ r. ⌜ Ran (left mode (length (now (listing .entry))) own (now (sheet .entry)) noneStanding (now (listing .entry)) (now (constants .entry)) start) (now (listing .entry)) (now (constants .entry)) start (now (listing .exit)) (now (constants .exit)) r ⌝ }
@@ -129,6 +140,27 @@ fn run_marked(
         listing,
         constants,
     )
+}
+
+// The answer of a stop, with the marks of what is listed.
+fn marked(stop: Stop, listing: &[u8]) -> LowerAnswer
+    requires { ⌜ stop .written ≤ length (now listing) ⌝ }
+    ensures { λ r. ⌜ ((rs : List Record) → take (stop .written) (now (listing .entry)) ≡ encodeAll rs → r ≡ withMarks rs stop) ⌝ }
+{
+    let n = stop.written;
+    let marks = marks_of(&listing[0..n]);
+    let real = stop.real;
+    let filled = marks.filled;
+    let drawn = marks.drawn;
+    LowerAnswer {
+        number: stop.number,
+        index: stop.index,
+        written: n,
+        count: stop.count,
+        real: real,
+        filled: filled,
+        drawn: drawn,
+    }
 }
 
 pub fn lower(sheet: &[u8], listing: &mut [u8], constants: &mut [u64]) -> LowerAnswer
@@ -161,5 +193,6 @@ pub fn lower(sheet: &[u8], listing: &mut [u8], constants: &mut [u64]) -> LowerAn
         low: low,
     };
     let mode = setup.mode;
-    run_marked(sheet, own, mode, start, listing, constants)
+    let stop = run_marked(sheet, own, mode, start, listing, constants);
+    marked(stop, listing)
 }

@@ -6,6 +6,7 @@ ghost use Rattle.complexify.specs.Taken.{Ready, Fits, Finished, LoweredO
 use super::copying::copy_bytes;
 use super::copying::copy_words;
 use complexifier::state::Complexifier;
+use lowering::realness::Realness;
 use mir::records::Instruction;
 use refusals::barred::barred;
 use rerun::instruction::rerun;
@@ -30,6 +31,16 @@ pub struct Next {
     pub done: bool,
     pub number: u8,
     pub stand: Cursor,
+}
+
+// Where it ends: the number (0: at the sheet's end), the index of the instruction there, the bytes and the constants before it, and the
+// realness held there.
+pub struct Stop {
+    pub number: u8,
+    pub index: usize,
+    pub written: usize,
+    pub count: usize,
+    pub real: Realness,
 }
 
 fn refused(number: u8, stand: Cursor) -> Next

@@ -2,22 +2,21 @@
 use Prim.Native.Nat.{ℕ, _≤_}
 use mathlib.Core.Path.{_≡_, refl, sym, ap, ap₂, _∙_, subst}
 use mathlib.Core.Bool.{Bool, true, false, cond, not}
-use mathlib.Core.List.{List, []}
+use mathlib.Core.List.{List}
 use native.Mathlib.Omega.{arith}
-use lib.ListN.{length, take, drop}
+use lib.ListN.{length, take}
 use lib.Seq.{sets, take-length}
 use lib.Dec.{ltb, eqb}
 use borrow.Author.Tests.{eqb-true, not-false}
 use Rattle.mir.specs.Encode.{encodeAll}
 use Rattle.sheet.specs.Setup.{setup}
-use Rattle.sheet.specs.Instruction.{instructions}
 use Rattle.sheet.proofs.Setting.{right, length-constants}
 use Rattle.records.specs.Record.{records}
 use Rattle.lowering.specs.Rerun.{complexify}
-use Rattle.lowering.specs.Labels.{noneStanding}
 use Rattle.lowering.specs.Lower.{startState, lowerSheet}
-use Rattle.complexify.specs.Entry.{wrongSetup, refusedSetup, answerOf, answer}
+use Rattle.complexify.specs.Entry.{wrongSetup, refusedSetup, answer}
 use Rattle.complexify.proofs.Copies.{taken-first}
+use Rattle.complexify.proofs.Finished.{right-answer, ends, counted}
 use Rattle.leftovers.specs.Leftovers.{sheetOf, upTo}
 use Rattle.leftovers.proofs.Constants.{grown-few}
 use Rattle.leftovers.proofs.Listing.{grows}
@@ -25,24 +24,10 @@ use Rattle.leftovers.proofs.Sheets.{sound, read-back}
 use Rattle.entries.specs.Entries.{left}
 use Rattle.entries.specs.Complexified.{Listed, All, Complexified}
 use Rattle.entries.proofs.Entered.{neither, entered}
-use Rattle.entries.proofs.Finished.{Finished, finished}
 
 module _ (sheet listing constants : List ℕ) where
   abbrev room : ℕ
   room = length listing
-
-  -- how lowering ends
-  ends : let s = sheetOf sheet in Finished (s .mode) room (s .instructions) 0 [] (startState (s .places) (s .constants)) (lowerSheet sheet room)
-  unfolding lowerSheet
-  ends =
-      let u = setup sheet in
-      let s = sheetOf sheet in
-      let rest = drop (u .start) sheet in
-      finished (s .mode) room (s .instructions) (instructions (u .count) rest .fault) rest noneStanding 0 [] (startState (s .places) (s .constants)) (omega arith)
-
-  -- after as many instructions as its index says
-  counted : ends .count ≡ lowerSheet sheet room .index
-  counted = let e = ends .at in omega (arith, e)
 
   few : setup sheet .number ≡ 0 → (n : ℕ) → length (upTo (sheetOf sheet) n .after .consts) ≤ 256
   few h n =
@@ -56,21 +41,21 @@ module _ (sheet listing constants : List ℕ) where
       let o = lowerSheet sheet room in
       let n = neither (not (eqb (setup sheet .number) 0)) (ltb 65536 room) (not (eqb (length constants) 256)) w in
       let c = eqb-true (length constants) 256 (not-false _ (n .third)) in
-      let state = ends .state ∙ ap (λ k. upTo (sheetOf sheet) k .after) counted in
+      let state = ends sheet room .state ∙ ap (λ k. upTo (sheetOf sheet) k .after) (counted sheet room) in
       let f = few (eqb-true (setup sheet .number) 0 (not-false _ (n .first))) (o .index) in
-      let at : o .index ≡ answer sheet listing constants .index = sym (ap (λ b. cond b refusedSetup (answerOf o) .index) w) in
+      let at : o .index ≡ answer sheet listing constants .index = sym (ap (λ b. cond b refusedSetup (right-answer sheet room) .index) w) in
       subst (λ k. Listed sheet listing constants k) at
       (record {
         bytes =
-            ap (λ b. take (cond b refusedSetup (answerOf o) .written) (cond b listing (sets listing 0 (o .bytes)))) w
-            ∙ taken-first listing (o .bytes) _ refl (ends .fits)
-            ∙ ends .listing
-            ∙ ap (λ k. encodeAll (upTo (sheetOf sheet) k .records)) counted;
+            ap (λ b. take (cond b refusedSetup (right-answer sheet room) .written) (cond b listing (sets listing 0 (o .bytes)))) w
+            ∙ taken-first listing (o .bytes) _ refl (ends sheet room .fits)
+            ∙ ends sheet room .listing
+            ∙ ap (λ k. encodeAll (upTo (sheetOf sheet) k .records)) (counted sheet room);
         words =
-            ap (λ b. take (cond b refusedSetup (answerOf o) .count) (cond b constants (sets constants 0 (o .state .consts)))) w
+            ap (λ b. take (cond b refusedSetup (right-answer sheet room) .count) (cond b constants (sets constants 0 (o .state .consts)))) w
             ∙ taken-first constants (o .state .consts) _ refl (omega (arith, c, f, ap (λ s. length (s .consts)) state))
             ∙ ap (λ s. s .consts) state;
-        real = ap (λ b. cond b refusedSetup (answerOf o) .real) w ∙ ap (λ s. s .real) state;
+        real = ap (λ b. cond b refusedSetup (right-answer sheet room) .real) w ∙ ap (λ s. s .real) state;
       })
 
   -- all of them, where no number is given
@@ -79,9 +64,9 @@ module _ (sheet listing constants : List ℕ) where
   all w e =
       let s = sheetOf sheet in
       let o = lowerSheet sheet room in
-      let is : answer sheet listing constants ≡ answerOf o = ap (λ b. cond b refusedSetup (answerOf o)) w in
+      let is : answer sheet listing constants ≡ right-answer sheet room = ap (λ b. cond b refusedSetup (right-answer sheet room)) w in
       let l = listed w in
-      let n : answer sheet listing constants .index ≡ length (s .instructions) = ap (λ a. a .index) is ∙ sym counted ∙ ends .all (sym (ap (λ a. a .number) is) ∙ e) in
+      let n : answer sheet listing constants .index ≡ length (s .instructions) = ap (λ a. a .index) is ∙ sym (counted sheet room) ∙ ends sheet room .all (sym (ap (λ a. a .number) is) ∙ e) in
       let every : take (answer sheet listing constants .index) (s .instructions) ≡ s .instructions =
       ap (λ k. take k (s .instructions)) n ∙ take-length (s .instructions) in
       let a = sound sheet room (entered sheet listing constants e .accepted) in
@@ -102,5 +87,5 @@ complexified sheet listing constants h = go (wrongSetup sheet listing constants)
     go : (b : Bool) → wrongSetup sheet listing constants ≡ b
         → Listed sheet listing constants (answer sheet listing constants .index)
         × (answer sheet listing constants .number ≡ 0 → All sheet listing constants (answer sheet listing constants .index))
-    go true w = absurd (h (ap (λ b. cond b refusedSetup (answerOf (lowerSheet sheet (length listing))) .number) w))
+    go true w = absurd (h (ap (λ b. cond b refusedSetup (right-answer sheet (length listing)) .number) w))
     go false w = (listed sheet listing constants w, all sheet listing constants w)

@@ -10,8 +10,9 @@ use lib.Dec.{ltb, eqb}
 use borrow.Author.Tests.{ltb-false, eqb-true, not-false, le-ltb}
 use Rattle.sheet.specs.Setup.{setup}
 use Rattle.lowering.specs.Lower.{lowerSheet}
-use Rattle.complexify.specs.Entry.{wrongSetup, refusedSetup, answerOf, answer}
+use Rattle.complexify.specs.Entry.{wrongSetup, refusedSetup, answer}
 use Rattle.complexify.proofs.Copies.{taken-first}
+use Rattle.complexify.proofs.Finished.{right-answer}
 use Rattle.leftovers.specs.Leftovers.{sheetOf, Accepted, lowered}
 use Rattle.entries.specs.Entries.{left}
 use Rattle.leftovers.proofs.Sheets.{sound, table}
@@ -39,7 +40,7 @@ module _ (sheet listing constants : List ℕ) where
   abbrev room : ℕ
   room = length listing
 
-  accepts : (b : Bool) → wrongSetup sheet listing constants ≡ b → cond b refusedSetup (answerOf (lowerSheet sheet room)) .number ≡ 0
+  accepts : (b : Bool) → wrongSetup sheet listing constants ≡ b → cond b refusedSetup (right-answer sheet room) .number ≡ 0
       → Left sheet listing constants
   accepts true w e = absurd (omega arith)
   accepts false w e =
@@ -56,12 +57,12 @@ module _ (sheet listing constants : List ℕ) where
       record {
         accepted = a;
         bytes =
-            ap (λ b. take (cond b refusedSetup (answerOf o) .written) (cond b listing (sets listing 0 (o .bytes)))) w
+            ap (λ b. take (cond b refusedSetup (right-answer sheet room) .written) (cond b listing (sets listing 0 (o .bytes)))) w
             ∙ taken-first listing (o .bytes) _ refl (s .within);
         words =
-            ap (λ b. take (cond b refusedSetup (answerOf o) .count) (cond b constants (sets constants 0 (o .state .consts)))) w
+            ap (λ b. take (cond b refusedSetup (right-answer sheet room) .count) (cond b constants (sets constants 0 (o .state .consts)))) w
             ∙ taken-first constants (o .state .consts) _ refl (omega (arith, c, t, ap (λ l. length (l .constants)) (s .same)));
-        last = ap (λ b. cond b refusedSetup (answerOf o) .real) w;
+        last = ap (λ b. cond b refusedSetup (right-answer sheet room) .real) w;
       }
 
 pub entered : (sheet listing constants : List ℕ) → answer sheet listing constants .number ≡ 0 → Left sheet listing constants
@@ -73,6 +74,6 @@ accepts-setup n r c e h f = rw (e, le-ltb 65536 r h, f)
 
 pub answered : (sheet listing constants : List ℕ) → Accepted sheet (length listing) → length constants ≡ 256 → answer sheet listing constants .number ≡ 0
 answered sheet listing constants a c =
-    ap (λ b. cond b refusedSetup (answerOf (lowerSheet sheet (length listing))) .number)
+    ap (λ b. cond b refusedSetup (right-answer sheet (length listing)) .number)
     (accepts-setup (setup sheet .number) (length listing) (length constants) (a .right) (a .slice) c)
     ∙ a .number

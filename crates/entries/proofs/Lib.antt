@@ -1,5 +1,6 @@
 pub mod Entered
 pub mod Demand
 pub mod Examples
-pub mod Finished
 pub mod Complexified
+pub mod Drawn
+pub mod DrawnExamples

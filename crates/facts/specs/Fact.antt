@@ -16,8 +16,8 @@ use Rattle.complexify.specs.declared.entry.LowerAnswer.{LowerAnswer}
 use Rattle.complexify.specs.Entry.{answer, listingAfter, constantsAfter}
 
 -- a sheet's bytes, lowered in a listing slice of `room` bytes: "a number (0: accepted), an instruction's index, listing bytes written, a
--- count of constants and the final record of realness" (the registers recorded as real, the 64 bytes of the places), and the bytes and
--- constants themselves
+-- count of constants and the final record of realness" (the registers recorded as real, the 64 bytes of the places, and the listing's
+-- registers that are filled), the listing's registers drawn on before being filled, and the bytes and constants themselves
 pub record LoweredSheet : Type 0 where
   pub sheet : List ℕ
   pub room : ℕ
@@ -29,6 +29,8 @@ pub record LoweredSheet : Type 0 where
   pub constants : List ℕ
   pub registers : List ℕ
   pub places : List ℕ
+  pub filled : List ℕ
+  pub drawn : List ℕ
 
 -- the records of a listing that compute
 pub data Operation : Type 0 where
@@ -90,10 +92,10 @@ given (computed x) = wrote (values (writes [] (holding (x .words)) (asWork (x .o
 
 -- ---- what the row says
 
--- these registers, of 32, recorded as real
-abbrev pub flags : List ℕ → List Bool
-flags [] = replicate 32 false
-flags (r ∷ rs) = set (flags rs) r true
+-- these registers, of n, marked
+abbrev pub flags : ℕ → List ℕ → List Bool
+flags n [] = replicate n false
+flags n (r ∷ rs) = set (flags n rs) r true
 
 -- "every later byte or word as lent"
 abbrev pub stated : Fact → Outcome
@@ -104,7 +106,9 @@ stated (lowered x) =
       index = x .index;
       written = x .written;
       count = x .count;
-      real = record { regs = flags (x .registers); places = x .places };
+      real = record { regs = flags 32 (x .registers); places = x .places };
+      filled = flags 66 (x .filled);
+      drawn = flags 66 (x .drawn);
     })
     (x .bytes ++ replicate (x .room - length (x .bytes)) lentByte)
     (x .constants ++ replicate (256 - length (x .constants)) lentWord)

@@ -20,12 +20,13 @@ use Rattle.sheet.specs.Instruction.{instructionFrom}
 use Rattle.float.specs.Root.{squareRoot}
 use Rattle.float.specs.Fused.{fusedMultiplyAdd}
 use Rattle.float.specs.Integral.{roundToIntegral}
-use Rattle.player_machine.specs.Machine.{uniWord, binWord, fusedWord, complexWords, writes}
+use Rattle.player_machine.specs.Machine.{uniWord, binWord, fusedWord, complexWords, writes, block}
 use Rattle.lowering.specs.Realness.{withoutLoc}
 use Rattle.lowering.specs.Lines.{eachLines, orderLines}
 use Rattle.lowering.specs.Complexifier as c
-use Rattle.lowering.specs.Rerun.{rerun, rerunUni, rerunBin}
-use Rattle.lowering.specs.Lower.{lowerSheet}
+use Rattle.lowering.specs.Rerun.{rerun, rerunUni, rerunBin, complexify}
+use Rattle.lowering.specs.Lower.{lowerSheet, listed}
+use Rattle.marks.specs.Marks.{step, scan}
 use Rattle.facts.specs.Fact.{Fact, lowered, computed, Operation, uni, bi, fused, ifelse, complexBi, given, stated, computes}
 
 -- "a header: kind 32, mode byte (0 plain, 1 stable), 64 bytes of realness"; 2 is document 02's n)
@@ -106,6 +107,8 @@ turnedAway instructions number index bytes =
       constants = [];
       registers = [];
       places = noPlaces;
+      filled = [];
+      drawn = [];
     })
 
 -- Branch 3; LoadConst general 0, constant 0, which is real then; Label 3
@@ -132,6 +135,8 @@ table =
       constants = 0x4000_0000_0000_0000 ∷ [];
       registers = [];
       places = noPlaces;
+      filled = 4 ∷ 5 ∷ 6 ∷ 7 ∷ [];
+      drawn = [];
     })
     -- "With 40 bytes this is 7 at index 3, 32 bytes written."
     ∷ lowered
@@ -146,6 +151,8 @@ table =
       constants = 0x4000_0000_0000_0000 ∷ [];
       registers = [];
       places = noPlaces;
+      filled = 4 ∷ 5 ∷ 6 ∷ 7 ∷ [];
+      drawn = [];
     })
     -- "general 29 becomes 62 and 63": Load general 29, Mem 0 is LoadComplex G62 G63 Mem 0
     ∷ lowered
@@ -160,6 +167,8 @@ table =
       constants = [];
       registers = [];
       places = noPlaces;
+      filled = 62 ∷ 63 ∷ [];
+      drawn = [];
     })
     -- "Mov of 3 to 3 lists nothing"
     ∷ lowered
@@ -174,6 +183,8 @@ table =
       constants = [];
       registers = [];
       places = noPlaces;
+      filled = [];
+      drawn = [];
     })
     -- "real 0 minus complex 1 into 2 is Minus G8 G4 G6, Neg G9 G7": 0 is real by Load general 0, Param 9, listed as Load G4 Param 9
     ∷ lowered
@@ -188,6 +199,8 @@ table =
       constants = [];
       registers = 0 ∷ [];
       places = paramNine;
+      filled = 4 ∷ 8 ∷ 9 ∷ [];
+      drawn = 6 ∷ 7 ∷ [];
     })
     -- "Half of real 0 into complex 1 is Half G7 G5, Half G6 G4": 0 is real by LoadConst general 0, constant 0, listed as LoadConst G4 0
     ∷ lowered
@@ -202,6 +215,8 @@ table =
       constants = 0x4000_0000_0000_0000 ∷ [];
       registers = 0 ∷ [];
       places = noPlaces;
+      filled = 4 ∷ 6 ∷ 7 ∷ [];
+      drawn = 5 ∷ [];
     })
     -- "Fused with c Ret gives 6": MulAdd 0, 1, 2, Ret
     ∷ lowered
@@ -216,6 +231,8 @@ table =
       constants = [];
       registers = [];
       places = noPlaces;
+      filled = [];
+      drawn = [];
     })
     -- "stable Abs on empty constants adds 0020000000000000, 7fe0000000000000, 7ff0000000000000": Abs 1, 0, listed line by line as
     -- complexify.rs's `stable_exponent` and `stable_abs` have it
@@ -256,6 +273,8 @@ table =
       constants = 0x0020_0000_0000_0000 ∷ 0x7fe0_0000_0000_0000 ∷ 0x7ff0_0000_0000_0000 ∷ [];
       registers = [];
       places = noPlaces;
+      filled = 2 ∷ 3 ∷ 6 ∷ 7 ∷ 64 ∷ [];
+      drawn = 4 ∷ 5 ∷ [];
     })
     -- "no instructions list nothing"
     ∷ lowered
@@ -270,6 +289,8 @@ table =
       constants = 0x4000_0000_0000_0000 ∷ [];
       registers = [];
       places = noPlaces;
+      filled = [];
+      drawn = [];
     })
     -- ---- document 02, a: "listed as complexify.rs and mir.rs list them"
     -- Floor of complex 0 into 1, a half at a time: Floor G6 G4, Floor G7 G5
@@ -285,6 +306,8 @@ table =
       constants = [];
       registers = [];
       places = noPlaces;
+      filled = 6 ∷ 7 ∷ [];
+      drawn = 4 ∷ 5 ∷ [];
     })
     -- IsZero of complex 0 into 1: Temp is cleared by Xor G1 G1 G1, Xor G0 G0 G0, and then compared with it as by Equal: Equal G7 G5 G1,
     -- Equal G6 G4 G0, And G6 G6 G7; 1 is then real
@@ -305,6 +328,8 @@ table =
       constants = [];
       registers = 1 ∷ [];
       places = noPlaces;
+      filled = 0 ∷ 1 ∷ 6 ∷ 7 ∷ [];
+      drawn = 4 ∷ 5 ∷ [];
     })
     -- Equal of real 0 and complex 1 into 2: 0 is real by Load general 0, Param 9, listed as Load G4 Param 9; its imaginary half is cleared
     -- by Xor G5 G5 G5, then Equal G9 G5 G7, Equal G8 G4 G6, And G8 G8 G9
@@ -325,6 +350,8 @@ table =
       constants = [];
       registers = 2 ∷ [];
       places = paramNine;
+      filled = 4 ∷ 5 ∷ 8 ∷ 9 ∷ [];
+      drawn = 6 ∷ 7 ∷ [];
     })
     -- LittleThanEqual of complex 0 and 1 into 2, real halves alone: LittleThanEqual G8 G4 G6; 2 is then real
     ∷ lowered
@@ -339,6 +366,8 @@ table =
       constants = [];
       registers = 2 ∷ [];
       places = noPlaces;
+      filled = 8 ∷ [];
+      drawn = 4 ∷ 6 ∷ [];
     })
     -- AndNot stays out: 2
     ∷ lowered
@@ -353,6 +382,8 @@ table =
       constants = [];
       registers = [];
       places = noPlaces;
+      filled = [];
+      drawn = [];
     })
     -- ---- document 02, n: mode 2. "Half lists its imaginary line only for a register recorded as complex, and for either record copies it":
     -- Half of real 0 into complex 1 is Half G6 G4, and 1 is then real; 0 is real by LoadConst general 0, constant 0
@@ -368,6 +399,8 @@ table =
       constants = 0x4000_0000_0000_0000 ∷ [];
       registers = 0 ∷ 1 ∷ [];
       places = noPlaces;
+      filled = 4 ∷ 6 ∷ [];
+      drawn = [];
     })
     -- Half of complex 1 into real 0 is Half G5 G7, Half G4 G6, and 0 is then complex
     ∷ lowered
@@ -382,6 +415,8 @@ table =
       constants = 0x4000_0000_0000_0000 ∷ [];
       registers = [];
       places = noPlaces;
+      filled = 4 ∷ 5 ∷ [];
+      drawn = 6 ∷ 7 ∷ [];
     })
     -- "a Divide by a complex register into Temp is listed as one into Ret followed by a move to Temp [..]; the record of Ret is then complex":
     -- LoadConst Ret, constant 0, makes Ret real; then Divide Temp, 0, 1, line by line as complexify.rs's `stable_divide` into Ret and `fmov`
@@ -423,6 +458,8 @@ table =
       constants = 0x4000_0000_0000_0000 ∷ 0x0010_0000_0000_0000 ∷ 0x7ff0_0000_0000_0000 ∷ 0x3fd0_0000_0000_0000 ∷ [];
       registers = [];
       places = noPlaces;
+      filled = 0 ∷ 1 ∷ 2 ∷ 3 ∷ 64 ∷ 65 ∷ [];
+      drawn = 4 ∷ 5 ∷ 6 ∷ 7 ∷ [];
     })
     -- "A Divide by a real register is listed and recorded as in mode 1": Ret and 1 made real by LoadConst, then Divide Temp, 0, 1 is Divide
     -- G1 G5 G6, Divide G0 G4 G6, and Ret stays real
@@ -447,6 +484,8 @@ table =
       constants = 0x4000_0000_0000_0000 ∷ [];
       registers = 1 ∷ 30 ∷ [];
       places = noPlaces;
+      filled = 0 ∷ 1 ∷ 6 ∷ 64 ∷ [];
+      drawn = 4 ∷ 5 ∷ [];
     })
     -- 6 as in mode 1, into Temp too: Divide Temp, Ret, 1
     ∷ lowered
@@ -461,6 +500,8 @@ table =
       constants = [];
       registers = [];
       places = noPlaces;
+      filled = [];
+      drawn = [];
     })
     -- a mode above 2 is 8
     ∷ lowered
@@ -475,6 +516,8 @@ table =
       constants = [];
       registers = [];
       places = noPlaces;
+      filled = [];
+      drawn = [];
     })
     -- ---- document 02, d: "It lists as the Rust does."
     -- Load general 0, Param 9, which is real then; BranchIf of Temp, whose real half is register 0; BranchIf of general 0; Branch; both
@@ -499,6 +542,8 @@ table =
       constants = [];
       registers = 0 ∷ [];
       places = paramNine;
+      filled = 4 ∷ [];
+      drawn = 0 ∷ [];
     })
     -- "10 at a branch with no such label later or one before it"
     ∷ turnedAway (branch 3 ++ label 4) 10 0 []
@@ -518,6 +563,8 @@ table =
       constants = [];
       registers = 0 ∷ [];
       places = paramNine;
+      filled = 4 ∷ [];
+      drawn = [];
     })
     -- "for a label outside 3 to 255, or a third byte above 1"
     ∷ turnedAway (label 2) 10 0 []
@@ -549,6 +596,8 @@ table =
       constants = 0x4000_0000_0000_0000 ∷ [];
       registers = 0 ∷ [];
       places = noPlaces;
+      filled = 4 ∷ [];
+      drawn = [];
     })
     -- before 7: no room for the label
     ∷ lowered
@@ -563,6 +612,8 @@ table =
       constants = 0x4000_0000_0000_0000 ∷ [];
       registers = 0 ∷ [];
       places = noPlaces;
+      filled = 4 ∷ [];
+      drawn = [];
     })
     -- those of a place: Stack 5 is real at BranchIf of general 1, and complex by Save general 0, Stack 5, listed as SaveComplex G4 G5
     -- Stack 5
@@ -578,6 +629,48 @@ table =
       constants = [];
       registers = [];
       places = noPlaces;
+      filled = [];
+      drawn = 4 ∷ 5 ∷ 6 ∷ [];
+    })
+    -- ---- document 02, l: "the record after a Branch to such a label is taken as reached from it": Branch 3; Save general 0, Mem 1, listed as
+    -- SaveComplex G4 G5 Mem 1; Label 3
+    ∷ lowered
+    (record {
+      sheet = header 0 noPlaces ++ branch 3 ++ (8 ∷ 0 ∷ 5 ∷ 0 ∷ 0 ∷ 1 ∷ 1 ∷ 0 ∷ []) ++ label 3;
+      room = 19;
+      number = 0;
+      index = 3;
+      written = 19;
+      bytes = branch 3 ++ (9 ∷ 0 ∷ 12 ∷ 0 ∷ 4 ∷ 5 ∷ 1 ∷ 1 ∷ 0 ∷ []) ++ label 3;
+      count = 0;
+      constants = [];
+      registers = [];
+      places = noPlaces;
+      filled = [];
+      drawn = 4 ∷ 5 ∷ [];
+    })
+    -- "filled at a label from 3 up only if it is filled on every way in": BranchIf of general 1 draws on G6; Load general 0, Mem 1, listed as
+    -- LoadComplex G4 G5 Mem 1; Label 3; Save general 0, Mem 2, listed as SaveComplex G4 G5 Mem 2, draws on both
+    ∷ lowered
+    (record {
+      sheet =
+          header 0 noPlaces
+          ++ branchIf 1 3 0
+          ++ (8 ∷ 0 ∷ 4 ∷ 0 ∷ 0 ∷ 1 ∷ 1 ∷ 0 ∷ [])
+          ++ label 3
+          ++ (8 ∷ 0 ∷ 5 ∷ 0 ∷ 0 ∷ 1 ∷ 2 ∷ 0 ∷ []);
+      room = 30;
+      number = 0;
+      index = 4;
+      written = 30;
+      bytes =
+          branchIf 6 3 0 ++ (9 ∷ 0 ∷ 11 ∷ 0 ∷ 4 ∷ 5 ∷ 1 ∷ 1 ∷ 0 ∷ []) ++ label 3 ++ (9 ∷ 0 ∷ 12 ∷ 0 ∷ 4 ∷ 5 ∷ 1 ∷ 2 ∷ 0 ∷ []);
+      count = 0;
+      constants = [];
+      registers = [];
+      places = noPlaces;
+      filled = [];
+      drawn = 4 ∷ 5 ∷ 6 ∷ [];
     })
     -- ---- document 01's words
     -- "Half of 0000000000000003 is 0000000000000002": 3 units of 2 ^ -1074 by 2 is a tie, and 2 units are even
@@ -759,7 +852,7 @@ table =
 
 -- in each row what the definitions give is what the row says
 pub facts : map given table ≡ map stated table
-unfolding lowerSheet setup constantAt decoded instructionFrom takesKind placeAt savePlace uniOps binOps fusedOps rerun rerunUni rerunBin withoutLoc c.unlisted c.directed c.loadConst c.loadFrom c.saveTo c.times c.minus c.half c.divide c.abs c.byOne c.byTwo c.bits c.compare eachLines orderLines re im recordOf writes uniWord binWord fusedWord complexWords ofBits toBits isNan add sub mul div lt le eq ne squareRoot fusedMultiplyAdd roundToIntegral
+unfolding lowerSheet listed complexify block step scan setup constantAt decoded instructionFrom takesKind placeAt savePlace uniOps binOps fusedOps rerun rerunUni rerunBin withoutLoc c.unlisted c.directed c.loadConst c.loadFrom c.saveTo c.times c.minus c.half c.divide c.abs c.byOne c.byTwo c.bits c.compare eachLines orderLines re im recordOf writes uniWord binWord fusedWord complexWords ofBits toBits isNan add sub mul div lt le eq ne squareRoot fusedMultiplyAdd roundToIntegral
 facts = refl
 
 -- what a listing's records compute with (document 01, Sheet): "Uni Neg, Not, Abs, Root, Recip, Round, Half, Sign; Bi Plus, Minus, Times,

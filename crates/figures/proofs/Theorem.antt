@@ -20,6 +20,7 @@ use Rattle.lowering.specs.Rerun.{complexify}
 use Rattle.lowering.specs.Labels.{noneStanding}
 use Rattle.lowering.specs.Lower.{Ended, startState, lowerFrom, lowerSheet}
 use Rattle.complexify.specs.Entry as Lowering
+use Rattle.complexify.proofs.Finished.{right-answer}
 use Rattle.leftovers.specs.Leftovers.{Sheet, sheetOf, Accepted, Lowered, lowered}
 use Rattle.leftovers.proofs.Instructions.{AllIn}
 use Rattle.leftovers.proofs.Points.{whole}
@@ -105,7 +106,7 @@ module _ (sheet listing constants : List ℕ) (long : length listing ≡ 65536) 
       (same (sheetOf sheet .mode) (sheetOf sheet .instructions) (instructions (setup sheet .count) (drop (setup sheet .start) sheet) .fault)
       (drop (setup sheet .start) sheet) noneStanding 0 [] nothing (start (sheetOf sheet)) refl)
 
-  answered : setup sheet .number ≡ 0 → Lowering.answer sheet listing constants ≡ Lowering.answerOf whole-end
+  answered : setup sheet .number ≡ 0 → Lowering.answer sheet listing constants ≡ right-answer sheet 65536
   answered e = rw (wrong false (rw (eq-eqb (setup sheet .number) 0 e) refl), long) refl
 
   -- accepted, and refused

@@ -1,19 +1,21 @@
--- Lowering over words and over bytes: the answer's 128 bytes, and the constants' words.
+-- Lowering over words and over bytes: the answer's 260 bytes, and the constants' words.
 use Prim.Native.Nat.{ℕ, _+_, _/_, _≤_, _<_}
 use mathlib.Core.Path.{_≡_, refl, sym, ap, _∙_, subst}
 use mathlib.Core.Bool.{cond}
-use mathlib.Core.List.{List, [], _∷_}
+use mathlib.Core.List.{List, [], _∷_, _++_, map, append-assoc}
 use native.Mathlib.Nat.{min-le-left}
 use native.Mathlib.Omega.{arith}
-use lib.ListN.{length, take, getD, length-take}
+use lib.ListN.{length, take, getD, length-take, length-append, length-map}
 use lib.Seq.{sets}
 use borrow.Author.Tests.{eq-eqb, ne-eqb}
+use Rattle.mir.specs.Encode.{flagByte}
 use Rattle.mir.proofs.Passing.{either}
 use Rattle.lowering.specs.RecordBytes.{recordBytes}
 use Rattle.lowering.specs.Lower.{lowerSheet}
-use Rattle.lowering.proofs.RecordStored.{length-record, both-stored}
+use Rattle.lowering.proofs.RecordStored.{length-record, then-stored, both-stored}
 use Rattle.complexify.specs.declared.entry.LowerAnswer as Lowered
 use Rattle.complexify.specs.Entry as Lower
+use Rattle.complexify.proofs.Finished.{right-answer}
 use Rattle.complexify.proofs.Within.{within}
 use Rattle.words.specs.Bytes.{bytesOf, wordsOf, stored}
 use Rattle.words.proofs.Lengths.{length-bytesOf, length-wordsOf, sets-front, bytesOf-sets}
@@ -21,16 +23,37 @@ use Rattle.words.proofs.RoundTrip.{bytesOf-wordsOf}
 use Rattle.words.proofs.Stored.{stored-fits}
 use Rattle.interface.specs.Calls.{lowerAnswer, lowerCall}
 
--- the numbers and the record of realness fill the answer
-pub told : (a : Lowered.LowerAnswer) (l : List ℕ) {x r y : List ℕ} → length l ≡ 128 → length (a .real .regs) ≡ 32 → length (a .real .places) ≡ 64
-    → x ≡ stored l 0 (bytesOf (a .number ∷ a .index ∷ a .written ∷ a .count ∷ [])) → r ≡ recordBytes (a .real) → y ≡ stored x 32 r → y ≡ lowerAnswer a
-told a l {x} hl hr hp e g f =
-    let b : List ℕ = bytesOf (a .number ∷ a .index ∷ a .written ∷ a .count ∷ []) in
-    let n : length b ≡ 32 = length-bytesOf (a .number ∷ a .index ∷ a .written ∷ a .count ∷ []) in
-    let m = length-record (a .real) hr hp in
-    f ∙ ap (stored x 32) g ∙ both-stored l b (recordBytes (a .real)) 32 n (omega (arith, m, hl)) (e ∙ stored-fits l 0 b (omega (arith, n, hl)))
+-- the numbers, the record of realness and the marks fill the answer
+module _ (a : Lowered.LowerAnswer) (l : List ℕ) (hl : length l ≡ 260) (hr : length (a .real .regs) ≡ 32) (hp : length (a .real .places) ≡ 64)
+    (hf : length (a .filled) ≡ 66) (hd : length (a .drawn) ≡ 66) where
+  abbrev numbers : List ℕ
+  numbers = bytesOf (a .number ∷ a .index ∷ a .written ∷ a .count ∷ [])
 
-module _ (sheet listing constants lent : List ℕ) (whole-answer : length lent ≡ 128) where
+  abbrev filled : List ℕ
+  filled = map flagByte (a .filled)
+
+  abbrev drawn : List ℕ
+  drawn = map flagByte (a .drawn)
+
+  pub told : {x r y w : List ℕ} → x ≡ stored l 0 numbers → r ≡ recordBytes (a .real) → y ≡ stored x 32 r
+      → w ≡ stored (stored y 128 filled) 194 drawn → w ≡ lowerAnswer a
+  told {x} {r} {y} e g f q =
+      let n : length numbers ≡ 32 = length-bytesOf (a .number ∷ a .index ∷ a .written ∷ a .count ∷ []) in
+      let m = length-record (a .real) hr hp in
+      let k : length filled ≡ 66 = length-map (a .filled) flagByte ∙ hf in
+      let d : length drawn ≡ 66 = length-map (a .drawn) flagByte ∙ hd in
+      let both : length (numbers ++ recordBytes (a .real)) ≡ 128 = omega (arith, n, m, length-append numbers (recordBytes (a .real))) in
+      let three : length ((numbers ++ recordBytes (a .real)) ++ filled) ≡ 194 = omega (arith, both, k, length-append (numbers ++ recordBytes (a .real)) filled) in
+      let second : y ≡ sets l 0 (numbers ++ recordBytes (a .real)) =
+      f ∙ ap (stored x 32) g ∙ then-stored l numbers (recordBytes (a .real)) 32 n (omega (arith, m, hl)) (e ∙ stored-fits l 0 numbers (omega (arith, n, hl))) in
+      let third : stored y 128 filled ≡ sets l 0 ((numbers ++ recordBytes (a .real)) ++ filled) =
+      then-stored l (numbers ++ recordBytes (a .real)) filled 128 both (omega (arith, k, hl)) second in
+      q
+      ∙ both-stored l ((numbers ++ recordBytes (a .real)) ++ filled) drawn 194 three (omega (arith, d, hl)) third
+      ∙ append-assoc (numbers ++ recordBytes (a .real)) filled drawn
+      ∙ append-assoc numbers (recordBytes (a .real)) (filled ++ drawn)
+
+module _ (sheet listing constants lent : List ℕ) (whole-answer : length lent ≡ 260) where
   pub wrong-constants : {a : Lowered.LowerAnswer} {r : List ℕ} → (length constants ≡ 2048 → ⊥) → a ≡ Lower.refusedSetup → r ≡ lowerAnswer a
       → record { number = 8; listing = listing; constants = constants; answer = r } ≡ lowerCall sheet listing constants lent
   unfolding lowerCall
@@ -60,7 +83,7 @@ module _ (sheet listing constants zeros : List ℕ) (e : length constants ≡ 20
   same-setup = simp (z, words-long)
 
   pub same-answer : Lower.answer sheet listing zeros ≡ Lower.answer sheet listing (wordsOf constants)
-  same-answer = ap (λ b. cond b Lower.refusedSetup (Lower.answerOf (lowerSheet sheet (length listing)))) same-setup
+  same-answer = ap (λ b. cond b Lower.refusedSetup (right-answer sheet (length listing))) same-setup
 
   pub same-listing : Lower.listingAfter sheet listing zeros ≡ Lower.listingAfter sheet listing (wordsOf constants)
   same-listing = ap (λ b. cond b listing (sets listing 0 (lowerSheet sheet (length listing) .bytes))) same-setup
@@ -82,7 +105,7 @@ module _ (sheet listing constants zeros : List ℕ) (e : length constants ≡ 20
       (λ w. simp (w, sym same-setup ∙ w) (sym words-back))
       (λ w.
       let consts = lowerSheet sheet (length listing) .state .consts in
-      let few : length consts ≤ 256 = subst (λ b. cond b Lower.refusedSetup (Lower.answerOf (lowerSheet sheet (length listing))) .count ≤ 256) w (within sheet listing zeros refl .count) in
+      let few : length consts ≤ 256 = subst (λ b. cond b Lower.refusedSetup (right-answer sheet (length listing)) .count ≤ 256) w (within sheet listing zeros refl .count) in
       simp (w, sym same-setup ∙ w)
       (ap (λ v. sets constants 0 (bytesOf v)) (sets-front zeros consts (length consts) refl (omega (arith, few, z)))
       ∙ ap (λ l. sets l 0 (bytesOf consts)) (sym words-back)

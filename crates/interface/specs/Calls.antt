@@ -6,6 +6,7 @@ use lib.ListN.{length}
 use lib.Dec.{eqb}
 use Rattle.mir.specs.Encode.{flagByte}
 use Rattle.player_machine.specs.Answer.{Answer, answer}
+use Rattle.lowering.specs.RecordBytes.{recordBytes}
 use Rattle.complexify.specs.declared.entry.LowerAnswer as Lowered
 use Rattle.complexify.specs.Entry as Lower
 use Rattle.words.specs.Bytes.{bytesOf, wordsOf}
@@ -40,18 +41,20 @@ pub record LowerCall : Type 0 where
   pub answer : List ℕ
 
 -- the answer of lowering: number, index, bytes written and count of constants, eight bytes each; the flags of the 32 registers, 1 where one is
--- recorded as real; the 64 bytes of real places
+-- recorded as real; the 64 bytes of real places; the 66 marks of a listing's registers that are filled, and the 66 of those drawn on before
+-- being filled, 1 where one is set
 abbrev pub lowerAnswer : Lowered.LowerAnswer → List ℕ
 lowerAnswer a =
-    bytesOf (a .number ∷ a .index ∷ a .written ∷ a .count ∷ []) ++ (map flagByte (a .real .regs) ++ a .real .places)
+    bytesOf (a .number ∷ a .index ∷ a .written ∷ a .count ∷ [])
+    ++ (recordBytes (a .real) ++ (map flagByte (a .filled) ++ map flagByte (a .drawn)))
 
--- An answer of another length than 128 bytes is refused by 8 with nothing written. Constants of another length than 256 words of eight
+-- An answer of another length than 260 bytes is refused by 8 with nothing written. Constants of another length than 256 words of eight
 -- bytes are refused by 8 as the entry refuses a wrong setup: listing and constants unchanged. Otherwise the call gives what the entry gives
 -- for the words.
 unfoldable pub lowerCall : List ℕ → List ℕ → List ℕ → List ℕ → LowerCall
 unfolding bytesOf wordsOf
 lowerCall sheet listing constants lent =
-    cond (not (eqb (length lent) 128)) (record { number = 8; listing = listing; constants = constants; answer = lent })
+    cond (not (eqb (length lent) 260)) (record { number = 8; listing = listing; constants = constants; answer = lent })
     (cond (not (eqb (length constants) 2048))
     (record { number = 8; listing = listing; constants = constants; answer = lowerAnswer Lower.refusedSetup })
     (record {

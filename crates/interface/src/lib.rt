@@ -1,15 +1,17 @@
 // The two entries as C functions. Words go in and out as eight bytes each, the lowest first.
 ghost use mathlib.Core.Path.{_≡_};
-ghost use mathlib.Core.List.{[], _∷_};
+ghost use mathlib.Core.List.{[], _∷_, map};
 ghost use lib.ListN.{length};
+ghost use Rattle.mir.specs.Encode.{flagByte};
 ghost use Rattle.player_machine.specs.Answer.{answer};
 ghost use Rattle.player.specs.Values.{whole};
 ghost use Rattle.complexify.specs.Entry as Entry;
 ghost use Rattle.words.specs.Bytes.{bytesOf, wordsOf, stored};
 ghost use Rattle.interface.specs.Calls.{playCall, lowerCall, lowerAnswer};
 use complexify::entry::LowerAnswer;
+use complexify::entry::wrong_setup;
+use lowering::bytes::put_flags;
 use lowering::bytes::record_bytes;
-use lowering::realness::Realness;
 use player::PlayAnswer;
 use words::load;
 use words::put_bytes;
@@ -70,9 +72,19 @@ pub extern "C" fn tulipcricket_play_unguarded(
     a.number as u32
 }
 
-// The answer of lowering, as 128 bytes.
+// The marks of registers filled, and of those drawn on before, behind the record of realness.
+fn put_marks(out: &mut [u8], filled: [bool; 66], drawn: [bool; 66])
+    ensures { λ r. ⌜ (now (out .exit) ≡ stored (stored (now (out .entry)) 128 (map flagByte filled)) 194 (map flagByte drawn))
+        × (length filled ≡ 66)
+        × (length drawn ≡ 66) ⌝ }
+{
+    put_flags(out, 128, &filled);
+    put_flags(out, 194, &drawn);
+}
+
+// The answer of lowering, as 260 bytes.
 fn put_answer(out: &mut [u8], a: LowerAnswer)
-    requires { ⌜ length (now out) ≡ 128 ⌝ }
+    requires { ⌜ length (now out) ≡ 260 ⌝ }
     ensures { λ r. ⌜ now (out .exit) ≡ lowerAnswer a ⌝ }
 {
     let numbers = [
@@ -84,20 +96,9 @@ fn put_answer(out: &mut [u8], a: LowerAnswer)
     save(out, &numbers);
     let record = record_bytes(a.real);
     put_bytes(out, 32, &record);
-}
-
-// What constants of another length than 256 words give.
-fn wrong_constants() -> LowerAnswer
-    ensures { λ r. ⌜ r ≡ Entry.refusedSetup ⌝ }
-{
-    let places = [0u8; 64];
-    LowerAnswer {
-        number: 8,
-        index: 0,
-        written: 0,
-        count: 0,
-        real: Realness::fresh(places),
-    }
+    let filled = a.filled;
+    let drawn = a.drawn;
+    put_marks(out, filled, drawn);
 }
 
 // Lowers with the constants as bytes. Lowering reads no word that it has not written, so none is read from the bytes.
@@ -114,8 +115,8 @@ fn lower_words(sheet: &[u8], listing: &mut [u8], constants: &mut [u8]) -> LowerA
     a
 }
 
-// Lowers a sheet. The constants are 2,048 bytes; the answer is 128: number, index, bytes written, count of constants, 32 flags of
-// registers, 64 bytes of places. Returns the number.
+// Lowers a sheet. The constants are 2,048 bytes; the answer is 260: number, index, bytes written, count of constants, 32 flags of
+// registers, 64 bytes of places, 66 flags of a listing's registers that are filled, and 66 of those drawn on before. Returns the number.
 #[no_mangle]
 pub extern "C" fn tulipcricket_lower_unguarded(
     sheet: &[u8],
@@ -125,11 +126,11 @@ pub extern "C" fn tulipcricket_lower_unguarded(
 ) -> u32
     ensures { λ r. ⌜ record { number = r; listing = now (listing .exit); constants = now (constants .exit); answer = now (answer .exit) } ≡ lowerCall (now (sheet .entry)) (now (listing .entry)) (now (constants .entry)) (now (answer .entry)) ⌝ }
 {
-    if answer.len() != 128 {
+    if answer.len() != 260 {
         return 8;
     }
     if constants.len() != 2048 {
-        put_answer(answer, wrong_constants());
+        put_answer(answer, wrong_setup());
         return 8;
     }
     let a = lower_words(sheet, listing, constants);

@@ -25,7 +25,7 @@ use Rattle.lowering.specs.Labels as Labels
 use Rattle.lowering.specs.Labels.{Role, role}
 use Rattle.leftovers.specs.Leftovers.{IsDestination}
 use Rattle.leftovers.specs.Kept.{Kept, kept-re}
-use Rattle.leftovers.proofs.Rows.{Agree}
+use Rattle.player_machine.proofs.Agreeing.{Agree}
 use Rattle.leftovers.proofs.Names.{Frame}
 use Rattle.leftovers.proofs.Sought.{Without, none≢some, some-inj}
 use Rattle.leftovers.proofs.Moves.{OwnWay, Moves, working, labelled, branched, decided, untouched}

@@ -25,8 +25,8 @@ use Rattle.lowering.specs.Complexifier as c
 use Rattle.lowering.specs.Complexifier.{State, then, emit}
 use Rattle.leftovers.specs.Kept.{Kept, kept-im}
 use Rattle.player_machine.proofs.Drawing.{xor-zero}
-use Rattle.leftovers.proofs.Rows.{weaken}
-use Rattle.leftovers.proofs.Names.{rename, good, kept-new, leaf-agree, halves-apart, im-apart}
+use Rattle.player_machine.proofs.Agreeing.{weaken}
+use Rattle.leftovers.proofs.Names.{rename, good, kept-new, leaf-agree, leaf-undrawn, halves-apart, im-apart}
 use Rattle.mir.proofs.Decoding.{none}
 use Rattle.mir.proofs.IfRead.{Stacked}
 use Rattle.leftovers.proofs.Held.{all-listed}
@@ -70,11 +70,13 @@ module _ (k : List ℕ) (B : List Work) (X Z : ℕ → Type 0) (H : Type 0) (s :
           (λ σ τ _ g. leaf-agree (s .real) a a a (Loc.Mem 0) ha ha ha (lit< tt) true true false e e refl k false l tt g)
           (clear-frame (z e))
           (λ few. rename-held a a a (Loc.Mem 0) k l few (lit< tt) tt tt)
+          (leaf-undrawn a a a (Loc.Mem 0) true true false false l tt)
       go false e =
           works-safe []
           (λ σ τ _ g. weaken (λ w q. ⊎-elim (λ q. q) (λ c. subst (Kept (s .real)) c (kept-im a ha e)) (kept-new a q)) g)
           (λ σ r h n. (refl, inl refl))
           (λ few. none)
+          (λ i h d. d)
 
 -- ---- the record of realness after a register is set complex
 

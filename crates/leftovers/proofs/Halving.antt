@@ -22,8 +22,9 @@ use Rattle.lowering.specs.Lines.{halfLines, mindingHalfLines}
 use Rattle.lowering.specs.Complexifier as c
 use Rattle.lowering.specs.Complexifier.{State, copied}
 use Rattle.leftovers.specs.Kept.{Kept, kept-re, kept-im, kept-word, kept-next}
-use Rattle.leftovers.proofs.Rows.{Agree, all-in, given}
-use Rattle.leftovers.proofs.Names.{rename, good, lines-frame, leaf-agree, re-in, im-next, halves-apart, im-apart}
+use Rattle.player_machine.proofs.Agreeing.{Agree}
+use Rattle.leftovers.proofs.Rows.{all-in, check, given}
+use Rattle.leftovers.proofs.Names.{rename, good, lines-undrawn, lines-frame, leaf-agree, re-in, im-next, halves-apart, im-apart}
 use Rattle.leftovers.proofs.Held.{all-listed}
 use Rattle.leftovers.proofs.Names.{rename-held}
 use Rattle.leftovers.proofs.Stretch.{works-safe}
@@ -63,11 +64,12 @@ module _ (k : List ℕ) (B : List Work) (Z : ℕ → Type 0) (H : Type 0) (s : S
 
   half-by-keeps : (t : Bool) → (H → t ≡ false → isRealReg (s .real) a ≡ true → isRealReg (s .real) d ≡ true)
       → Keeps k B (λ r. r ≡ d) Z H s (c.halfBy t d a s)
-  unfolding c.halfBy c.mindingHalf halfLines mindingHalfLines good rename given all-in all-listed
+  unfolding c.halfBy c.mindingHalf halfLines mindingHalfLines good rename check given all-in all-listed
   half-by-keeps false c =
       works-safe (halfLines d a) (λ σ τ h g. half-agree (isRealReg (s .real) a) refl (c h refl) σ τ g)
       (lines-frame (λ r. r ≡ d) Z d a a (Loc.Mem 0) k (halfLines 0 1) tt (λ r h n. n))
       (λ few. rename-held d a a (Loc.Mem 0) k (halfLines 0 1) few (lit< tt) tt tt)
+      (λ i h. lines-undrawn d a a (Loc.Mem 0) (6 ∷ 7 ∷ []) (halfLines 0 1) i h tt tt)
   half-by-keeps true c = unary k B Z H s mindingHalfLines copied d a hd ha (tt, refl, tt) (tt, refl, tt)
 
   pub half-keeps : (m : Mode) → (H → isMinding m ≡ false → isRealReg (s .real) a ≡ true → isRealReg (s .real) d ≡ true)

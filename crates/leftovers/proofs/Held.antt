@@ -14,7 +14,8 @@ use Rattle.mir.proofs.Tables.{and-left, and-right}
 use Rattle.mir.proofs.Decoding.{none, and}
 use Rattle.mir.proofs.IfRead.{Saved, Stacked}
 use Rattle.records.proofs.Holding.{Holds, AllHold}
-use Rattle.leftovers.proofs.Rows.{T→true, has, all-in, ren}
+use Rattle.player_machine.proofs.Agreeing.{has}
+use Rattle.leftovers.proofs.Rows.{T→true, all-in, ren}
 
 abbrev pub All : (ℕ → Type 0) → List ℕ → Type 0
 All P [] = Unit {0}

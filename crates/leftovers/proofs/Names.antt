@@ -23,9 +23,10 @@ use Rattle.player_machine.specs.Machine.{Store, at, place, execs}
 use Rattle.lowering.specs.declared.realness.Realness.{Realness}
 use Rattle.lowering.specs.Realness.{isRealReg, isRealLoc, setReg}
 use Rattle.leftovers.specs.Kept.{Kept, kept-re, kept-im, kept-word, kept-next}
-use Rattle.leftovers.proofs.Rows.{Agree, weaken, has, all-in, check, known, given, ren, Named}
+use Rattle.player_machine.proofs.Agreeing.{Agree, weaken, has, or-cases}
+use Rattle.leftovers.proofs.Rows.{all-in, check, known, given, ren, Named, steps-agree, steps-keep, undrawn}
+use Rattle.marks.specs.Leads.{DrawnFirst}
 use Rattle.leftovers.proofs.Held.{All, registers, all-listed, Asks, held-lines}
-use Rattle.leftovers.proofs.Rows.{or-cases, steps-agree, steps-keep}
 
 -- the word that a name means: Temp, scratch and Ret mean themselves, a place's real word means p's, and its imaginary word p's
 unfoldable pub name : ℕ → ℕ → ℕ → Loc → ℕ → ℕ
@@ -134,6 +135,28 @@ apart d a b p r w h n e = go (span d) (⊎-elim (λ e. inl (e ∙ re-gen r (omeg
     go (temp g f) (inl e) = omega (arith, im-next d)
     go (temp g f) (inr e) = omega (arith, im-next d)
 
+-- ---- scratch
+
+abbrev pub Scratch : ℕ → Type 0
+Scratch i = (2 ≤ i) × (i ≤ 3)
+
+-- the names that lines may draw on without filling them before: halves and the place's words, of which none is scratch
+abbrev spoken : List ℕ
+spoken = 0 ∷ 1 ∷ 4 ∷ 5 ∷ 6 ∷ 7 ∷ 8 ∷ 9 ∷ 70 ∷ 71 ∷ []
+
+scratch-apart : (d a b : ℕ) (p : Loc) (i : ℕ) → Scratch i → All (λ n. name d a b p n ≢ i) spoken
+unfolding name
+scratch-apart d a b p i s =
+    omega (arith, s .0, s .1, im-next d, re-in d .1, re-in d .2, im-next a, re-in a .1, re-in a .2, im-next b, re-in b .1, re-in b .2)
+
+-- lines that pass the check from such names do not draw on scratch before they fill it
+pub lines-undrawn : (d a b : ℕ) (p : Loc) (st : List ℕ) (l : List Work) (i : ℕ) → Scratch i → T (all-in st spoken) → T (check st l)
+    → DrawnFirst i (rename d a b p l) → ⊥
+unfolding name rename
+lines-undrawn d a b p st l i s t c =
+    undrawn (name d a b p) (λ q. p) (name-real d a b p) (name-imaginary d a b p) i st l
+    (λ n h. pick-all (λ n. name d a b p n ≢ i) spoken n (scratch-apart d a b p i s) (in-all n st spoken t h)) c
+
 -- ---- the words that are kept, after a register's record has changed
 
 pub kept-up : {ρ : Realness} {w : ℕ} (d : ℕ) → Kept (setReg ρ d true) w → Kept ρ w
@@ -207,6 +230,22 @@ pub good-parts : (x y z g : Bool) (l : List Work) → T (good x y z g l)
     → T (check (start x y z) l) × T (g || has 5 (known (start x y z) l)) × T (all-in (given l) free) × T (all-listed l)
 unfolding good
 good-parts x y z g l h = four-tests (check (start x y z) l) (g || has 5 (known (start x y z) l)) (all-in (given l) free) (all-listed l) h
+
+start-spoken : (x y z : Bool) → T (all-in (start x y z) spoken)
+unfolding all-in
+start-spoken true true true = tt
+start-spoken true true false = tt
+start-spoken true false true = tt
+start-spoken true false false = tt
+start-spoken false true true = tt
+start-spoken false true false = tt
+start-spoken false false true = tt
+start-spoken false false false = tt
+
+pub leaf-undrawn : (d a b : ℕ) (p : Loc) (x y z g : Bool) (l : List Work) → T (good x y z g l) → (i : ℕ) → Scratch i
+    → DrawnFirst i (rename d a b p l) → ⊥
+leaf-undrawn d a b p x y z g l t i s =
+    lines-undrawn d a b p (start x y z) l i s (start-spoken x y z) (good-parts x y z g l t .0)
 
 module _ (ρ : Realness) (d a b : ℕ) (p : Loc) (hd : d < 32) (ha : a < 32) (hb : b < 32) (hp : index p < 256)
     (x y z : Bool) (ex : isRealReg ρ a ≡ x) (ey : isRealReg ρ b ≡ y) (ez : isRealLoc (ρ .places) p ≡ z) where

@@ -17,8 +17,9 @@ use Rattle.lowering.specs.Lines.{loadLines, saveLines}
 use Rattle.lowering.specs.Complexifier as c
 use Rattle.lowering.specs.Complexifier.{State, then, emit}
 use Rattle.leftovers.specs.Kept.{Kept, kept-re, kept-im, kept-word, kept-next}
-use Rattle.leftovers.proofs.Rows.{weaken, Named, all-in, given, check, known}
-use Rattle.leftovers.proofs.Names.{rename, good, name, lines-agree, lines-frame}
+use Rattle.player_machine.proofs.Agreeing.{weaken}
+use Rattle.leftovers.proofs.Rows.{Named, all-in, given, check, known}
+use Rattle.leftovers.proofs.Names.{rename, good, name, lines-agree, lines-undrawn, lines-frame}
 use Rattle.mir.proofs.IfRead.{Saved}
 use Rattle.leftovers.proofs.Held.{all-listed}
 use Rattle.leftovers.proofs.Names.{rename-held}
@@ -69,6 +70,7 @@ module _ (k : List ℕ) (B : List Work) (X Z : ℕ → Type 0) (H : Type 0) (a :
       (lines-agree ρ 31 a a p k (6 ∷ 7 ∷ []) l (kept-re a ha, (kept-im a ha e, tt)) tt g))
       (lines-frame X Z 31 a a p k l tt (λ r h n. omega arith))
       (λ few. rename-held 31 a a p k l few hp tt (sv, tt))
+      (λ i h. lines-undrawn 31 a a p (6 ∷ 7 ∷ []) l i h tt tt)
     where
       l : List Work
       l = Work.SaveComplex 6 7 (Loc.Stack 2) ∷ []

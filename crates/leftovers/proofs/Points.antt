@@ -25,9 +25,11 @@ use Rattle.lowering.specs.Rerun.{rerun, complexify}
 use Rattle.lowering.specs.Lower.{startState}
 use Rattle.leftovers.specs.Leftovers.{Sheet, upTo, point, realAt, IsDestination, Spares}
 use Rattle.leftovers.specs.Kept.{Kept}
-use Rattle.leftovers.proofs.Rows.{Agree}
+use Rattle.player_machine.proofs.Agreeing.{Agree}
 use Rattle.leftovers.proofs.Root.{Block}
 use Rattle.leftovers.proofs.Held.{held-append}
+use Rattle.leftovers.proofs.Names.{Scratch, re-in}
+use Rattle.marks.proofs.Quiet.{Quiet, quiet-append, quiet-works, quiet-label, quiet-branch, quiet-branch-if}
 use Rattle.leftovers.proofs.Instructions.{AllIn, all-in-split, HalfOk}
 use Rattle.leftovers.proofs.Branches.{Kind, works, label, branch, branchIf, kind, Kinds, kinds-drop, Sound, sound-drop, Same, alike, standsAt, spares-at}
 use Rattle.leftovers.proofs.Listing.{stays, grows, finds-block}
@@ -117,6 +119,21 @@ unfolding complexify then unlisted
 all-held k B m [] s κ few = each.none
 all-held k B m (i ∷ is) s κ few = held-append (one-held k B m s few (κ .0)) (all-held k B m is (rerun m i s .after) (κ .1) few)
 
+-- they set no mark of scratch
+one-quiet : (k : List ℕ) (B : List Work) (m : Mode) (s : State) (j : ℕ) → Scratch j → {i : Instruction} → Kind k B m s i
+    → Quiet B j (rerun m i s .records)
+unfolding rerun c.directed
+one-quiet k B m s j h (works z t) = t .quiet j h
+one-quiet k B m s j h (label l) = quiet-label B j l
+one-quiet k B m s j h (branch l x) = quiet-branch B j l
+one-quiet k B m s j h (branchIf r l e v x) = quiet-branch-if B j (re r) l e (omega (arith, h .0, h .1, re-in r .1, re-in r .2))
+
+all-quiet : (k : List ℕ) (B : List Work) (m : Mode) (is : List Instruction) (s : State) → Kinds k B m is s → (j : ℕ) → Scratch j
+    → Quiet B j (complexify m is s .records)
+unfolding complexify then unlisted
+all-quiet k B m [] s κ j h = quiet-works B j [] (λ d. d)
+all-quiet k B m (i ∷ is) s κ j h = quiet-append (one-quiet k B m s j h (κ .0)) (all-quiet k B m is (rerun m i s .after) (κ .1) j h)
+
 module _ (s : Sheet) (v : AllIn (length (whole s .after .consts)) (s .instructions)) where
   m : Mode
   m = s .mode
@@ -141,6 +158,10 @@ module _ (s : Sheet) (v : AllIn (length (whole s .after .consts)) (s .instructio
   unfolding k B
   all-kinds =
       kinds (whole s .after .consts) (block (whole s .records)) (s .mode) (s .instructions) (startState (s .places) (s .constants)) v fine (le-refl _)
+
+  pub whole-quiet : (j : ℕ) → Scratch j → Quiet (block (whole s .records)) j (whole s .records)
+  whole-quiet j h =
+      all-quiet (whole s .after .consts) (block (whole s .records)) (s .mode) (s .instructions) (startState (s .places) (s .constants)) all-kinds j h
 
   -- what is left at point i
   left : ℕ → Out

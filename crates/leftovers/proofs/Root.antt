@@ -24,8 +24,11 @@ use Rattle.lowering.specs.Complexifier as c
 use Rattle.lowering.specs.Complexifier.{State, then, unlisted, emit, byOne, byTwo}
 use Rattle.lowering.specs.Rerun.{compareZero}
 use Rattle.leftovers.specs.Kept.{Kept, kept-re, kept-im}
-use Rattle.leftovers.proofs.Rows.{Agree, weaken, Named, all-in, given, check, known, has}
-use Rattle.leftovers.proofs.Names.{rename, name, free, kept-new, lines-agree, lines-keep}
+use Rattle.player_machine.proofs.Agreeing.{Agree, weaken, has}
+use Rattle.leftovers.proofs.Rows.{Named, all-in, given, check, known}
+use Rattle.leftovers.proofs.Names.{Scratch, rename, name, free, kept-new, lines-agree, lines-undrawn, lines-keep}
+use Rattle.marks.specs.Leads.{DrawnFirst}
+use Rattle.marks.proofs.Quiet.{quiet-append, quiet-works, quiet-call, quiet-label, quiet-branch}
 use Rattle.mir.proofs.Decoding.{none, and}
 use Rattle.records.proofs.Holding.{AllHold}
 use Rattle.lowering.specs.Complexifier.{INFINITY, EXP_MASK_FINITE, FLOOR_FINITE}
@@ -43,19 +46,22 @@ use Rattle.leftovers.proofs.Clearing.{ensure-keeps, compare-keeps, comp
 pub record Block (k : List ℕ) (B : List Work) : Type 0 where
   pub agree : (ρ : Realness) {σ τ : Store} → isRealReg ρ 31 ≡ false → Agree (Kept ρ) σ τ
       → Agree (Kept (setReg ρ 30 false)) (execs k B σ) (execs k B τ)
+  pub undrawn : (i : ℕ) → Scratch i → DrawnFirst i B → ⊥
   pub keep : (σ : Store) (r w : ℕ) → r < 30 → (w ≡ re r) ⊎ (w ≡ im r) → at (execs k B σ) w ≡ at σ w
 
 -- both kinds of block are fine, and with whatever constants
 module _ (k : List ℕ) (t : List Work) where
   pub block-fine : T (check (0 ∷ 1 ∷ []) t) → T (has 65 (known (0 ∷ 1 ∷ []) t)) → T (all-in (given t) free)
       → rename 30 31 31 (Loc.Stack 2) t ≡ t → Block k t
-  unfolding name Named re im
+  unfolding name Named all-in re im
   block-fine c h f e =
       record {
         agree =
             λ ρ {σ} {τ} x g. subst (λ (l : List Work). Agree (Kept (setReg ρ 30 false)) (execs k l σ) (execs k l τ)) e
             (weaken (λ w q. ⊎-elim (λ q. inl q) (λ e. inr (65, h, e)) (kept-new 30 q))
             (lines-agree ρ 30 31 31 (Loc.Stack 2) k (0 ∷ 1 ∷ []) t (kept-re 31 (lit< tt), (kept-im 31 (lit< tt) x, tt)) c g));
+        undrawn =
+            λ i s. subst (λ (l : List Work). DrawnFirst i l → ⊥) e (lines-undrawn 30 31 31 (Loc.Stack 2) (0 ∷ 1 ∷ []) t i s tt c);
         keep =
             λ σ r w h q. subst (λ (l : List Work). at (execs k l σ) w ≡ at σ w) e
             (lines-keep 30 31 31 (Loc.Stack 2) k t σ r w f h (omega arith) q);
@@ -92,6 +98,7 @@ call-keeps k B X Z H s b e = record {
   agree = λ _ g. b .agree (s .real) e g;
   frame = λ σ r h n. (b .keep σ r (re r) h (inl refl), inl (b .keep σ r (im r) h (inr refl)));
   held = λ few. and tt none;
+  quiet = λ i h. quiet-call B i 1 (b .undrawn i h);
 }
 
 seek-play : (k : List ℕ) (b : List Work) (l : ℕ) (as' : List Work) (rest : List Record) (σ : Store)
@@ -135,8 +142,9 @@ module _ (k : List ℕ) (B : List Work) (t : List Work) where
       )
 
 around-keeps : (k : List ℕ) (B : List Work) (X Z : ℕ → Type 0) (H : Type 0) (t : List Work) (ρ : Realness)
-    → (length k ≤ 65536 → AllHold (length k) (map Record.Work t)) → Safe k B X Z H ρ (aroundBlock t) ρ
-around-keeps k B X Z H t ρ hd = record {
+    → (length k ≤ 65536 → AllHold (length k) (map Record.Work t)) → ((i : ℕ) → Scratch i → DrawnFirst i t → ⊥)
+    → Safe k B X Z H ρ (aroundBlock t) ρ
+around-keeps k B X Z H t ρ hd un = record {
   F = λ σ. σ;
   n = 2;
   plays = over-play k B t;
@@ -144,17 +152,20 @@ around-keeps k B X Z H t ρ hd = record {
   agree = λ _ g. g;
   frame = λ σ r h n. (refl, inl refl);
   held = λ few. and tt (and tt (held-append (hd few) (and tt (and tt none))));
+  quiet =
+      λ i h. quiet-append (quiet-append (quiet-branch B i 2) (quiet-label B i 1))
+      (quiet-append (quiet-works B i t (un i h)) (quiet-append (quiet-branch B i 0) (quiet-label B i 2)));
 }
 
 pub unlisted-keeps : (k : List ℕ) (B : List Work) (X Z : ℕ → Type 0) (H : Type 0) (s : State) → Keeps k B X Z H s (unlisted s)
 unfolding unlisted execs
-unlisted-keeps k B X Z H s = works-safe [] (λ σ τ _ g. g) (λ σ r h n. (refl, inl refl)) (λ few. none)
+unlisted-keeps k B X Z H s = works-safe [] (λ σ τ _ g. g) (λ σ r h n. (refl, inl refl)) (λ few. none) (λ i h d. d)
 
 define-keeps : (k : List ℕ) (B : List Work) (X Z : ℕ → Type 0) (H : Type 0) (x m : Bool) (s : State)
     → length (c.defineRoot x m s .after .consts) ≤ length k → Keeps k B X Z H s (c.defineRoot x m s)
 unfolding c.defineRoot unlisted
 define-keeps k B X Z H true m s hk = unlisted-keeps k B X Z H s
-define-keeps k B X Z H false m s hk = around-keeps k B X Z H (c.blockOf m (s .consts)) (s .real) (block-held k m (s .consts) hk)
+define-keeps k B X Z H false m s hk = around-keeps k B X Z H (c.blockOf m (s .consts)) (s .real) (block-held k m (s .consts) hk) (root-block-fine k m (s .consts) .undrawn)
 
 -- what writes only to Temp or Ret frames every destination
 pub frame-any : {k : List ℕ} {B : List Work} {Z : ℕ → Type 0} {H : Type 0} {ρ ρ' : Realness} {rs : List Record} (X : ℕ → Type 0) (e : ℕ)

@@ -1,64 +1,24 @@
 -- What two stores agree on after a row of working records, by one computed check over names of words.
 use mathlib.Core.Path.{_≡_, refl, sym, ap, _∙_}
-use mathlib.Core.Bool.{Bool, true, false, cond, _&&_, _||_, true≢false}
+use mathlib.Core.Bool.{Bool, true, false, cond, _&&_, true≢false}
 use mathlib.Core.Logic.{_≢_, _⊎_, ⊎-elim, inl, inr}
 use mathlib.Core.List.{List, [], _∷_, _++_, map}
-use Prim.Native.Nat.{ℕ, suc, _<_}
+use Prim.Native.Nat.{ℕ, zero, suc}
 use native.Mathlib.Omega.{arith}
-use native.Mathlib.Decide.{ℕ-discrete, decLt}
-use lib.ListN.{length, set, length-set, List·getD-eq-default}
-use lib.Seq.{getD-set-same, getD-set-other}
 use lib.Dec.{T, eqb, eqb→eq, eqb-refl}
 use Rattle.mir.specs.declared.records.Loc.{Loc}
 use Rattle.mir.specs.declared.records.Work.{Work}
 use Rattle.mir.proofs.Tables.{and-left, and-right}
-use Rattle.player_machine.specs.Machine.{Store, at, place, Write, _≔_, writes, put, exec, execs}
+use Rattle.player_machine.specs.Machine.{Store, at, place, writes, exec, execs}
 use Rattle.player_machine.specs.Draws.{isXor, draws, fills, target, AgreeAt, done, same, Off, clear, other}
 use Rattle.player_machine.proofs.Drawing.{depends, written, stays}
+use Rattle.player_machine.proofs.Agreeing.{Agree, weaken, has, or-cases, or-l, or-r, put-agree}
+use Rattle.marks.specs.Marks.{among}
+use Rattle.marks.specs.Leads.{DrawnFirst}
+use Rattle.marks.proofs.Stores.{among-has}
+use Rattle.marks.proofs.Leading.{clash}
 
--- two stores of one length agree on a set of words
-pub record Agree (C : ℕ → Type 0) (σ τ : Store) : Type 0 where
-  pub len : length σ ≡ length τ
-  pub on : (w : ℕ) → C w → at σ w ≡ at τ w
-
--- ---- one store to a word
-
-pub set-both : (σ τ : Store) (i v : ℕ) → length σ ≡ length τ → at (set σ i v) i ≡ at (set τ i v) i
-set-both σ τ i v e = go (decLt i (length σ))
-  where
-    go : Dec (i < length σ) → at (set σ i v) i ≡ at (set τ i v) i
-    go (yes h) =
-        let h' : i < length τ = omega arith in
-        getD-set-same σ i v 0 h ∙ sym (getD-set-same τ i v 0 h')
-    go (no h) =
-        List·getD-eq-default (set σ i v) 0 {n = i} (omega (arith, length-set σ i v))
-        ∙ sym (List·getD-eq-default (set τ i v) 0 {n = i} (omega (arith, length-set τ i v)))
-
-pub set-agree : {C : ℕ → Type 0} {σ τ : Store} (i v : ℕ) → Agree C σ τ → Agree (λ w. C w ⊎ (w ≡ i)) (set σ i v) (set τ i v)
-set-agree {C} {σ} {τ} i v g = record { len = simp length-set (g .len); on = λ w c. go w c (ℕ-discrete w i) }
-  where
-    go : (w : ℕ) → C w ⊎ (w ≡ i) → Dec (w ≡ i) → at (set σ i v) w ≡ at (set τ i v) w
-    go w c (yes e) = rw e (set-both σ τ i v (g .len))
-    go w (inl c) (no n) = rw (getD-set-other σ i w v 0 n, getD-set-other τ i w v 0 n) (g .on w c)
-    go w (inr e) (no n) = absurd (n e)
-
-pub weaken : {C D : ℕ → Type 0} {σ τ : Store} → ((w : ℕ) → D w → C w) → Agree C σ τ → Agree D σ τ
-weaken f g = record { len = g .len; on = λ w d. g .on w (f w d) }
-
-abbrev pub has : ℕ → List ℕ → Bool
-has n [] = false
-has n (x ∷ xs) = eqb n x || has n xs
-
-pub or-cases : (a b : Bool) → T (a || b) → T a ⊎ T b
-or-cases true b h = inl tt
-or-cases false b h = inr h
-
-pub or-l : (a b : Bool) → T a → T (a || b)
-or-l true b h = tt
-
-pub or-r : (a b : Bool) → T b → T (a || b)
-or-r true b h = tt
-or-r false b h = h
+-- ---- names in a list
 
 pub has-split : (n : ℕ) (xs ys : List ℕ) → T (has n (xs ++ ys)) → T (has n xs) ⊎ T (has n ys)
 has-split n [] ys h = inr h
@@ -75,16 +35,6 @@ has-map f n (x ∷ xs) h =
     ⊎-elim (λ e. or-l (eqb (f n) (f x)) (has (f n) (map f xs)) (eq→eqb (ap f (eqb→eq n x e))))
     (λ t. or-r (eqb (f n) (f x)) (has (f n) (map f xs)) (has-map f n xs t))
     (or-cases (eqb n x) (has n xs) h)
-
-pub put-agree : {C : ℕ → Type 0} {σ τ : Store} (ws : List Write) → Agree C σ τ
-    → Agree (λ w. C w ⊎ T (has w (map target ws))) (put ws σ) (put ws τ)
-unfolding put
-put-agree [] g = weaken (λ w. elim [ inl c ↦ c | inr e ↦ absurd e ]) g
-put-agree {C} (i ≔ v ∷ ws) g = weaken (λ w. regroup w) (put-agree ws (set-agree i v g))
-  where
-    regroup : (w : ℕ) → C w ⊎ T (eqb w i || has w (map target ws)) → (C w ⊎ (w ≡ i)) ⊎ T (has w (map target ws))
-    regroup w (inl c) = inl (inl c)
-    regroup w (inr h) = ⊎-elim (λ e. inl (inr (eqb→eq w i e))) (λ t. inr t) (or-cases (eqb w i) (has w (map target ws)) h)
 
 -- ---- the check at names of words: a name is an index in the store, and a renaming says which word it means
 
@@ -130,6 +80,27 @@ has-left n (x ∷ xs) ys h =
 pub has-right : (n : ℕ) (xs ys : List ℕ) → T (has n ys) → T (has n (xs ++ ys))
 has-right n [] ys h = h
 has-right n (x ∷ xs) ys h = or-r (eqb n x) (has n (xs ++ ys)) (has-right n xs ys h)
+
+-- ---- two stores that differ at one word
+
+one : ℕ → Store
+one zero = 1 ∷ []
+one (suc i) = 0 ∷ one i
+
+one-at : (i : ℕ) → at (one i) i ≡ 1
+unfolding one
+one-at zero = refl
+one-at (suc i) = one-at i
+
+one-off : (i j : ℕ) → j ≢ i → at (one i) j ≡ 0
+unfolding one
+one-off zero zero n = absurd (n refl)
+one-off zero (suc j) n = refl
+one-off (suc i) zero n = refl
+one-off (suc i) (suc j) n = one-off i j (λ e. n (ap suc e))
+
+agree-here : {σ τ : Store} (is : List ℕ) (i : ℕ) → AgreeAt σ τ is → T (among is i) → at σ i ≡ at τ i
+agree-here (j ∷ js) i (same e h) t = ⊎-elim (λ q. rw (eqb→eq i j q) e) (λ t. agree-here js i h t) (or-cases (eqb i j) (among js i) t)
 
 -- where f means the words of a place by those of the place that g means
 module _ (f : ℕ → ℕ) (g : Loc → Loc) (real : (q : Loc) → f (place q) ≡ place (g q)) (imaginary : (q : Loc) → f (suc (place q)) ≡ suc (place (g q)))
@@ -221,3 +192,23 @@ module _ (f : ℕ → ℕ) (g : Loc → Loc) (real : (q : Loc) → f (place q) �
     steps-keep k σ w (a ∷ l) h =
         steps-keep k (exec k (ren f g a) σ) w l (λ n m. h n (has-right n (fills a) (given l) m))
         ∙ step-keeps k σ w a (λ n m. h n (has-left n (fills a) (given l) m))
+
+    -- a word that no known name means is not drawn on before a line fills it
+    drawn-name : (i : ℕ) (cl : List ℕ) (a : Work) → ((n : ℕ) → T (has n cl) → f n ≢ i) → T (all-in (draws a) cl)
+        → T (among (draws (ren f g a)) i) → ⊥
+    drawn-name i cl a out t d =
+        let h = draws-ren {σ = []} {τ = one i} a (agree-at (draws a) cl (λ n c. sym (one-off i (f n) (out n c))) t) in
+        let z : _≡_ {A = ℕ} 0 1 = agree-here (draws (ren f g a)) i h d ∙ one-at i in
+        absurd (omega (arith, z))
+
+    filled-name : (i n : ℕ) (a : Work) → T (has n (fills a)) → f n ≡ i → T (among (fills (ren f g a)) i)
+    filled-name i n a x e = rw (among-has (fills (ren f g a)) i, fills-ren a, ← e) (has-map f n (fills a) x)
+
+    pub undrawn : (i : ℕ) (cl : List ℕ) (l : List Work) → ((n : ℕ) → T (has n cl) → f n ≢ i) → T (check cl l)
+        → DrawnFirst i (map (ren f g) l) → ⊥
+    unfolding check
+    undrawn i cl (a ∷ l) out c (inl d) = drawn-name i cl a out (and-left (all-in (draws a) cl) (check (fills a ++ cl) l) c) d
+    undrawn i cl (a ∷ l) out c (inr p) =
+        undrawn i (fills a ++ cl) l
+        (λ n h. ⊎-elim (λ x e. clash (among (fills (ren f g a)) i) (filled-name i n a x e) (p .0)) (λ x. out n x) (has-split n (fills a) cl h))
+        (and-right (all-in (draws a) cl) (check (fills a ++ cl) l) c) (p .1)

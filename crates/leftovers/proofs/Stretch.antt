@@ -17,12 +17,14 @@ use Rattle.player_machine.specs.Machine.{Store, exec, execs, End, ticks, going,
 use Rattle.lowering.specs.declared.realness.Realness.{Realness}
 use Rattle.lowering.specs.Realness.{isRealReg, isRealLoc, setReg}
 use Rattle.leftovers.specs.Kept.{Kept}
-use Rattle.leftovers.proofs.Rows.{Agree}
+use Rattle.player_machine.proofs.Agreeing.{Agree}
 use Rattle.leftovers.proofs.Held.{Asks, held-append}
-use Rattle.leftovers.proofs.Names.{Frame, rename, good, good-parts, leaf-agree, lines-frame, rename-held}
+use Rattle.leftovers.proofs.Names.{Frame, Scratch, rename, good, good-parts, leaf-agree, leaf-undrawn, lines-frame, rename-held}
+use Rattle.marks.specs.Leads.{DrawnFirst}
+use Rattle.marks.proofs.Quiet.{Quiet, quiet-append, quiet-works}
 
 -- The records rs, played where the realness is ρ, do F to the store and count n, whatever follows; after them the realness is ρ'.
--- The frame holds in any case, the agreement under H (about Half). A listing can hold the records.
+-- The frame holds in any case, the agreement under H (about Half). A listing can hold the records, and they set no mark of scratch.
 pub record Safe (k : List ℕ) (b : List Work) (X Z : ℕ → Type 0) (H : Type 0) (ρ : Realness) (rs : List Record) (ρ' : Realness) : Type 0 where
   pub F : Store → Store
   pub n : ℕ
@@ -31,6 +33,7 @@ pub record Safe (k : List ℕ) (b : List Work) (X Z : ℕ → Type 0) (H : Type 
   pub agree : {σ τ : Store} → H → Agree (Kept ρ) σ τ → Agree (Kept ρ') (F σ) (F τ)
   pub frame : (σ : Store) → Frame X Z σ (F σ)
   pub held : length k ≤ 65536 → AllHold (length k) rs
+  pub quiet : (i : ℕ) → Scratch i → Quiet b i rs
 
 pub ticks-ticks : (m n : ℕ) (e : End) → ticks m (ticks n e) ≡ ticks (m + n) e
 unfolding ticks
@@ -61,6 +64,7 @@ join {k} {b} {rs} {rs'} s t =
       agree = λ h g. t .agree h (s .agree h g);
       frame = λ σ r h x. both-spare (s .frame σ r h x) (t .frame (s .F σ) r h x);
       held = λ few. held-append (s .held few) (t .held few);
+      quiet = λ i h. quiet-append (s .quiet i h) (t .quiet i h);
     }
 
 -- more may be changed and cleared, under what asks more
@@ -76,6 +80,7 @@ loosen f g s = record {
   frame =
       λ σ r h n. let p = s .frame σ r h (g r h n .0) in (p .0, ⊎-map (λ e. e) (λ z. (g r h n .1 (z .0), z .1)) (p .1));
   held = s .held;
+  quiet = s .quiet;
 }
 
 -- ---- working records in a row
@@ -98,8 +103,9 @@ works-reach k b (a ∷ l) j rest σ = rw suc-add (works-reach k b l j rest (exec
 -- those that keep the agreement and the frame
 pub works-safe : {k : List ℕ} {b : List Work} {X Z : ℕ → Type 0} {H : Type 0} {ρ ρ' : Realness} (l : List Work)
     → ((σ τ : Store) → H → Agree (Kept ρ) σ τ → Agree (Kept ρ') (execs k l σ) (execs k l τ)) → ((σ : Store) → Frame X Z σ (execs k l σ))
-    → (length k ≤ 65536 → AllHold (length k) (map Record.Work l)) → Safe k b X Z H ρ (map Record.Work l) ρ'
-works-safe {k} {b} l ag fr hd = record {
+    → (length k ≤ 65536 → AllHold (length k) (map Record.Work l)) → ((i : ℕ) → Scratch i → DrawnFirst i l → ⊥)
+    → Safe k b X Z H ρ (map Record.Work l) ρ'
+works-safe {k} {b} l ag fr hd un = record {
   F = execs k l;
   n = length l;
   plays = works-play k b l;
@@ -107,6 +113,7 @@ works-safe {k} {b} l ag fr hd = record {
   agree = λ {σ} {τ} h g. ag σ τ h g;
   frame = fr;
   held = hd;
+  quiet = λ i h. quiet-works b i l (un i h);
 }
 
 -- the lines of a method, checked at registers 0, 1 and 2
@@ -121,7 +128,8 @@ module _ (k : List ℕ) (B : List Work) (Z : ℕ → Type 0) (H : Type 0) (ρ : 
       (works-safe (rename d a b p l)
       (λ σ τ _ h. leaf-agree ρ d a b p hd ha hb hp x y z ex ey ez k g l t h)
       (lines-frame (λ r. r ≡ d) Z d a b p k l (s .2) (λ r h n. n))
-      (λ few. rename-held d a b p k l few hp (s .3) q))
+      (λ few. rename-held d a b p k l few hp (s .3) q)
+      (leaf-undrawn d a b p x y z g l t))
 
 -- without a place
 module _ (k : List ℕ) (B : List Work) (Z : ℕ → Type 0) (H : Type 0) (ρ : Realness)

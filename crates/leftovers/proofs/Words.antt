@@ -15,7 +15,7 @@ use Rattle.lowering.specs.declared.realness.Realness.{Realness}
 use Rattle.lowering.specs.Realness.{isRealReg, isRealLoc, fresh}
 use Rattle.leftovers.specs.Leftovers.{Leftover, scratch0, scratch1, half, word, Alike}
 use Rattle.leftovers.specs.Kept.{Parted, Kept, kept-re, kept-im, kept-word, kept-next}
-use Rattle.leftovers.proofs.Rows.{Agree}
+use Rattle.player_machine.proofs.Agreeing.{Agree}
 use Rattle.leftovers.proofs.Names.{re-gen, im-next, re-in, halves-apart, im-apart}
 
 -- ---- none is both

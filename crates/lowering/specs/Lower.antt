@@ -3,12 +3,13 @@
 use Prim.Native.Nat.{ℕ, suc, _+_}
 use mathlib.Core.Bool.{Bool, true, false, not, cond, _&&_}
 use mathlib.Core.List.{List, [], _∷_, _++_}
-use lib.ListN.{length, drop}
+use lib.ListN.{length, take, drop}
 use lib.Dec.{ltb, eqb}
 use Rattle.mir.specs.declared.ops.UniOp.{UniOp}
 use Rattle.mir.specs.declared.ops.BinOp.{BinOp}
 use Rattle.mir.specs.declared.ops.ArithOp.{ArithOp}
 use Rattle.mir.specs.declared.records.Instruction.{Instruction}
+use Rattle.mir.specs.declared.records.Record.{Record}
 use Rattle.mir.specs.Operation.{uniNumber, binNumber}
 use Rattle.mir.specs.Takes.{oneOf}
 use Rattle.mir.specs.Register.{Ret, Temp}
@@ -20,7 +21,7 @@ use Rattle.sheet.specs.Instruction.{instructions}
 use Rattle.lowering.specs.declared.realness.Realness.{Realness}
 use Rattle.lowering.specs.Realness.{isRealReg, isRealLoc, fresh}
 use Rattle.lowering.specs.Complexifier.{State}
-use Rattle.lowering.specs.Rerun.{rerun}
+use Rattle.lowering.specs.Rerun.{rerun, complexify}
 use Rattle.lowering.specs.Labels.{role, Standing, noneStanding, misplaced, unequal, passed}
 
 -- 6, "barred operand: where the Rust asserts": "in stable mode, Divide by a complex register with either operand Ret or Temp"
@@ -118,3 +119,10 @@ lowerSheet sheet room =
     let rest = drop (s .start) sheet in
     let d = instructions (s .count) rest in
     lowerFrom (s .mode) room (d .items) (d .fault) rest noneStanding 0 [] (startState (s .places) (constantsOf sheet (s .count)))
+
+-- the records that a sheet's first n instructions list
+unfoldable pub listed : List ℕ → ℕ → List Record
+listed sheet n =
+    let s = setup sheet in
+    let d = instructions (s .count) (drop (s .start) sheet) in
+    complexify (s .mode) (take n (d .items)) (startState (s .places) (constantsOf sheet (s .count))) .records

@@ -19,7 +19,8 @@ use Rattle.mir.proofs.Tables.{and-left, and-right}
 use Rattle.player_machine.specs.Machine.{Store, at, place, execs}
 use Rattle.lowering.specs.declared.realness.Realness.{Realness}
 use Rattle.lowering.specs.Realness.{isRealReg, isRealLoc, setReg}
-use Rattle.leftovers.proofs.Rows.{has, all-in, given, steps-keep}
+use Rattle.player_machine.proofs.Agreeing.{has}
+use Rattle.leftovers.proofs.Rows.{all-in, given, steps-keep}
 use Rattle.leftovers.proofs.Held.{All}
 use Rattle.leftovers.proofs.Names.{name, name-real, name-imaginary, rename, re-in, im-next, im-apart, halves-apart, pick-all, in-all}
 use Rattle.meaning.specs.Value.{Value, R, C}

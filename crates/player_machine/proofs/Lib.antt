@@ -1,6 +1,7 @@
 pub mod Seeking
 pub mod Bound
 pub mod Drawing
+pub mod Agreeing
 pub mod Refusing
 pub mod Keeping
 pub mod Stepping

@@ -44,7 +44,7 @@ digits (suc k) (suc d) n h =
     let i = digits k d (n / 10) (omega arith) in
     either (ltb n 10) _ _ (suc (suc k)) (omega arith) (simp length-append (omega arith))
 
-register-short : (r : ℕ) → length (register r) ≤ 21
+pub register-short : (r : ℕ) → length (register r) ≤ 21
 unfolding ascii register
 register-short r =
     let i = number-short r in

@@ -1,15 +1,18 @@
 -- The parts of a case, from what the functions that make them give. Assumes nothing.
 use Prim.Native.Nat.{ℕ, _+_, _*_, _-_, _≤_}
 use mathlib.Core.Bool.{Bool, not}
-use mathlib.Core.List.{List}
+use mathlib.Core.List.{List, _++_, map}
 use mathlib.Core.Path.{_≡_, ap, _∙_}
 use native.Mathlib.Omega.{arith}
 use borrow.Author.Tests.{eq-eqb}
-use lib.ListN.{take, drop, replicate}
+use lib.ListN.{length, take, drop, replicate, length-map}
 use lib.Dec.{eqb}
+use Rattle.mir.specs.Encode.{flagByte}
+use Rattle.lowering.proofs.RecordStored.{both-stored}
 use Rattle.complexify.specs.declared.entry.LowerAnswer.{LowerAnswer}
 use Rattle.complexify.specs.Entry as Entry
 use Rattle.words.specs.Bytes.{wordsOf, stored}
+use Rattle.words.proofs.Stored.{stored-fits}
 use Rattle.replay.specs.Numbers.{u32At}
 use Rattle.replay.proofs.Parts.{take-replicate}
 use Rattle.sheet_replay.specs.Case.{Lent, lentBytes, lentWords, room, tableLength, written, count, listingAt, constantsAt, end, sheet, answered, listingAfter, constantsAfter, numbersAgree, listingExpected, constantsExpected, expected, differs}
@@ -47,6 +50,16 @@ module _ (s : List ℕ) (a : LowerAnswer) where
         hc,
       )
 
+-- the marks as bytes
+pub marks-made : (f d : List Bool) {x y : List ℕ} → length f ≡ 66 → length d ≡ 66 → x ≡ stored (replicate 132 0) 0 (map flagByte f)
+    → y ≡ stored x 66 (map flagByte d) → y ≡ map flagByte f ++ map flagByte d
+marks-made f d hf hd e g =
+    let n = length-map f flagByte in
+    let m = length-map d flagByte in
+    g
+    ∙ both-stored (replicate 132 0) (map flagByte f) (map flagByte d) 66 (n ∙ hf) (omega (arith, m, hd))
+    (e ∙ stored-fits (replicate 132 0) 0 (map flagByte f) (omega (arith, n, hf)))
+
 -- what is made of lent slices is what is expected
 module _ (s : List ℕ) {at row : ℕ} {l c : List ℕ} (ha : at ≡ listingAt s) (hr : row ≡ constantsAt s) (p : Lent s l c) where
   pub bytes-made : {t : List ℕ} → t ≡ stored l 0 (take (row - at) (drop at s)) → t ≡ listingExpected s
@@ -63,17 +76,17 @@ module _ (s : List ℕ) {at row : ℕ} {l c : List ℕ} (ha : at ≡ listingAt s
 -- what lowering gave is the case's answer, and its verdict the case's
 module _ (s : List ℕ) {at : ℕ} {l₀ c₀ : List ℕ} (ha : at ≡ listingAt s) (p : Lent s l₀ c₀) where
   of-case : {A : Type 0} (f : List ℕ → List ℕ → List ℕ → A)
-      → f (take (at - 124) (drop 124 s)) l₀ c₀ ≡ f (sheet s) (lentBytes (room s)) (lentWords (tableLength s))
+      → f (take (at - 256) (drop 256 s)) l₀ c₀ ≡ f (sheet s) (lentBytes (room s)) (lentWords (tableLength s))
   unfolding sheet
   of-case f =
-      let e : at - 124 ≡ u32At s 0 = omega arith in
-      ap (λ (n : ℕ). f (take n (drop 124 s)) l₀ c₀) e
+      let e : at - 256 ≡ u32At s 0 = omega arith in
+      ap (λ (n : ℕ). f (take n (drop 256 s)) l₀ c₀) e
       ∙ (ap (λ (l : List ℕ). f (sheet s) l c₀) (p .bytes) ∙ ap (f (sheet s) (lentBytes (room s))) (p .words))
 
   pub judged : {a : LowerAnswer} {l c : List ℕ} {g : Bool}
-      → a ≡ Entry.answer (take (at - 124) (drop 124 s)) l₀ c₀
-      → l ≡ Entry.listingAfter (take (at - 124) (drop 124 s)) l₀ c₀
-      → c ≡ Entry.constantsAfter (take (at - 124) (drop 124 s)) l₀ c₀
+      → a ≡ Entry.answer (take (at - 256) (drop 256 s)) l₀ c₀
+      → l ≡ Entry.listingAfter (take (at - 256) (drop 256 s)) l₀ c₀
+      → c ≡ Entry.constantsAfter (take (at - 256) (drop 256 s)) l₀ c₀
       → g ≡ expected s a l c
       → (a .number ≡ answered s .number) × (not g ≡ differs s)
   unfolding answered listingAfter constantsAfter differs

@@ -2,10 +2,11 @@
 -- little-endian. Assumes nothing.
 use Prim.Native.Nat.{ℕ, _+_, _*_}
 use mathlib.Core.Bool.{Bool, not, _&&_}
-use mathlib.Core.List.{List}
+use mathlib.Core.List.{List, _++_, map}
 use mathlib.Core.Path.{_≡_}
 use lib.ListN.{take, drop, replicate}
 use lib.Dec.{eqb}
+use Rattle.mir.specs.Encode.{flagByte}
 use Rattle.lowering.specs.declared.realness.Realness.{Realness}
 use Rattle.lowering.specs.RecordBytes.{recordBytes}
 use Rattle.complexify.specs.declared.entry.LowerAnswer.{LowerAnswer}
@@ -35,7 +36,7 @@ count s = u32At s 24
 
 -- where the listing's bytes and the constants begin, and where the case ends
 abbrev pub listingAt : List ℕ → ℕ
-listingAt s = 124 + sheetLength s
+listingAt s = 256 + sheetLength s
 
 abbrev pub constantsAt : List ℕ → ℕ
 constantsAt s = listingAt s + written s
@@ -45,10 +46,10 @@ end s = constantsAt s + 8 * count s
 
 -- the bytes begin with no whole case that ends at a position; a case lends at most 65,537 bytes and 257 words
 abbrev pub cut : ℕ → List ℕ → Bool
-cut = cutAt 124 65537 257
+cut = cutAt 256 65537 257
 
 abbrev pub WholeSheet : List ℕ → Type 0
-WholeSheet s = WholeAt 124 65537 257 (end s) s
+WholeSheet s = WholeAt 256 65537 257 (end s) s
 
 -- every byte of a slice that is lent to be written, and every word: n of them
 unfoldable pub lentBytes : ℕ → List ℕ
@@ -63,7 +64,7 @@ pub record Lent (s listing constants : List ℕ) : Type 0 where
   pub words : constants ≡ lentWords (tableLength s)
 
 unfoldable pub sheet : List ℕ → List ℕ
-sheet s = take (sheetLength s) (drop 124 s)
+sheet s = take (sheetLength s) (drop 256 s)
 
 -- what lowering answers, and both slices after it
 unfoldable pub answered : List ℕ → LowerAnswer
@@ -84,6 +85,10 @@ numbersAgree s a =
 unfoldable pub realAgrees : List ℕ → Realness → Bool
 realAgrees s ρ = same (recordBytes ρ) (take 96 (drop 28 s))
 
+-- whether the marks are, a byte each: 66 of registers that are filled, and 66 of those drawn on before
+unfoldable pub marksAgree : List ℕ → LowerAnswer → Bool
+marksAgree s a = same (map flagByte (a .filled) ++ map flagByte (a .drawn)) (take 132 (drop 124 s))
+
 -- the slices that are expected: what was to be written, and past it what was lent
 unfoldable pub listingExpected : List ℕ → List ℕ
 listingExpected s = stored (lentBytes (room s)) 0 (take (written s) (drop (listingAt s) s))
@@ -93,7 +98,8 @@ constantsExpected s = stored (lentWords (tableLength s)) 0 (wordsOf (take (8 * c
 
 unfoldable pub expected : List ℕ → LowerAnswer → List ℕ → List ℕ → Bool
 expected s a listing constants =
-    numbersAgree s a && (realAgrees s (a .real) && (same listing (listingExpected s) && same constants (constantsExpected s)))
+    numbersAgree s a
+    && (realAgrees s (a .real) && (marksAgree s a && (same listing (listingExpected s) && same constants (constantsExpected s))))
 
 unfoldable pub differs : List ℕ → Bool
 differs s = not (expected s (answered s) (listingAfter s) (constantsAfter s))

@@ -1,11 +1,14 @@
 // One case: where it ends, and how lowering answers it.
 ghost use Prim.Native.Nat.{_^_, _<_, _≤_};
 ghost use mathlib.Core.Path.{_≡_};
+ghost use mathlib.Core.List.{_++_, map};
 ghost use lib.ListN.{length};
+ghost use Rattle.mir.specs.Encode.{flagByte};
 ghost use Rattle.sheet_replay.specs.Case as Case;
-ghost use Rattle.sheet_replay.specs.Case.{WholeSheet, Lent, lentBytes, lentWords, answered, differs, expected, numbersAgree, realAgrees, listingExpected, constantsExpected};
+ghost use Rattle.sheet_replay.specs.Case.{WholeSheet, Lent, lentBytes, lentWords, answered, differs, expected, numbersAgree, realAgrees, marksAgree, listingExpected, constantsExpected};
 use complexify::entry::LowerAnswer;
 use complexify::entry::lower;
+use lowering::bytes::put_flags;
 use lowering::bytes::record_bytes;
 use lowering::realness::Realness;
 use replay::numbers::count_at;
@@ -18,7 +21,7 @@ use words::put_bytes;
 fn listing_at(s: &[u8]) -> usize
     ensures { λ r. ⌜ (r ≡ Case.listingAt (now (s .entry))) × (r < 2 ^ 33) ⌝ }
 {
-    124 + count_at(s, 0)
+    256 + count_at(s, 0)
 }
 
 // Where the constants begin.
@@ -53,11 +56,32 @@ fn numbers_agree(s: &[u8], a: LowerAnswer) -> bool
 
 // Whether the registers and places recorded as real are the expected ones.
 fn real_agrees(s: &[u8], real: Realness) -> bool
-    requires { ⌜ 124 ≤ length (now s) ⌝ }
+    requires { ⌜ 256 ≤ length (now s) ⌝ }
     ensures { λ r. ⌜ r ≡ realAgrees (now (s .entry)) «real» ⌝ }
 {
     let record = record_bytes(real);
     same_bytes(&record, &s[28..124])
+}
+
+// The marks as bytes: of registers filled, then of those drawn on before.
+fn mark_bytes(filled: [bool; 66], drawn: [bool; 66]) -> [u8; 132]
+    ensures { λ r. ⌜ r ≡ map flagByte filled ++ map flagByte drawn ⌝ }
+{
+    let mut bytes = [0u8; 132];
+    put_flags(&mut bytes, 0, &filled);
+    put_flags(&mut bytes, 66, &drawn);
+    bytes
+}
+
+// Whether the marks are the expected ones.
+fn marks_agree(s: &[u8], a: LowerAnswer) -> bool
+    requires { ⌜ 256 ≤ length (now s) ⌝ }
+    ensures { λ r. ⌜ r ≡ marksAgree (now (s .entry)) a ⌝ }
+{
+    let filled = a.filled;
+    let drawn = a.drawn;
+    let marks = mark_bytes(filled, drawn);
+    same_bytes(&marks, &s[124..256])
 }
 
 // Whether an answer and both slices are the expected ones.
@@ -69,13 +93,16 @@ fn agrees(
     bytes: &[u8],
     words: &[u64],
 ) -> bool
-    requires { ⌜ (124 ≤ length (now s)) × ((now bytes ≡ listingExpected (now s)) × (now words ≡ constantsExpected (now s))) ⌝ }
+    requires { ⌜ (256 ≤ length (now s)) × ((now bytes ≡ listingExpected (now s)) × (now words ≡ constantsExpected (now s))) ⌝ }
     ensures { λ r. ⌜ r ≡ expected (now (s .entry)) a (now (listing .entry)) (now (constants .entry)) ⌝ }
 {
     if !numbers_agree(s, a) {
         return false;
     }
     if !real_agrees(s, a.real) {
+        return false;
+    }
+    if !marks_agree(s, a) {
         return false;
     }
     if !same_bytes(listing, bytes) {
@@ -106,7 +133,7 @@ fn judge(
     let stop = end(s);
     put_bytes(bytes, 0, &s[at..row]);
     load(words, &s[row..stop]);
-    let a = lower(&s[124..at], listing, constants);
+    let a = lower(&s[256..at], listing, constants);
     let agreed = agrees(s, a, listing, constants, bytes, words);
     SheetOutcome {
         number: a.number,

@@ -21,7 +21,7 @@ pub fn replay_list(t: &mut [u64; 258], list: &[u8]) -> bool
     while i < n {
         let s = &list[at..];
         let size = end(s);
-        if is_cut(s, 124, 65537, 257, size) {
+        if is_cut(s, 256, 65537, 257, size) {
             return false;
         }
         let o = replay_case(s);

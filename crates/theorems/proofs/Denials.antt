@@ -38,9 +38,13 @@ use Rattle.leftovers.specs.Leftovers.{Leftover, half, Accepted}
 use Rattle.leftovers.specs.Kept.{Kept, kept-im, Parted}
 use Rattle.leftovers.specs.Examples.{zeros, header, touched, mixing, stableMixing, mindingMixing, clean}
 use Rattle.entries.specs.Examples.{bytes, words, Needed, Minded, Met, JumpedOver}
+use Rattle.entries.specs.Drawn.{NoneDrawn}
+use Rattle.entries.specs.DrawnExamples.{filling, drawing, filledWith, DrawnApart}
 use Rattle.entries.proofs.Entered.{answered}
 use Rattle.entries.proofs.Demand.{entries-demand-3}
 use Rattle.entries.proofs.Examples.{needed, needed-stable, minded, met}
+use Rattle.entries.proofs.Drawn.{none-drawn}
+use Rattle.entries.proofs.DrawnExamples.{undrawn, drawn-apart}
 use Rattle.figures.specs.Shelf.{refusal}
 use Rattle.figures.specs.Told.{FiguresReported}
 use Rattle.pages.specs.Pages.{rowLine, constantRow}
@@ -73,6 +77,18 @@ parted-by-two-records p =
     let ρ = fresh (replicate 64 0) in
     let π = setReg ρ 0 true in
     p ρ π .notBoth (im 0) (kept-im 0 (lit< tt) refl) (half 0 (lit< tt) refl)
+
+-- ---- marks
+
+-- the sheet whose plays end apart fills no register
+pub none-filled : NoneDrawn (λ a. a .filled) → ⊥
+none-filled law =
+    let d = drawn-apart in
+    d .apart (law drawing bytes words (filledWith 0) (filledWith 1) (d .accepted) (d .unfilled) (d .places) .places 578 (lit≤ tt))
+
+pub apart-where-unmarked : DrawnApart filling (filledWith 0) (filledWith 1) 578 → ⊥
+apart-where-unmarked d =
+    d .apart (none-drawn filling bytes words (filledWith 0) (filledWith 1) (d .accepted) (undrawn .unmarked) (d .places) .places 578 (lit≤ tt))
 
 -- ---- mode 2
 

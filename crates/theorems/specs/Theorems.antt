@@ -18,8 +18,12 @@ use Rattle.lowering.specs.Elsewhere.{minded, ElsewhereStable}
 use Rattle.leftovers.specs.Leftovers.{Leftover}
 use Rattle.leftovers.specs.Kept.{Kept, Parted}
 use Rattle.leftovers.specs.Examples.{mixing, stableMixing, mindingMixing, clean, jumping, clearing}
+use Rattle.marks.specs.Claims.{Unmarked, DrawnAlone}
+use Rattle.marks.specs.Leads.{LedTo}
 use Rattle.entries.specs.Entries.{EntriesDemand3}
 use Rattle.entries.specs.Examples.{Needed, Minded, Met, JumpedOver, Cleared}
+use Rattle.entries.specs.Drawn.{NoneDrawn, MarkedAlone, MarkedLed, ScratchUndrawn}
+use Rattle.entries.specs.DrawnExamples.{filling, drawing, filledWith, Undrawn, DrawnApart}
 use Rattle.meaning.specs.Preserved.{Preserved}
 use Rattle.meaning.specs.Settled.{Settled}
 use Rattle.meaning.specs.Tidy.{Tidied}
@@ -53,6 +57,21 @@ pub record Theorems : Type 0 where
   pub jumpedOver : JumpedOver jumping 1 2
   -- an instruction that clears the imaginary half of a real operand, writes its destination and keeps another register
   pub cleared : Cleared clearing 1
+  -- "If no mark is set, two plays from record 0 whose stores agree in all places end with equal places, however their registers began.": of
+  -- every call of `lower` that answers 0, and of every listing
+  pub noneDrawn : NoneDrawn (λ a. a .drawn)
+  pub unmarked : Unmarked
+  -- the registers marked are all that comes from outside
+  pub markedAlone : MarkedAlone
+  pub drawnAlone : DrawnAlone
+  -- a register is marked just where some way from record 0 leads to a record that draws on it, past none that fills it
+  pub markedLed : MarkedLed
+  pub ledTo : LedTo
+  -- no scratch register is marked
+  pub scratchUndrawn : ScratchUndrawn
+  -- there is a sheet without a mark, with stores that agree in no register; and one with marks whose plays end apart
+  pub undrawn : Undrawn filling (filledWith 0) (filledWith 1)
+  pub drawnApart : DrawnApart drawing (filledWith 0) (filledWith 1) 578
   -- playing a sheet's listing computes what the sheet means, of every call of `lower` that answers 0
   pub preserved : Preserved
   -- whatever a Half would lose, where no Half of a real register into a complex one stands; there is such a sheet with a Half

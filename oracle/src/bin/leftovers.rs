@@ -1,11 +1,13 @@
 //! Tries the claim about leftovers on random sheets, stores, points and changes: so many sheets without branches, so many with them, and so many
-//! in mode 2, half of them with branches, where no Half is a condition.
+//! in mode 2, half of them with branches, where no Half is a condition. Then the claim about registers drawn on, on as many pairs of plays, half
+//! of them of sheets with branches, in every mode; the marks of each sheet and of each row of its first instructions are compared.
 //! Usage: leftovers [TRIALS] [SEED]. With the feature `linked` through the C functions, else through the reference.
 
 use std::process::ExitCode;
 
 use oracle::claim::{random_trial, Trial};
-use oracle::format::{MINDING, PLAIN, STABLE};
+use oracle::drawn::{self, Drawn};
+use oracle::format::{MINDING, MODES, PLAIN, STABLE};
 use oracle::random::Rng;
 
 #[cfg(feature = "linked")]
@@ -48,6 +50,33 @@ fn tried(what: &str, modes: &[u8], branches: bool, trials: u64, rng: &mut Rng) -
         && (!minding || half == 0 && 100 * with_halves >= trials)
 }
 
+/// The trials of the claim about registers drawn on: whether none fails, at least a sixth each holds with no mark and with some, and of the
+/// latter a tenth ends apart where the marked registers differ too.
+fn drawn_on(what: &str, branches: bool, trials: u64, rng: &mut Rng) -> bool {
+    let (mut refused, mut unmarked, mut marked, mut aparts, mut fails) = (0, 0, 0, 0, 0);
+    for trial in 0..trials {
+        let (parts, outcome) = drawn::random_trial(&Tried, &MODES, branches, rng);
+        match outcome {
+            Drawn::Refused => refused += 1,
+            Drawn::Holds { marks: 0, apart: false } => unmarked += 1,
+            Drawn::Holds { marks, apart } => {
+                marked += 1;
+                aparts += u64::from(apart);
+                fails += u64::from(marks == 0);
+            }
+            Drawn::Fails(text) => {
+                fails += 1;
+                println!("trial {trial}: {text}\n  sheet {:?}", parts.sheet());
+            }
+        }
+    }
+    println!(
+        "{what}: {trials} pairs of plays: {unmarked} hold with no mark, {marked} with marks ({aparts} of these end apart where the marked \
+         registers differ too), {refused} sheets refused, {fails} fail"
+    );
+    fails == 0 && 6 * unmarked >= trials && 6 * marked >= trials && 10 * aparts >= marked
+}
+
 fn main() -> ExitCode {
     let mut words = std::env::args().skip(1).map(|w| w.parse::<u64>().expect("a number"));
     let trials = words.next().unwrap_or(100_000);
@@ -58,8 +87,10 @@ fn main() -> ExitCode {
         tried("with branches", &old, true, trials, &mut rng),
         tried("mode 2 without branches", &[MINDING], false, trials / 2, &mut rng),
         tried("mode 2 with branches", &[MINDING], true, trials / 2, &mut rng),
+        drawn_on("registers drawn on, without branches", false, trials / 2, &mut rng),
+        drawn_on("registers drawn on, with branches", true, trials / 2, &mut rng),
     ];
-    if outcomes == [true; 4] {
+    if outcomes == [true; 6] {
         ExitCode::SUCCESS
     } else {
         ExitCode::FAILURE

@@ -1,6 +1,6 @@
 //! Writes the lists `sheets` and `plays` for replay (formats: lists.rs) into a folder.
-//! Usage: make-lists FOLDER [COUNT] [SEED]. Of each list COUNT cases are random; about so many, too, are drawn from the limits. Behind them
-//! stand the examples of labels and branches, and random ones with them that are short: an eighth of COUNT of sheets, half as many plays.
+//! Usage: make-lists FOLDER [COUNT] [SEED]. Of each list COUNT cases are random; about so many, too, of sheets two thirds of so many, are drawn
+//! from the limits. Behind them stand the examples of labels and branches, and random ones with them that are short: an eighth of COUNT of sheets, half as many plays.
 
 use std::fs;
 use std::path::Path;
@@ -26,7 +26,7 @@ fn main() {
     let mut rng = Rng(words.next().map_or(1, |w| w.parse().expect("a seed")));
 
     let mut sheets = boundary::kept_sheets();
-    sheets.extend(spread(&boundary::sheets(), count));
+    sheets.extend(spread(&boundary::sheets(), 2 * count / 3));
     sheets.extend((0..count).map(|_| random::to_lower(&mut rng)));
     let mut branching = Rng(rng.0);
     sheets.extend(branches::sheet_examples().into_iter().map(|(case, _, _)| case));

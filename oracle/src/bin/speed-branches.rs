@@ -24,7 +24,7 @@ fn row(name: &'static str, records: usize, call: impl FnMut() + 'static) -> Row 
 /// A sheet of these instructions, lowered.
 fn lowering(name: &'static str, instructions: Vec<Vec<u8>>) -> Row {
     let sheet = sheet(false, &[0; 64], &[], &instructions);
-    let (mut listing, mut constants, mut answer) = (vec![0; LISTING_LIMIT], vec![0; 8 * TABLE], [0; 128]);
+    let (mut listing, mut constants, mut answer) = (vec![0; LISTING_LIMIT], vec![0; 8 * TABLE], [0; ffi::LOWER_ANSWER]);
     assert_eq!(ffi::lower(&sheet, &mut listing, &mut constants, &mut answer), 0);
     row(name, instructions.len(), move || {
         black_box(ffi::lower(black_box(&sheet), &mut listing, &mut constants, &mut answer));

@@ -87,7 +87,8 @@ fn lowering(rounds: u64, stable: bool, size: usize, sheets: &[Decoded]) {
             black_box(complexify(&mut complexifier, stable, &d.constants, &d.instructions));
         }
     };
-    let (mut listing, mut constants, mut answer) = (vec![0; LISTING_LIMIT], vec![0; 8 * TABLE], vec![0; 128]);
+    let (mut listing, mut constants, mut answer) =
+        (vec![0; LISTING_LIMIT], vec![0; 8 * TABLE], vec![0; ffi::LOWER_ANSWER]);
     let mut ours = || {
         for d in sheets {
             black_box(ffi::lower(&d.sheet, &mut listing, &mut constants, &mut answer));

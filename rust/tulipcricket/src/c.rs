@@ -64,7 +64,7 @@ mod raw {
 }
 
 /// `tulipcricket_lower`; the number it returns.
-pub fn lower(sheet: &[u8], listing: &mut [u8], constants: &mut [u8; 2048], answer: &mut [u8; 128]) -> u32 {
+pub fn lower(sheet: &[u8], listing: &mut [u8], constants: &mut [u8; 2048], answer: &mut [u8; 260]) -> u32 {
     // SAFETY: each pointer comes with the length of the slice it was taken from, and the function keeps none.
     unsafe {
         raw::tulipcricket_lower(

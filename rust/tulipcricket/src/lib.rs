@@ -20,6 +20,7 @@ const LINES: usize = 60;
 const SHORTEST_RECORD: usize = 5;
 const TABLE: usize = 256;
 const WORDS: usize = 1_602;
+const REGISTERS: usize = 66;
 
 /// The refusals of documents 01 and 02, by their numbers.
 #[derive(Clone, Copy, Debug, PartialEq, Eq)]
@@ -92,6 +93,25 @@ pub struct Lowered {
     pub real_registers: [bool; 32],
     /// The places recorded as real at the end, as in a header.
     pub real_places: [u8; 64],
+    marks: [[bool; REGISTERS]; 2],
+}
+
+impl Lowered {
+    /// The listing's registers that are filled at the end, by their numbers (64 Ret, 65 Temp).
+    pub fn filled(&self) -> Vec<u8> {
+        marked(&self.marks[0])
+    }
+
+    /// The listing's registers that it draws on before they are filled. Where there is none, plays from record 0 on stores that agree in all
+    /// places end with equal places, however their registers began; else where the stores agree in these registers too. One that is named here
+    /// may still not matter to any play.
+    pub fn drawn(&self) -> Vec<u8> {
+        marked(&self.marks[1])
+    }
+}
+
+fn marked(marks: &[bool; REGISTERS]) -> Vec<u8> {
+    (0..REGISTERS as u8).filter(|register| marks[*register as usize]).collect()
 }
 
 /// Eight bytes of an answer as a number.
@@ -105,7 +125,7 @@ fn to_bytes(words: &[u64]) -> Vec<u8> {
 
 /// Lowers a sheet to a listing of at most `room` bytes. What was listed before a refusal is dropped.
 pub fn lower(sheet: &[u8], room: usize) -> Result<Lowered, Refused> {
-    let (mut listing, mut table, mut answer) = (vec![0; room], [0; 8 * TABLE], [0; 128]);
+    let (mut listing, mut table, mut answer) = (vec![0; room], [0; 8 * TABLE], [0; 260]);
     let refusal = c::lower(sheet, &mut listing, &mut table, &mut answer);
     accepted(refusal, number(&answer, 8))?;
     listing.truncate(number(&answer, 16) as usize);
@@ -114,7 +134,8 @@ pub fn lower(sheet: &[u8], room: usize) -> Result<Lowered, Refused> {
         constants: (0..number(&answer, 24) as usize).map(|i| number(&table, 8 * i)).collect(),
         instructions: number(&answer, 8),
         real_registers: std::array::from_fn(|i| answer[32 + i] == 1),
-        real_places: answer[64..].try_into().expect("64 bytes"),
+        real_places: answer[64..128].try_into().expect("64 bytes"),
+        marks: [128, 194].map(|at| std::array::from_fn(|i| answer[at + i] == 1)),
     })
 }
 

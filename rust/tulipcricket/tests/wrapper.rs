@@ -34,6 +34,15 @@ fn the_paper_lists_five_records() {
 }
 
 #[test]
+fn what_a_listing_draws_on_before_filling_it() {
+    assert_eq!((lowered().drawn(), lowered().filled()), (vec![], vec![4, 5, 6, 7]));
+    let mut sheet = Sheet::new(Mode::Plain);
+    sheet.save(0, Class::Mem, 1).load(0, Class::Mem, 2).save(RET, Class::Mem, 3).save(TEMP, Class::Mem, 4);
+    let found = lower(&sheet.bytes(), LISTING_LIMIT).unwrap();
+    assert_eq!((found.drawn(), found.filled()), (vec![0, 1, 4, 5, 64, 65], vec![4, 5]));
+}
+
+#[test]
 fn forty_bytes_are_refused_by_7_at_3() {
     assert_eq!(lower(&paper(), 40), Err(Refused { why: Why::ListingFull, index: 3 }));
     assert_eq!(lower(&paper(), 41).unwrap().listing.len(), 41);

@@ -16,7 +16,7 @@ tulipcricket-lower-unguarded-spec =
     (λ c.
     let a = c .before .before .before .before .before .before .before .before .before .before .before .args in
     wrong-constants (a .sheet .now) (a .listing .now) (a .constants .now) (a .answer .now) (c .before .before .before .before .before .before .if1 .left) (c .before .before .before .before .before .if2 .taken)
-    (c .before .before .before .wrong-constants .ensures) (c .before .before .put-answer .ensures))
+    (c .before .before .before .wrong-setup .ensures) (c .before .before .put-answer .ensures))
     (λ c κs. search needs) (λ c κs. search needs) (λ c. search needs) (λ c. search needs) (λ c. search needs) (λ c. search needs)
     (λ c.
     let a = c .before .before .before .before .before .before .before .before .before .before .before .before .before .before .before .before .before .before .args in

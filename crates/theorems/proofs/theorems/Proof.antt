@@ -13,6 +13,10 @@ use Rattle.lowering.proofs.Elsewhere.{elsewhere-stable}
 use Rattle.leftovers.proofs.Words.{parted}
 use Rattle.entries.proofs.Demand.{entries-demand-3}
 use Rattle.entries.proofs.Examples.{needed, needed-stable, minded, met, jumped-over, cleared}
+use Rattle.marks.proofs.Theorem.{unmarked, drawn-alone}
+use Rattle.marks.proofs.Leading.{led-to}
+use Rattle.entries.proofs.Drawn.{none-drawn, marked-alone, marked-led, scratch-undrawn}
+use Rattle.entries.proofs.DrawnExamples.{undrawn, drawn-apart}
 use Rattle.meaning.proofs.Theorem.{preserved}
 use Rattle.meaning.proofs.Settling.{settled}
 use Rattle.meaning.proofs.Tidied.{tidied}
@@ -38,6 +42,15 @@ returns c =
       met = met;
       jumpedOver = jumped-over;
       cleared = cleared;
+      noneDrawn = none-drawn;
+      unmarked = unmarked;
+      markedAlone = marked-alone;
+      drawnAlone = drawn-alone;
+      markedLed = marked-led;
+      ledTo = led-to;
+      scratchUndrawn = scratch-undrawn;
+      undrawn = undrawn;
+      drawnApart = drawn-apart;
       preserved = preserved;
       settled = settled;
       settledMet = settled-met;

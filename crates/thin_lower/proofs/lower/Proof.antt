@@ -20,7 +20,7 @@ use contract.Monad.{Fun, fact}
 use contract.Running.{givenOf, tables, tablesOf}
 use types.Kit.{Given, Item, ⋆, ‵, raw, _⊛_, some, later, _$_, _∵_, !, qed, by, move, keep, drop, rewrite, use1, split, join, pick, fsplit, fsplit3, fjoin, fjoin3, feqL, feqI, suffices, frame, await, done}
 use types.Part.{agg, whole, sub, look-in}
-use types.Run.{look, store-raw, init, forget, stop, hop, fld, from, load, addr, of-opd, and-then, no-more, assigns, land, returns, enter, alloc1, alloc0, params1, pass1, pass0, free1, free0}
+use types.Run.{look, store-raw, init, forget, stop, hop, fld, from, load, addr, and-then, no-more, assigns, land, returns, enter, alloc1, alloc0, params1, pass1, pass0, free1, free0}
 use types.SemTy.{Body}
 use sound.WpLaws.{FmC, fmOf, WpFn-mono}
 use denote.RattleType.{owns}
@@ -43,16 +43,16 @@ use denote.Triple.Walked.{says, Stays, stay-ref, stay-none-slice, gave-slice, wa
 use denote.Exit.{yes}
 use Rattle.complexify.specs.Entry.{answer, listingAfter, constantsAfter}
 use Rattle.complexify.specs.declared.entry.LowerAnswer.{LowerAnswer}
-use Rattle.lowering.specs.declared.realness.Realness.{Realness}
-use Rattle.lowering.proofs.realness.Realness as T
-use Rattle.lowering.proofs.realness.Realness.Laws as T′
+use Rattle.thin_lower.specs.declared.Held.{Held}
+use Rattle.thin_lower.proofs.Held as T
+use Rattle.thin_lower.proofs.Held.Laws as T′
 use Rattle.complexify.proofs.entry.LowerAnswer as R
 use Rattle.complexify.proofs.entry.LowerAnswer.Laws as R′
 use Rattle.complexify.proofs.entry.lower as g
 use Rattle.complexify.proofs.entry.lower.Symbol as g-def
 use Rattle.complexify.proofs.entry.lower.Symbol.{name as #g}
 use Rattle.complexify.proofs.entry.lower.Met as g-thm
-use Rattle.thin_lower.specs.Numbers.{numbersOf}
+use Rattle.thin_lower.specs.Numbers.{numbersOf, heldOf}
 use Rattle.thin_lower.proofs.Numbers as N
 use Rattle.thin_lower.proofs.Numbers.Laws as N′
 use Rattle.thin_lower.proofs.lower.Key.{name as #f}
@@ -67,8 +67,8 @@ stayed = (stay-ref (0 ∷ []) tt (plain (λ _. T.the-row)), (stay-none-slice (1 
 abbrev Core : {M : Type 1} (𝓤 : URA M) (H : Heap 𝓤) (A : Atoms 𝓤) (mem : Memory → SProp 𝓤) (run : Routine → Fun 𝓤) → Contract 𝓤
 Core 𝓤 H A mem run = tripleOf 𝓤 H A g.signature (g.spec 𝓤 H A mem run)
 
-module _ {M : Type 1} (𝓤 : URA M) (H : Heap 𝓤) (A : Atoms 𝓤) (W : Given 𝓤 H A) (mem : Memory → SProp 𝓤) (run : Routine → Fun 𝓤) (κ : Lft) (q : Share) (κs : Lfts 3) (qs : Shares 3) (b o : ℕ) (γ : GName) (h : Realness) (s l k : RefT (List ℕ)) where
-  abbrev x : RefT Realness
+module _ {M : Type 1} (𝓤 : URA M) (H : Heap 𝓤) (A : Atoms 𝓤) (W : Given 𝓤 H A) (mem : Memory → SProp 𝓤) (run : Routine → Fun 𝓤) (κ : Lft) (q : Share) (κs : Lfts 3) (qs : Shares 3) (b o : ℕ) (γ : GName) (h : Held) (s l k : RefT (List ℕ)) where
+  abbrev x : RefT Held
   x = record { ptr = (b, o); name = γ; now = h }
 
   -- the slices' machine values
@@ -76,7 +76,7 @@ module _ {M : Type 1} (𝓤 : URA M) (H : Heap 𝓤) (A : Atoms 𝓤) (W : Given
   at y = sliceVal (y .ptr) (length (y .now))
 
   abbrev Args : Type 0
-  Args = RefT Realness × (RefT (List ℕ) × (RefT (List ℕ) × (RefT (List ℕ) × Unit {0})))
+  Args = RefT Held × (RefT (List ℕ) × (RefT (List ℕ) × (RefT (List ℕ) × Unit {0})))
 
   abbrev a : Args
   a = (x, (s, (l, (k, tt))))
@@ -113,25 +113,27 @@ module _ {M : Type 1} (𝓤 : URA M) (H : Heap 𝓤) (A : Atoms 𝓤) (W : Given
 
   -- what is had before the end: the record's borrow at the answer's record, its token, the others', the sheet's, what says the other two slices' last lists, and the result
   abbrev left : LowerAnswer → List ℕ → List ℕ → Val → List (Item 𝓤)
-  left r ls ks v = ‵ (fobs γ (T.the-row .coded .code (r .real))) ∷ ‵ (fbor κ (Body (stored T.the-row) b o γ)) ∷ ‵ (flft κ q) ∷ toks ∷ ‵ Sheet ∷ ‵ (finally u8 (l .name) ls) ∷ ‵ (finally u64 (k .name) ks) ∷ ‵ (N.the-row .own (numbersOf r) (v ∷ [])) ∷ []
+  left r ls ks v = ‵ (fobs γ (T.the-row .coded .code (heldOf r))) ∷ ‵ (fbor κ (Body (stored T.the-row) b o γ)) ∷ ‵ (flft κ q) ∷ toks ∷ ‵ Sheet ∷ ‵ (finally u8 (l .name) ls) ∷ ‵ (finally u64 (k .name) ks) ∷ ‵ (N.the-row .own (numbersOf r) (v ∷ [])) ∷ []
 
   exits : (r : LowerAnswer) (ls ks : List ℕ) (v : Val) → Said r ls ks → length ls ≡ length (now l) → length ks ≡ length (now k) → ent 𝓤 (⋆ 𝓤 H A (left r ls ks v)) (Post v)
   exits r ls ks v e el ek =
       qed W (left r ls ks v) ∵
-      suffices ! _ (ends-at 𝓤 H A f.ended stayed (f.clauses 𝓤 H A mem run) W (((κ, κs), (q, qs), tt, a, vals), tt) v (numbersOf r) (r .real, (tt, (ls, (ks, tt)))) (tt, (tt, (el, (ek, tt))))) $
-      says ! (ap numbersOf (e .0), ap (λ (n : LowerAnswer). n .real) (e .0), e .1, e .2) $ move ! (2 ∷ 3 ∷ []) $ join ! $ frame ! $
+      suffices ! _ (ends-at 𝓤 H A f.ended stayed (f.clauses 𝓤 H A mem run) W (((κ, κs), (q, qs), tt, a, vals), tt) v (numbersOf r) (heldOf r, (tt, (ls, (ks, tt)))) (tt, (tt, (el, (ek, tt))))) $
+      says ! (ap numbersOf (e .0), ap heldOf (e .0), e .1, e .2) $ move ! (2 ∷ 3 ∷ []) $ join ! $ frame ! $
       feqI ! (List Val) (vptr b o ∷ []) (vptr b o ∷ []) refl $ fjoin3 ! $
       -- [the record's; the sheet's; the listing's; the constants'; the result]
       nothing ! $ move ! (4 ∷ 0 ∷ []) $ fjoin ! $ move ! (3 ∷ 0 ∷ []) $ fjoin ! $ move ! (2 ∷ 0 ∷ []) $ fjoin ! $ move ! (1 ∷ 0 ∷ []) $ fjoin ! $ frame ! $ done !
 
   -- what an answer's machine value tells of its parts
-  real-is : (r : LowerAnswer) (w : Val) → Is R.the-row r (w ∷ []) → Is T.the-row (r .real) (LL.vals T.the-type T′.the-laws (r .real))
-  real-is r w is = LL.owed R.the-type R′.the-laws r _ is .1 .1 .1 .1 .0
+  held-is : (r : LowerAnswer) (w : Val) → Is R.the-row r (w ∷ []) → Is T.the-row (heldOf r) (LL.vals T.the-type T′.the-laws (heldOf r))
+  held-is r w is =
+      let fs = LL.owed R.the-type R′.the-laws r _ is in
+      LL.owes T.the-type T′.the-laws (heldOf r) (fs .1 .1 .1 .1 .0, (fs .1 .1 .1 .1 .1 .0, tt))
 
   numbers-are : (r : LowerAnswer) (w : Val) → Is R.the-row r (w ∷ []) → Is N.the-row (numbersOf r) (LL.vals N.the-type N′.the-laws (numbersOf r))
   numbers-are r w is =
       let fs = LL.owed R.the-type R′.the-laws r _ is in
-      LL.owes N.the-type N′.the-laws (numbersOf r) (fs .0, (fs .1 .0, (fs .1 .1 .0, (fs .1 .1 .1 .0, tt))))
+      LL.owes N.the-type N′.the-laws (numbersOf r) (fs .0, (fs .1 .0, (fs .1 .1 .0, (fs .1 .1 .1 .0, (fs .1 .1 .1 .1 .1 .1 .0, tt)))))
 
   module _ (C : Calls 𝓤 H) (Λ : Loops 𝓤 H) (fm : FmC 𝓤 H (W .laws) C) (known : Triple 𝓤 (C #g) (Core 𝓤 H A mem run)) (s-room : Room u8 (length (now s))) (l-room : Room u8 (length (now l))) (k-room : Room u64 (length (now k))) where
     walk : ent 𝓤 (onEntry 𝓤 H A f.signature (κ, κs) (q, qs) a vals) (WpFn 𝓤 H C Λ code.function (vptr b o ∷ at s ∷ at l ∷ at k ∷ []) Post)
@@ -158,11 +160,11 @@ module _ {M : Type 1} (𝓤 : URA M) (H : Heap 𝓤) (A : Atoms 𝓤) (W : Given
         move ! (3 ∷ []) $ split ! $ move ! (1 ∷ []) $ split ! $ fsplit3 ! $ drop ! $ move ! (0 ∷ 1 ∷ 3 ∷ []) $
         opens ! tt T.the-row {h = h} b o (λ us. spelt ! T.the-row (Is T.the-row) (shows 𝓤 H A T.the-row) (LL.vals T.the-type T′.the-laws) (LL.tells T.the-type T′.the-laws) fullShare h us b o $
         -- [the record's cell; what it owned; the open borrow; obs; auth; the sheet's; the tokens; the constants' last list; the listing's; _9 at 9; …; the answer at 17; …; the reference at 25; …; room for _0 at 27; …]
-        assigns ! (of-opd ! (load ! (from ! (fld ! refl (stop !))) (look-in ! 17 (sub ! 4 refl (whole !))))) (from ! (hop ! (look ! 25 refl) (stop !))) (store-raw ! 0 refl (LL.lawful T.the-type T′.the-laws 𝓤 H A W .typed (r .real) _ (real-is r w is) .0)) $
+        assigns ! (agg ! (and-then ! (load ! (from ! (fld ! refl (stop !))) (look-in ! 17 (sub ! 4 refl (whole !)))) (and-then ! (load ! (from ! (fld ! refl (stop !))) (look-in ! 17 (sub ! 5 refl (whole !)))) (no-more !)))) (from ! (hop ! (look ! 25 refl) (stop !))) (store-raw ! 0 refl (LL.lawful T.the-type T′.the-laws 𝓤 H A W .typed (heldOf r) _ (held-is r w is) .0)) $
         assigns ! (agg ! (and-then ! (load ! (from ! (fld ! refl (stop !))) (look-in ! 17 (sub ! 0 refl (whole !)))) (and-then ! (load ! (from ! (fld ! refl (stop !))) (look-in ! 17 (sub ! 1 refl (whole !))))
-        (and-then ! (load ! (from ! (fld ! refl (stop !))) (look-in ! 17 (sub ! 2 refl (whole !)))) (and-then ! (load ! (from ! (fld ! refl (stop !))) (look-in ! 17 (sub ! 3 refl (whole !)))) (no-more !))))))
+        (and-then ! (load ! (from ! (fld ! refl (stop !))) (look-in ! 17 (sub ! 2 refl (whole !)))) (and-then ! (load ! (from ! (fld ! refl (stop !))) (look-in ! 17 (sub ! 3 refl (whole !)))) (and-then ! (load ! (from ! (fld ! refl (stop !))) (look-in ! 17 (sub ! 6 refl (whole !)))) (no-more !)))))))
         (from ! (stop !)) (init ! 27 refl (LL.lawful N.the-type N′.the-laws 𝓤 H A W .typed (numbersOf r) _ (numbers-are r w is) .0)) $
-        move ! (1 ∷ []) $ drop ! $ owned ! T.the-row (Is T.the-row) (LL.makes T.the-type T′.the-plain 𝓤 H A) (r .real) (LL.vals T.the-type T′.the-laws (r .real)) (real-is r w is) $ move ! (1 ∷ 0 ∷ []) $ closes ! tt T.the-row (r .real) (LL.vals T.the-type T′.the-laws (r .real)) b o $
+        move ! (1 ∷ []) $ drop ! $ owned ! T.the-row (Is T.the-row) (LL.makes T.the-type T′.the-plain 𝓤 H A) (heldOf r) (LL.vals T.the-type T′.the-laws (heldOf r)) (held-is r w is) $ move ! (1 ∷ 0 ∷ []) $ closes ! tt T.the-row (heldOf r) (LL.vals T.the-type T′.the-laws (heldOf r)) b o $
         returns ! (look ! 25 refl) $ forget ! 7 refl $ forget ! 9 refl $ forget ! 11 refl $ forget ! 13 refl $ forget ! 15 refl $ forget ! 17 refl $ forget ! 19 refl $ forget ! 21 refl $ forget ! 23 refl $ forget ! 25 refl $
         move ! (25 ∷ 26 ∷ []) $ free1 ! $ move ! (23 ∷ 24 ∷ []) $ free1 ! $ move ! (21 ∷ 22 ∷ []) $ free1 ! $ move ! (19 ∷ 20 ∷ []) $ free1 ! $ move ! (17 ∷ 18 ∷ []) $ free1 ! $
         move ! (15 ∷ 16 ∷ []) $ free1 ! $ move ! (13 ∷ 14 ∷ []) $ free1 ! $ move ! (11 ∷ 12 ∷ []) $ free1 ! $ move ! (9 ∷ 10 ∷ []) $ free1 ! $ move ! (7 ∷ 8 ∷ []) $ free1 ! $ free0 ! $

@@ -31,21 +31,21 @@ run-spec =
     (λ c. let p = c .before .before .before .before .before .pre in (underway-first (p .0) (p .1 .0) (p .1 .1), refl, refl, refl, refl))
     (λ c κs. search needs) (λ c. search needs) (λ c. search needs) (λ c. search needs) (λ c. search needs)
     (λ c. let v = c .before .before .before .before .before .loop .inv in
-    ran-refused (v .0) (turn-beyond (v .0 .ready) (c .before .if2 .taken) (c .before .before .before .if1 .taken)) refl (c .answer-at .ensures))
+    ran-refused (v .0) (turn-beyond (v .0 .ready) (c .before .if2 .taken) (c .before .before .before .if1 .taken)) refl (c .stop-at .ensures))
     (λ c κs. search needs) (λ c κs. search needs) (λ c. search needs) (λ c. search needs) (λ c. search needs) (λ c. search needs)
     (λ c. let v = c .before .before .before .before .before .before .before .before .before .before .before .before .before .before .before .loop .inv in
-    ran-refused (v .0) (turn-halted (v .0 .ready) (still (v .0 .index) (c .before .before .before .before .before .before .before .before .before .before .before .if2 .left)) (c .before .before .before .before .before .before .pass-at .ensures) (c .before .if3 .taken)) refl (c .answer-at2 .ensures))
+    ran-refused (v .0) (turn-halted (v .0 .ready) (still (v .0 .index) (c .before .before .before .before .before .before .before .before .before .before .before .if2 .left)) (c .before .before .before .before .before .before .pass-at .ensures) (c .before .if3 .taken)) refl (c .stop-at2 .ensures))
     (λ c. search needs)
     (λ c κs. let v = c .before .before .before .before .before .before .before .before .before .before .before .before .before .before .before .before .before .loop .inv in (v .0 .ready, let i = still (v .0 .index) (c .before .before .before .before .before .before .before .before .before .before .before .before .before .if2 .left) in omega (arith, i)))
     (λ c κs. search needs)
     (λ c. c .before .before .before .before .before .before .before .before .before .before .before .before .before .before .before .before .before .pass-at .kept .1 .1 .1 .0 ∙ c .before .before .before .before .before .before .before .before .before .before .before .before .before .before .before .before .before .before .before .before .before .before .before .before .before .before .loop .inv .1) (λ c. c .before .before .before .before .before .before .before .before .before .before .before .before .before .before .before .before .before .pass-at .kept .1 .1 .1 .1 .0 ∙ c .before .before .before .before .before .before .before .before .before .before .before .before .before .before .before .before .before .before .before .before .before .before .before .before .before .before .loop .inv .2)
     (λ c. c .before .before .before .before .before .before .before .before .one .kept .1 .1 .1 .1 .1 .0 ∙ c .before .before .before .before .before .before .before .before .before .before .before .before .before .before .before .before .before .before .before .before .before .before .before .before .before .before .loop .inv .3) (λ c. c .before .before .before .before .before .before .before .before .one .kept .1 .1 .1 .1 .1 .1 .0 ∙ c .before .before .before .before .before .before .before .before .before .before .before .before .before .before .before .before .before .before .before .before .before .before .before .before .before .before .loop .inv .4)
     (λ c. let v = c .before .before .before .before .before .before .before .before .before .before .before .before .before .before .before .before .before .before .before .before .before .before .before .before .before .before .loop .inv in
-    ran-refused (v .0) (turn-taken (v .0 .ready) (still (v .0 .index) (c .before .before .before .before .before .before .before .before .before .before .before .before .before .before .before .before .before .before .before .before .before .before .if2 .left)) (c .before .before .before .before .before .before .before .before .before .before .before .before .before .before .before .before .before .pass-at .ensures) (c .before .before .before .before .before .before .before .before .before .before .before .before .before .before .before .before .before .before .before .before .before .before .before .before .if1 .taken) (c .before .before .before .before .before .before .before .before .before .before .before .before .if3 .left) (c .before .before .before .before .before .before .before .before .one .ensures)) (c .before .if4 .taken) (c .answer-at3 .ensures))
+    ran-refused (v .0) (turn-taken (v .0 .ready) (still (v .0 .index) (c .before .before .before .before .before .before .before .before .before .before .before .before .before .before .before .before .before .before .before .before .before .before .if2 .left)) (c .before .before .before .before .before .before .before .before .before .before .before .before .before .before .before .before .before .pass-at .ensures) (c .before .before .before .before .before .before .before .before .before .before .before .before .before .before .before .before .before .before .before .before .before .before .before .before .if1 .taken) (c .before .before .before .before .before .before .before .before .before .before .before .before .if3 .left) (c .before .before .before .before .before .before .before .before .one .ensures)) (c .before .if4 .taken) (c .stop-at3 .ensures))
     (λ c. let v = c .before .before .before .before .before .before .before .before .before .before .before .before .before .before .before .before .before .before .before .before .before .before .before .before .before .loop .inv in
     let h = (turn-taken (v .0 .ready) (still (v .0 .index) (c .before .before .before .before .before .before .before .before .before .before .before .before .before .before .before .before .before .before .before .before .before .if2 .left)) (c .before .before .before .before .before .before .before .before .before .before .before .before .before .before .before .before .pass-at .ensures) (c .before .before .before .before .before .before .before .before .before .before .before .before .before .before .before .before .before .before .before .before .before .before .before .if1 .taken) (c .before .before .before .before .before .before .before .before .before .before .before .if3 .left) (c .before .before .before .before .before .before .before .one .ensures)) .on (c .if4 .left) in omega (arith, h))
     (λ c. let v = c .before .before .before .before .before .before .before .before .before .before .before .before .before .before .before .before .before .before .before .before .before .before .before .before .before .loop .inv in let m = c .before .before .before .before .before .before .before .before .before .before .before .before .before .before .before .before .pass-at .kept .1 .1 .1 in let k = c .before .before .before .before .before .before .before .one .kept .1 .1 .1 .1 in
     (underway-next (v .0) (turn-taken (v .0 .ready) (still (v .0 .index) (c .before .before .before .before .before .before .before .before .before .before .before .before .before .before .before .before .before .before .before .before .before .if2 .left)) (c .before .before .before .before .before .before .before .before .before .before .before .before .before .before .before .before .pass-at .ensures) (c .before .before .before .before .before .before .before .before .before .before .before .before .before .before .before .before .before .before .before .before .before .before .before .if1 .taken) (c .before .before .before .before .before .before .before .before .before .before .before .if3 .left) (c .before .before .before .before .before .before .before .one .ensures)) (k .0) (still (v .0 .index) (c .before .before .before .before .before .before .before .before .before .before .before .before .before .before .before .before .before .before .before .before .before .if2 .left)) (c .if4 .left), m .0 ∙ v .1, m .1 .0 ∙ v .2, k .1 .0 ∙ v .3, k .1 .1 .0 ∙ v .4))
     (λ c κs. search needs) (λ c. search needs) (λ c. search needs) (λ c. search needs) (λ c. search needs)
     (λ c. let v = c .before .before .before .loop .inv in let a = c .before .before .before .before .before .before .before .before .before .args in
-    ran-ended (v .0) (ended (instructionFrom (a .own)) (a .sheet .now) (c .before .before .before .loop .p .at) (c .before .if1 .left)) (c .answer-at4 .ensures)))
+    ran-ended (v .0) (ended (instructionFrom (a .own)) (a .sheet .now) (c .before .before .before .loop .p .at) (c .before .if1 .left)) (c .stop-at4 .ensures)))

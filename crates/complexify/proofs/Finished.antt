@@ -3,16 +3,20 @@ use Prim.Native.Nat.{ℕ, suc, _+_, _≤_}
 use mathlib.Core.Path.{_≡_, refl, sym, ap, _∙_}
 use mathlib.Core.List.{List, [], _∷_, _++_, append-assoc, append-nil}
 use native.Mathlib.Omega.{arith}
-use lib.ListN.{length, take, length-append}
+use lib.ListN.{length, take, drop, length-append}
 use Rattle.mir.specs.declared.records.Instruction.{Instruction}
 use Rattle.mir.specs.Encode.{encodeAll}
 use Rattle.records.proofs.Round.{encodeAll-append}
 use Rattle.sheet.specs.declared.setup.Mode.{Mode}
+use Rattle.sheet.specs.Setup.{setup, constantsOf}
+use Rattle.sheet.specs.Instruction.{instructions}
 use Rattle.lowering.specs.Complexifier.{State, Out, then, unlisted}
 use Rattle.lowering.specs.Rerun.{rerun, complexify}
-use Rattle.lowering.specs.Labels.{role, Standing, passed}
-use Rattle.lowering.specs.Lower.{Ended, ended, past, lowerFrom}
+use Rattle.lowering.specs.Labels.{role, Standing, noneStanding, passed}
+use Rattle.lowering.specs.Lower.{Ended, ended, past, lowerFrom, startState, lowerSheet, listed}
 use Rattle.lowering.proofs.Tests.{by-tests}
+use Rattle.complexify.specs.declared.entry.LowerAnswer.{LowerAnswer}
+use Rattle.complexify.specs.Entry.{answerOf}
 
 -- the first `count` are finished
 pub record Finished (mode : Mode) (room : ℕ) (is : List Instruction) (index : ℕ) (bytes : List ℕ) (s : State) (e : Ended) : Type 0 where
@@ -60,3 +64,28 @@ finished mode room (i ∷ is) fault rest b index bytes s h =
 
     on : Ended
     on = lowerFrom mode room is fault (past rest) (passed (role i) (s .real) b) (suc index) (bytes ++ new) (o .after)
+
+-- the answer where the setup is right
+abbrev pub right-answer : List ℕ → ℕ → LowerAnswer
+right-answer sheet room = let e = lowerSheet sheet room in answerOf (listed sheet (e .index)) e
+
+-- a sheet's lowering, after as many instructions as its index says
+module _ (sheet : List ℕ) (room : ℕ) where
+  pub ends :
+      let u = setup sheet in
+      Finished (u .mode) room (instructions (u .count) (drop (u .start) sheet) .items) 0 [] (startState (u .places) (constantsOf sheet (u .count)))
+      (lowerSheet sheet room)
+  unfolding lowerSheet
+  ends =
+      let u = setup sheet in
+      let rest = drop (u .start) sheet in
+      let d = instructions (u .count) rest in
+      finished (u .mode) room (d .items) (d .fault) rest noneStanding 0 [] (startState (u .places) (constantsOf sheet (u .count))) (omega arith)
+
+  pub counted : ends .count ≡ lowerSheet sheet room .index
+  counted = let e = ends .at in omega (arith, e)
+
+  -- its bytes are those of the records that these list
+  pub listed-bytes : lowerSheet sheet room .bytes ≡ encodeAll (listed sheet (lowerSheet sheet room .index))
+  unfolding listed
+  listed-bytes = ends .listing ∙ ap (λ n. encodeAll (listed sheet n)) counted

@@ -1,0 +1,5 @@
+pub mod Arrays
+pub mod Rows
+pub mod Records
+pub mod Directing
+pub mod Passing
