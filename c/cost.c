@@ -8,13 +8,13 @@
 
 enum { ROUNDS = 8000, CALLS = 100 };
 
-static uint8_t store[TULIPCRICKET_STORE], listing[64], constants[TULIPCRICKET_CONSTANTS], lowered[TULIPCRICKET_LOWER_ANSWER],
+static uint8_t store[TULIPCRICKET_STORE], listing[64], constants[TULIPCRICKET_CONSTANTS], origins[TULIPCRICKET_ORIGINS], lowered[TULIPCRICKET_LOWER_ANSWER],
     played[TULIPCRICKET_PLAY_ANSWER];
 static const uint8_t sheet[] = {69, 0, 32, 0, 0, [69] = 8, 0, 2, 0, 2, 0, 1, 2}; /* Times 0, 1, 2 */
 static const uint8_t product[] = {8, 0, 2, 0, 2, 4, 6, 8};                       /* Times G4 G6 G8 */
 
 #define CALL_LOWER(function, length)                                                                                     \
-    function(sheet, length, listing, sizeof listing, constants, sizeof constants, lowered, sizeof lowered)
+    function(sheet, length, listing, sizeof listing, constants, sizeof constants, origins, sizeof origins, lowered, sizeof lowered)
 #define CALL_PLAY(function, length) function(product, sizeof product, constants, 0, store, length, 0, played, sizeof played)
 
 static void refused_lower(void) { CALL_LOWER(tulipcricket_lower, 68); }

@@ -199,23 +199,27 @@ static const uint8_t listed[] = {7, 0, 6, 0, 4, 0, 0, 9, 0, 11, 0, 6, 7, 1, 3, 0
 static void lower(const Environment *e) {
     uint8_t listing[64], listing_after[sizeof listing];
     uint64_t constants[TULIPCRICKET_CONSTANTS / 8], constants_after[TULIPCRICKET_CONSTANTS / 8];
-    uint8_t answer[TULIPCRICKET_LOWER_ANSWER];
+    uint8_t origins[TULIPCRICKET_ORIGINS], origins_after[TULIPCRICKET_ORIGINS], answer[TULIPCRICKET_LOWER_ANSWER];
     static const uint8_t expected[TULIPCRICKET_LOWER_ANSWER] = {
         [8] = 4, [16] = sizeof listed, [24] = 1, [128 + 4] = 1, 1, 1, 1}; /* filled: G4 to G7; drawn on: nothing */
     memset(listing, LENT, sizeof listing);
     memset(constants, LENT, sizeof constants);
+    memset(origins, LENT, sizeof origins);
     memset(answer, LENT, sizeof answer);
     memcpy(listing_after, listing, sizeof listing);
     memcpy(listing_after, listed, sizeof listed);
     memcpy(constants_after, constants, sizeof constants);
     constants_after[0] = 0x4000000000000000;
+    memcpy(origins_after, origins, sizeof origins);
+    memset(origins_after, 0xff, 2); /* the sheet's own */
     enter(e);
     uint32_t number = tulipcricket_lower(sheet, sizeof sheet, listing, sizeof listing, (uint8_t *)constants, sizeof constants,
-                                         answer, sizeof answer);
+                                         origins, sizeof origins, answer, sizeof answer);
     kept(e, "tulipcricket_lower", leave());
     holds(e, "the sheet's answer", number == 0 && memcmp(answer, expected, sizeof answer) == 0);
     holds(e, "the sheet's listing", memcmp(listing, listing_after, sizeof listing) == 0);
     holds(e, "the sheet's constants", memcmp(constants, constants_after, sizeof constants) == 0);
+    holds(e, "the constants' origins", memcmp(origins, origins_after, sizeof origins) == 0);
 }
 
 /* The nearest of two points to an answer: each would be another one in some other environment. */
@@ -310,23 +314,26 @@ static void every(void) {
 /* Empty slices at NULL. */
 static void empty(void) {
     static const Environment e = {"empty", USUAL, X87_USUAL};
-    static uint8_t store[TULIPCRICKET_STORE], constants[TULIPCRICKET_CONSTANTS], zeros[TULIPCRICKET_STORE];
+    static uint8_t store[TULIPCRICKET_STORE], constants[TULIPCRICKET_CONSTANTS], origins[TULIPCRICKET_ORIGINS], zeros[TULIPCRICKET_STORE];
     uint8_t *volatile nowhere = NULL;
     uint8_t *none = nowhere;
     static const uint8_t wrong[TULIPCRICKET_LOWER_ANSWER] = {8};
     uint8_t answer[TULIPCRICKET_LOWER_ANSWER], end[TULIPCRICKET_PLAY_ANSWER];
     memset(answer, LENT, sizeof answer);
     memset(end, LENT, sizeof end);
-    holds(&e, "lower of nothing at all", tulipcricket_lower(none, 0, none, 0, none, 0, none, 0) == 8);
+    holds(&e, "lower of nothing at all", tulipcricket_lower(none, 0, none, 0, none, 0, none, 0, none, 0) == 8);
     holds(&e, "play of nothing at all", tulipcricket_play(none, 0, none, 0, none, 0, 0, none, 0) == 8);
     holds(&e, "lower of no sheet",
-          tulipcricket_lower(none, 0, none, 0, constants, sizeof constants, answer, sizeof answer) == 8 &&
+          tulipcricket_lower(none, 0, none, 0, constants, sizeof constants, origins, sizeof origins, answer, sizeof answer) == 8 &&
               memcmp(answer, wrong, sizeof answer) == 0);
     holds(&e, "lower of a header into no room",
-          tulipcricket_lower(sheet, 69, none, 0, constants, sizeof constants, answer, sizeof answer) == 0 &&
+          tulipcricket_lower(sheet, 69, none, 0, constants, sizeof constants, origins, sizeof origins, answer, sizeof answer) == 0 &&
               memcmp(answer, zeros, sizeof answer) == 0);
     holds(&e, "lower with no constants",
-          tulipcricket_lower(sheet, 69, none, 0, none, 0, answer, sizeof answer) == 8 &&
+          tulipcricket_lower(sheet, 69, none, 0, none, 0, origins, sizeof origins, answer, sizeof answer) == 8 &&
+              memcmp(answer, wrong, sizeof answer) == 0);
+    holds(&e, "lower with no origins",
+          tulipcricket_lower(sheet, 69, none, 0, constants, sizeof constants, none, 0, answer, sizeof answer) == 8 &&
               memcmp(answer, wrong, sizeof answer) == 0);
     holds(&e, "play on no store",
           tulipcricket_play(none, 0, none, 0, none, 0, 0, end, sizeof end) == 8 && memcmp(end, wrong, sizeof end) == 0);
@@ -348,7 +355,8 @@ static void empty(void) {
     holds(&e, "shelf of no sheet",
           tulipcricket_shelf(none, 0, answer, TULIPCRICKET_SHELF_ANSWER) == 8 && memcmp(answer, wrong, TULIPCRICKET_SHELF_ANSWER) == 0);
     holds(&e, "nothing else is written",
-          memcmp(store, zeros, sizeof store) == 0 && memcmp(constants, zeros, sizeof constants) == 0);
+          memcmp(store, zeros, sizeof store) == 0 && memcmp(constants, zeros, sizeof constants) == 0 &&
+              memcmp(origins, zeros, sizeof origins) == 0);
 }
 
 int main(int count, char **arguments) {

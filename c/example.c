@@ -9,7 +9,7 @@
 static const uint8_t sheet[] = {
     69, 0, 32, 0, 0, [69] = 12, 0, 33, 0, 0, 0, 0, 0, 0, 0, 0, 0x40,
     7, 0, 6, 0, 0, 0, 0, 8, 0, 4, 0, 1, 1, 3, 0, 8, 0, 2, 0, 2, 0, 0, 1, 8, 0, 5, 0, 0, 1, 4, 0};
-static uint8_t listing[TULIPCRICKET_LISTING_LIMIT], constants[TULIPCRICKET_CONSTANTS];
+static uint8_t listing[TULIPCRICKET_LISTING_LIMIT], constants[TULIPCRICKET_CONSTANTS], origins[TULIPCRICKET_ORIGINS];
 static uint64_t store[TULIPCRICKET_STORE / 8];
 
 static size_t mem(size_t i) { return 66 + 512 + 2 * i; }
@@ -19,7 +19,8 @@ int main(void) {
     uint64_t lowered[4], looked[TULIPCRICKET_LOOK_ANSWER / 8], played[TULIPCRICKET_PLAY_ANSWER / 8];
     double in[2] = {3, 4}, out[2];
     int drawn = 0;
-    if (tulipcricket_lower(sheet, sizeof sheet, listing, sizeof listing, constants, sizeof constants, answer, sizeof answer) != 0)
+    if (tulipcricket_lower(sheet, sizeof sheet, listing, sizeof listing, constants, sizeof constants, origins, sizeof origins, answer,
+                           sizeof answer) != 0)
         return 1;
     memcpy(lowered, answer, sizeof lowered); /* x86-64 has the lowest byte first too */
     for (size_t i = 0; i < 66; i++) drawn += answer[194 + i];

@@ -57,8 +57,9 @@ static uint8_t nothing;
     return number
 
 uint32_t tulipcricket_lower(const uint8_t *sheet, size_t sheet_len, uint8_t *listing, size_t listing_len,
-                            uint8_t *constants, size_t constants_len, uint8_t *answer, size_t answer_len) {
-    GUARDED(tulipcricket_lower_unguarded(SLICE(sheet), SLICE(listing), SLICE(constants), SLICE(answer)));
+                            uint8_t *constants, size_t constants_len, uint8_t *origins, size_t origins_len,
+                            uint8_t *answer, size_t answer_len) {
+    GUARDED(tulipcricket_lower_unguarded(SLICE(sheet), SLICE(listing), SLICE(constants), SLICE(origins), SLICE(answer)));
 }
 
 uint32_t tulipcricket_play(const uint8_t *listing, size_t listing_len, const uint8_t *constants, size_t constants_len,

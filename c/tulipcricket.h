@@ -34,6 +34,7 @@ enum {
     TULIPCRICKET_INSTRUCTIONS_LIMIT = 612,  /* instructions of a sheet, which then has at most 9,201 bytes */
     TULIPCRICKET_LISTING_LIMIT = 65536,  /* bytes of a listing */
     TULIPCRICKET_CONSTANTS = 2048,       /* bytes of the constants: 256 words */
+    TULIPCRICKET_ORIGINS = 512,          /* bytes of the constants' origins: 256 numbers of two */
     TULIPCRICKET_STORE = 12816,          /* bytes of a store: 1,602 words */
     TULIPCRICKET_LOWER_ANSWER = 260,
     TULIPCRICKET_PLAY_ANSWER = 24,
@@ -52,12 +53,14 @@ const char *tulipcricket_version(void);
 /* The word of a number that a function returned, such as "torn record" for 1; "unknown number" for one that none returns. */
 const char *tulipcricket_word(uint32_t number);
 
-/* Lowers a sheet to a listing and its constants.
+/* Lowers a sheet to a listing and its constants, with the origin of each constant.
  *
  * sheet      header (69 bytes), constants (12 bytes each, at most 251), instructions, at most 612: any byte behind these is 14 at index
  *            612, whatever it is. Labels are looked for past them, so that a sheet takes time in proportion to its bytes.
  * listing    the room for the listing, up to 65,536 bytes.
  * constants  2,048 bytes.
+ * origins    512 bytes, two for each constant, the lower first: the index of the instruction that first appended it, or 65,535 of one from the
+ *            sheet, also where an instruction asks for it.
  * answer     260 bytes:
  *              0  number
  *              8  index: of the refused instruction; accepted, the count of instructions
@@ -75,13 +78,14 @@ const char *tulipcricket_word(uint32_t number);
  * stores must agree in the marked registers too. A mark does not say that two plays differ: no play may go that way, or what it draws on may
  * not matter.
  *
- * Refused by 1 to 7, 10, 11 or 14: the listing and the constants of the instructions before the refused one are written, and the answer is
- * theirs, marks too. Such a listing is played only if it has the label of each of its branches.
- * Bytes of the listing past those written, and constants past those counted, are always as lent.
- * Refused by 8: listing and constants are as lent, and the answer is 8 and zeros; but where the answer is not 260 bytes, it is as lent
+ * Refused by 1 to 7, 10, 11 or 14: the listing, the constants and the origins of the instructions before the refused one are written, and the
+ * answer is theirs, marks too. Such a listing is played only if it has the label of each of its branches.
+ * Bytes of the listing past those written, and constants and origins past those counted, are always as lent.
+ * Refused by 8: listing, constants and origins are as lent, and the answer is 8 and zeros; but where the answer is not 260 bytes, it is as lent
  * too. */
 uint32_t tulipcricket_lower(const uint8_t *sheet, size_t sheet_len, uint8_t *listing, size_t listing_len,
-                            uint8_t *constants, size_t constants_len, uint8_t *answer, size_t answer_len);
+                            uint8_t *constants, size_t constants_len, uint8_t *origins, size_t origins_len,
+                            uint8_t *answer, size_t answer_len);
 
 /* Plays a listing on a store, from the record `start` on.
  *

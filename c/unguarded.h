@@ -23,7 +23,8 @@ extern "C" {
 
 TULIPCRICKET_NONNULL
 uint32_t tulipcricket_lower_unguarded(const uint8_t *sheet, size_t sheet_len, uint8_t *listing, size_t listing_len,
-                                      uint8_t *constants, size_t constants_len, uint8_t *answer, size_t answer_len);
+                                      uint8_t *constants, size_t constants_len, uint8_t *origins, size_t origins_len,
+                                      uint8_t *answer, size_t answer_len);
 
 TULIPCRICKET_NONNULL
 uint32_t tulipcricket_play_unguarded(const uint8_t *listing, size_t listing_len, const uint8_t *constants,

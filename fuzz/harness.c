@@ -68,20 +68,22 @@ static int same(const Lent *lent, const uint8_t *bytes) {
 /* Lowering */
 
 typedef struct {
-    Lent sheet, listing, constants, answer;
+    Lent sheet, listing, constants, origins, answer;
     uint32_t number;
 } Lowering;
 
-static void lower(Lowering *l, const uint8_t *sheet, const size_t lengths[4], uint8_t fill) {
+static void lower(Lowering *l, const uint8_t *sheet, const size_t lengths[5], uint8_t fill) {
     lend_copy(&l->sheet, sheet, lengths[0], fill);
     lend(&l->listing, lengths[1], fill);
     lend(&l->constants, lengths[2], fill);
-    lend(&l->answer, lengths[3], fill);
+    lend(&l->origins, lengths[3], fill);
+    lend(&l->answer, lengths[4], fill);
     l->number = tulipcricket_lower(l->sheet.at, l->sheet.length, l->listing.at, l->listing.length, l->constants.at,
-                                   l->constants.length, l->answer.at, l->answer.length);
+                                   l->constants.length, l->origins.at, l->origins.length, l->answer.at, l->answer.length);
     take_back(&l->sheet, fill);
     take_back(&l->listing, fill);
     take_back(&l->constants, fill);
+    take_back(&l->origins, fill);
     take_back(&l->answer, fill);
     HOLDS((l->number <= 11 && l->number != 9) || l->number == 14);
     HOLDS(same(&l->sheet, sheet));
@@ -109,6 +111,7 @@ static void refused_setup(const Lowering *l, uint8_t fill) {
     HOLDS(l->number == 8);
     HOLDS(filled(l->listing.at, l->listing.length, fill));
     HOLDS(filled(l->constants.at, l->constants.length, fill));
+    HOLDS(filled(l->origins.at, l->origins.length, fill));
     if (l->answer.length != TULIPCRICKET_LOWER_ANSWER) {
         HOLDS(filled(l->answer.at, l->answer.length, fill));
     } else {
@@ -160,6 +163,17 @@ static void are_marks(const Lowering *l) {
     for (size_t i = 0; i < REGISTERS; i++) HOLDS(answer[FILLED + i] <= written[i] && answer[DRAWN + i] <= drawn[i]);
 }
 
+/* The sheet's constants have no instruction; the others go up, below the answer's index; past the count they are as lent. */
+static void are_origins(const Lowering *l, uint64_t own, uint8_t fill) {
+    uint64_t count = word_at(l->answer.at + 24), last = 0;
+    for (uint64_t i = 0; i < count; i++) {
+        uint64_t origin = two(l->origins.at + 2 * i);
+        HOLDS(i < own ? origin == 0xffff : origin >= last && origin < word_at(l->answer.at + 8));
+        if (i >= own) last = origin;
+    }
+    HOLDS(filled(l->origins.at + 2 * count, l->origins.length - 2 * count, fill));
+}
+
 /* What holds of every answer whose setup was not refused. */
 static void answered(const Lowering *l, int own, uint8_t fill) {
     const uint8_t *answer = l->answer.at, *sheet = l->sheet.at;
@@ -179,6 +193,7 @@ static void answered(const Lowering *l, int own, uint8_t fill) {
         HOLDS(memcmp(l->constants.at + 8 * i, sheet + HEADER_LENGTH + i * CONSTANT_LENGTH + 4, 8) == 0);
     for (int i = 32; i < 64; i++) HOLDS(answer[i] <= 1);
     are_marks(l);
+    are_origins(l, (uint64_t)own, fill);
     for (int i = 0; i < 32; i++) HOLDS((answer[64 + i] & ~sheet[5 + i]) == 0);
     HOLDS(memcmp(answer + 96, sheet + 37, 32) == 0);
 }
@@ -191,6 +206,7 @@ static void agrees(const Lowering *l, const Lowering *whole) {
     HOLDS(word_at(answer + 16) <= word_at(other + 16) && word_at(answer + 24) <= word_at(other + 24));
     HOLDS(memcmp(l->listing.at, whole->listing.at, word_at(answer + 16)) == 0);
     HOLDS(memcmp(l->constants.at, whole->constants.at, 8 * word_at(answer + 24)) == 0);
+    HOLDS(memcmp(l->origins.at, whole->origins.at, 2 * word_at(answer + 24)) == 0);
     for (size_t i = 0; i < REGISTERS; i++) HOLDS(answer[DRAWN + i] <= other[DRAWN + i]);
 }
 
@@ -586,13 +602,14 @@ static size_t room(size_t number) { return number == 0xffff ? 65536 : number == 
 
 static void fuzz_lower(const uint8_t *data, size_t size) {
     static Lowering small, whole;
-    size_t lengths[4] = {size - LOWER_HEAD, room(two(data + 2)),
+    size_t lengths[5] = {size - LOWER_HEAD, room(two(data + 2)),
                          lent_length(data[1], 0, TULIPCRICKET_CONSTANTS, 8),
+                         lent_length(data[1], 2, TULIPCRICKET_ORIGINS, 2),
                          lent_length(data[1], 1, TULIPCRICKET_LOWER_ANSWER, 8)};
     lower(&small, data + LOWER_HEAD, lengths, 0xa5);
     int own = own_constants(small.sheet.at, small.sheet.length);
     if (own < 0 || lengths[1] > TULIPCRICKET_LISTING_LIMIT || lengths[2] != TULIPCRICKET_CONSTANTS ||
-        lengths[3] != TULIPCRICKET_LOWER_ANSWER) {
+        lengths[3] != TULIPCRICKET_ORIGINS || lengths[4] != TULIPCRICKET_LOWER_ANSWER) {
         refused_setup(&small, 0xa5);
         return;
     }

@@ -1,8 +1,9 @@
 //! The C functions of libtulipcricket.a, behind the same entries as the reference.
 
-use crate::format::{word, SETUP};
+use crate::format::{two, word, SETUP, STABLE};
 use crate::lists::LENT;
 use crate::machine::Machine;
+use crate::make;
 use crate::marks::{Marks, REGISTERS};
 use crate::player::Played;
 use crate::reference::{Answer, Realness};
@@ -15,6 +16,8 @@ extern "C" {
         listing_len: usize,
         constants: *mut u8,
         constants_len: usize,
+        origins: *mut u8,
+        origins_len: usize,
         answer: *mut u8,
         answer_len: usize,
     ) -> u32;
@@ -69,10 +72,13 @@ extern "C" {
 }
 
 pub const LOWER_ANSWER: usize = 260;
+/// Bytes of the origins, and of those on either side of them that must be as lent.
+pub const ORIGINS: usize = 512;
+const AROUND: usize = 64;
 const PLAY_ANSWER: usize = 24;
 
 /// `tulipcricket_lower` over slices; the number it returns.
-pub fn lower(sheet: &[u8], listing: &mut [u8], constants: &mut [u8], answer: &mut [u8]) -> u32 {
+pub fn lower(sheet: &[u8], listing: &mut [u8], constants: &mut [u8], origins: &mut [u8], answer: &mut [u8]) -> u32 {
     // SAFETY: each pointer comes with the length of the slice it was taken from, and the function keeps none.
     unsafe {
         tulipcricket_lower(
@@ -82,6 +88,8 @@ pub fn lower(sheet: &[u8], listing: &mut [u8], constants: &mut [u8], answer: &mu
             listing.len(),
             constants.as_mut_ptr(),
             constants.len(),
+            origins.as_mut_ptr(),
+            origins.len(),
             answer.as_mut_ptr(),
             answer.len(),
         )
@@ -177,12 +185,20 @@ fn flags<const N: usize>(bytes: &[u8], at: usize) -> [bool; N] {
     })
 }
 
-/// The 260 bytes of a lowering's answer.
-fn lowered(number: u32, bytes: &[u8]) -> Answer {
+/// The origins of the constants counted; those past them, and all on a refusal by 8, are as lent.
+fn origins_of(bytes: &[u8], count: usize) -> Vec<u16> {
+    assert!(kept(&[&bytes[2 * count..]]), "an origin past the count is written");
+    (0..count).map(|i| two(bytes, 2 * i)).collect()
+}
+
+/// The 260 bytes of a lowering's answer, and the origins.
+fn lowered(number: u32, bytes: &[u8], origins: &[u8]) -> Answer {
     assert_eq!(number as u64, word(bytes, 0), "the returned number is the answer's");
     let realness = Realness { registers: flags(bytes, 32), places: bytes[64..128].try_into().unwrap() };
     let marks = Marks { filled: flags(bytes, 128), drawn: flags(bytes, 128 + REGISTERS) };
-    Answer { number, index: word(bytes, 8), written: word(bytes, 16), count: word(bytes, 24), realness, marks }
+    let [index, written, count] = [8, 16, 24].map(|at| word(bytes, at));
+    let origins = origins_of(origins, count as usize);
+    Answer { number, index, written, count, realness, marks, origins }
 }
 
 /// The library that is linked.
@@ -191,10 +207,13 @@ pub struct Linked;
 impl Machine for Linked {
     fn lower(&self, sheet: &[u8], listing: &mut [u8], constants: &mut [u64]) -> Answer {
         let mut table = to_bytes(constants);
-        let mut answer = [LENT; LOWER_ANSWER];
-        let number = lower(sheet, listing, &mut table, &mut answer);
+        let (mut lent, mut answer) = ([LENT; AROUND + ORIGINS + AROUND], [LENT; LOWER_ANSWER]);
+        let (before, rest) = lent.split_at_mut(AROUND);
+        let (origins, behind) = rest.split_at_mut(ORIGINS);
+        let number = lower(sheet, listing, &mut table, origins, &mut answer);
         from_bytes(&table, constants);
-        lowered(number, &answer)
+        assert!(kept(&[before, behind]), "a byte beside the origins is written");
+        lowered(number, &answer, origins)
     }
 
     fn play(&self, listing: &[u8], constants: &[u64], store: &mut [u64], start: u64) -> Played {
@@ -213,16 +232,19 @@ fn kept(slices: &[&[u8]]) -> bool {
     slices.iter().all(|s| s.iter().all(|b| *b == LENT))
 }
 
-/// `tulipcricket_lower` of the empty sheet is refused by 8; it fills the answer unless that has another length.
-fn wrong_lower(constants: usize, length: usize) -> Option<String> {
+/// `tulipcricket_lower` of a sheet and slices by which it is refused by 8; it fills the answer unless that has another length.
+fn wrong_lower(sheet: &[u8], constants: usize, origins: usize, length: usize) -> Option<String> {
     let (mut listing, mut table, mut answer) = (vec![LENT; 64], vec![LENT; constants], vec![LENT; length]);
-    let number = lower(&[], &mut listing, &mut table, &mut answer);
+    let mut lent = vec![LENT; origins];
+    let number = lower(sheet, &mut listing, &mut table, &mut lent, &mut answer);
     let expected = [&(SETUP as u64).to_le_bytes()[..], &[0; LOWER_ANSWER - 8]].concat();
     let told = if length == LOWER_ANSWER { answer == expected } else { kept(&[&answer]) };
-    if number == SETUP && told && kept(&[&listing, &table]) {
+    if number == SETUP && told && kept(&[&listing, &table, &lent]) {
         return None;
     }
-    Some(format!("lower with {constants} bytes of constants and {length} of answer: {number}, {answer:?}"))
+    Some(format!(
+        "lower with {constants} bytes of constants, {origins} of origins and {length} of answer: {number}, {answer:?}"
+    ))
 }
 
 /// The same of `tulipcricket_play` with a store of another length.
@@ -243,7 +265,11 @@ fn wrong_play(constants: usize, words: usize, length: usize) -> Option<String> {
 pub fn wrong_lengths() -> Vec<String> {
     let mut found = Vec::new();
     for constants in [0, 8, 2040, 2047, 2048, 2049, 2056] {
-        found.extend([0, 128, 259, 260, 261, 520].map(|length| wrong_lower(constants, length)));
+        found.extend([0, 128, 259, 260, 261, 520].map(|length| wrong_lower(&[], constants, ORIGINS, length)));
+    }
+    let empty = make::header(STABLE, &[0; 64]);
+    for origins in [0, 1, 2, 256, 510, 511, 513, 514, 1024] {
+        found.extend([0, 260].map(|length| wrong_lower(&empty, 2048, origins, length)));
     }
     for constants in [0, 7, 8, 9, 2047, 2048, 2056] {
         for words in [0, 8, 12_808, 12_815, 12_817, 12_824] {

@@ -1,6 +1,6 @@
 //! Document 01's lowering with document 02's branches, its limit of 612 instructions, its mode 2 and its marks: the wrapper written from their
 //! rules, around the Rust's own `complexify`; in mode 2 Half and a Divide into Temp are listed by the Rust's methods in the order that document
-//! 02 gives; the marks are those of the Rust's listing.
+//! 02 gives; the marks are those of the Rust's listing, and a constant's origin is the instruction by which the Rust made its constants longer.
 
 use std::cell::Cell;
 use std::collections::HashSet;
@@ -79,12 +79,17 @@ pub struct Answer {
     pub count: u64,
     pub realness: Realness,
     pub marks: Marks,
+    /// Of each constant counted the instruction that first appended it, or `FROM_THE_SHEET`.
+    pub origins: Vec<u16>,
 }
+
+/// The origin of the sheet's own constants.
+pub const FROM_THE_SHEET: u16 = 65_535;
 
 impl Answer {
     fn setup() -> Answer {
         let realness = Realness::all_complex();
-        Answer { number: SETUP, index: 0, written: 0, count: 0, realness, marks: Marks::none() }
+        Answer { number: SETUP, index: 0, written: 0, count: 0, realness, marks: Marks::none(), origins: Vec::new() }
     }
 }
 
@@ -418,6 +423,7 @@ struct Work {
     complexifier: Complexifier,
     finished: Vec<Instruction>,
     constants: Vec<u64>,
+    origins: Vec<u16>,
     listing: Vec<u8>,
     records: usize,
     realness: Realness,
@@ -454,6 +460,7 @@ impl Work {
             complexifier,
             finished: Vec::new(),
             constants: sheet.constants.clone(),
+            origins: vec![FROM_THE_SHEET; sheet.constants.len()],
             listing: Vec::new(),
             records: 0,
             branches: Vec::new(),
@@ -485,6 +492,7 @@ impl Work {
         self.listing.extend(bytes);
         self.records += listed.records.len();
         self.constants = listed.constants;
+        self.origins.resize(self.constants.len(), self.finished.len() as u16);
         if let Instruction::Branch { label } | Instruction::BranchIf { label, .. } = &instruction {
             self.branches.push((label.clone(), self.realness.clone()));
         }
@@ -571,6 +579,7 @@ pub fn lower_with_points(sheet: &[u8], listing: &mut [u8], constants: &mut [u64]
         count: work.constants.len() as u64,
         realness: work.realness,
         marks: marks::of(&work.listing),
+        origins: work.origins,
     };
     (answer, points)
 }

@@ -39,7 +39,7 @@ fn setup_changes_nothing() {
     for sheet in [&[], short, &long_header, &other_kind, &fourth_mode] {
         let (answer, listing, constants) = lowered(sheet, 100);
         let (realness, marks) = (Realness::all_complex(), Marks::none());
-        let expected = Answer { number: SETUP, index: 0, written: 0, count: 0, realness, marks };
+        let expected = Answer { number: SETUP, index: 0, written: 0, count: 0, realness, marks, origins: vec![] };
         assert_eq!(answer, expected);
         assert_eq!((listing, constants), (vec![9; 100], vec![9; TABLE]));
     }

@@ -62,6 +62,17 @@ class Functions(unittest.TestCase):
         answer = library.lower(SHEET[:88])
         self.assertEqual((answer.number, answer.index, answer.real_registers[0], answer.listing), (0, 1, True, LISTING[:7]))
 
+    def test_origins(self) -> None:
+        """The sheet's own constant; and of a stable Abs the two that it appends, where infinity stands already."""
+        self.assertEqual((library.lower(SHEET).origins, Sheet(SHEET).origins()), (b"\xff\xff", (None,)))
+        head = bytes([69, 0, 32, 0, 1]) + bytes(64) + bytes.fromhex("0c002100000000000000f07f")
+        sheet = head + bytes.fromhex("04000000" "07000100020100" "07000100020200")
+        self.assertEqual(library.lower(sheet).constants.hex(), "000000000000f07f" "0000000000002000" "000000000000e07f")
+        self.assertEqual(Sheet(sheet).origins(), (None, 1, 1))
+        refused = library.lower(head + bytes.fromhex("04000000" "07000100020100" "00"))
+        self.assertEqual((refused.number, refused.index, refused.origins.hex()), (1, 2, "ffff" "0100" "0100"))
+        self.assertEqual(library.lower(b"").origins, b"")
+
     def test_drawn_on(self) -> None:
         """Save 0, Mem 4 alone draws on G4 and G5, and so does what stands before a refusal; Save 30 on Ret and Temp; 8 draws on nothing."""
         head, save = SHEET[:69], SHEET[-8:]

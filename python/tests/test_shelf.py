@@ -67,8 +67,8 @@ class Folders(Shelves):
     def test_files(self) -> None:
         """The files, and that the same scan gives the same bytes."""
         one, other = self.shelved("one"), self.shelved("other")
-        names = {"formula", "given.csv", "sheet", "listing", "constants", "before", "points", "z.csv", "LEGEND", "VERSION", "SHELF.txt",
-                 "SHEET.txt", "player.py", "CHECK.txt", "MANIFEST"}
+        names = {"formula", "given.csv", "sheet", "listing", "constants", "origins", "before", "points", "z.csv", "LEGEND", "VERSION",
+                 "SHELF.txt", "SHEET.txt", "player.py", "CHECK.txt", "MANIFEST"}
         self.assertLessEqual(names, set(os.listdir(one)))
         self.assertEqual([name for name in os.listdir(self.room) if name.startswith(".")], [])
         for name in sorted(names - {"MANIFEST", "LEGEND", "CHECK.txt"}):
@@ -76,6 +76,7 @@ class Folders(Shelves):
         self.assertEqual((one / "formula").read_text(), FORMULA)
         self.assertEqual((one / "given.csv").read_text(), TABLE)
         self.assertEqual((one / "before").read_bytes(), bytes(12816))
+        self.assertEqual((one / "origins").read_bytes(), library.lower((one / "sheet").read_bytes()).origins)
         self.assertEqual((one / "player.py").read_bytes(), (HERE.parent.parent / "drill" / "player.py").read_bytes())
 
     def test_points(self) -> None:

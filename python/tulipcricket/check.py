@@ -125,11 +125,7 @@ def check_sheet(report: Report, folder: Folder) -> None:
     if folder.has("LEGEND"):
         check_drawn(report, folder.read("LEGEND", MOST_TEXT).decode(errors="replace"), lowered.drawn)
     if folder.has("origins"):
-        made = kept.origins(sheet)
-        if made is None:
-            report.not_repeated("origins: this library does not make them")
-        else:
-            report.compare(made, folder.read("origins", MOST_TEXT), "origins", "the sheet, lowered again, gives them")
+        report.compare(lowered.origins, folder.read("origins", library.ORIGINS), "origins", "the sheet, lowered again, gives them")
 
 
 def check_drawn(report: Report, legend: str, drawn: Sequence[int]) -> None:

@@ -64,10 +64,9 @@ def pages(listing: bytes, constants: bytes) -> bytes:
     return library.pages(listing, constants).encode()
 
 
-def origins(sheet: bytes) -> Optional[bytes]:
-    """Where each constant came from (the file origins); None, since the library has no such function yet."""
-    del sheet
-    return None
+def origins(sheet: bytes) -> bytes:
+    """Where each constant came from (the file origins): two bytes each, as lowering gives them."""
+    return library.lower(sheet).origins
 
 
 def drawn_on(sheet: bytes) -> Tuple[int, ...]:

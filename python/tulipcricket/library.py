@@ -17,6 +17,7 @@ LONGEST_SHEET = 9201
 """Bytes of the longest sheet that is accepted."""
 LISTING_LIMIT = 65536
 CONSTANTS = 2048
+ORIGINS = 512
 STORE = 12816
 LOWER_ANSWER = 260
 PLAY_ANSWER = 24
@@ -40,7 +41,7 @@ _TEXTS = {
 _SLICE = [ctypes.c_char_p, ctypes.c_size_t]
 _WORD = [ctypes.c_uint64]
 _ARGUMENTS = {
-    "lower": _SLICE * 4,
+    "lower": _SLICE * 5,
     "play": _SLICE * 3 + _WORD + _SLICE,
     "peak": _SLICE + _WORD + _SLICE,
     "nearest": _WORD * 2 + _SLICE * 2,
@@ -96,7 +97,7 @@ def word(number: int) -> str:
 @dataclass(frozen=True)
 class Lowered:
     """What lowering gives back; `filled` and `drawn` are registers of the listing by number, filled at its end and drawn on before being
-    filled."""
+    filled; `origins` has two bytes for each constant, the instruction that first appended it, or 65535 of one from the sheet."""
 
     number: int
     index: int
@@ -106,6 +107,7 @@ class Lowered:
     real_places: bytes
     filled: Tuple[int, ...]
     drawn: Tuple[int, ...]
+    origins: bytes
 
 
 def marked(marks: bytes) -> Tuple[int, ...]:
@@ -117,12 +119,13 @@ def lower(sheet: bytes, room: int = LISTING_LIMIT) -> Lowered:
     """tulipcricket_lower with room for a listing of so many bytes; a refusal is an answer here, not an exception."""
     listing = ctypes.create_string_buffer(max(room, 1))
     constants = ctypes.create_string_buffer(CONSTANTS)
+    origins = ctypes.create_string_buffer(ORIGINS)
     answer = ctypes.create_string_buffer(LOWER_ANSWER)
-    library().tulipcricket_lower(sheet, len(sheet), listing, room, constants, CONSTANTS, answer, LOWER_ANSWER)
+    library().tulipcricket_lower(sheet, len(sheet), listing, room, constants, CONSTANTS, origins, ORIGINS, answer, LOWER_ANSWER)
     number, index, length, count = struct.unpack_from("<4Q", answer.raw)
     flags, places, filled, drawn = struct.unpack_from("<32s64s66s66s", answer.raw, 32)
     return Lowered(number, index, listing.raw[:length], constants.raw[: 8 * count], tuple(map(bool, flags)), places,
-                   marked(filled), marked(drawn))
+                   marked(filled), marked(drawn), origins.raw[: 2 * count])
 
 
 @dataclass(frozen=True)

@@ -15,6 +15,8 @@ from .words import double_of, hexadecimal, word_of
 Number = Union[int, float, complex]
 
 WORDS = library.STORE // 8
+FROM_THE_SHEET = 65535
+"""The origin of a constant from the sheet."""
 _NAME = re.compile(r"(Stack|Mem|Param) (\d+)\Z|G(\d+)\Z|(Ret|Temp)\Z", re.ASCII)
 _CLASSES = ("Stack", "Mem", "Param")
 
@@ -143,6 +145,12 @@ class Sheet:
         """The registers that the listing draws on before it fills them, by name. Where there is none, plays from record 0 on stores with
         equal places end with equal places; else where these registers are equal too. Raises Refused."""
         return tuple(map(name_of, self._lowered(library.LISTING_LIMIT).drawn))
+
+    def origins(self) -> Tuple[Optional[int], ...]:
+        """Of each constant of the listing the instruction that first appended it; None of one from the sheet. Raises Refused."""
+        answer = self._lowered(library.LISTING_LIMIT)
+        numbers = struct.unpack(f"<{len(answer.origins) // 2}H", answer.origins)
+        return tuple(None if number == FROM_THE_SHEET else number for number in numbers)
 
     def shelf(self) -> library.Shelf:
         """How much shelf the sheet takes, with no listing made. Raises Refused."""

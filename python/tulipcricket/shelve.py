@@ -266,14 +266,13 @@ def made_texts(scan: Scan) -> Tuple[Dict[str, bytes], List[Tuple[str, str]]]:
     made: Dict[str, bytes] = {"pages.txt": kept.pages(scan.listing, scan.constants)}
     not_here: List[Tuple[str, str]] = []
     sheet = scan.files.get("sheet")
-    for name, data, why in (
-        ("sheet.txt", kept.sheet_text(sheet) if sheet is not None else None, "the program sheet_text was not at hand"),
-        ("origins", kept.origins(sheet) if sheet is not None else None, "not made by this version"),
-    ):
-        if data is not None:
-            made[name] = data
-        elif sheet is not None:
-            not_here.append((name, why))
+    if sheet is not None:
+        made["origins"] = kept.origins(sheet)
+        text = kept.sheet_text(sheet)
+        if text is not None:
+            made["sheet.txt"] = text
+        else:
+            not_here.append(("sheet.txt", "the program sheet_text was not at hand"))
     return made, not_here
 
 

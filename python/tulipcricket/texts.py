@@ -91,7 +91,7 @@ FILES = (
     ("sheet.txt", "the sheet as text"),
     ("listing", "the sheet lowered: single steps (SHELF.txt, 3)"),
     ("constants", "the listing's words"),
-    ("origins", "where each constant came from"),
+    ("origins", "the instruction that added each constant (SHEET.txt, 3)"),
     ("pages.txt", "listing and constants as printed pages"),
     ("before", "the store before each play (SHELF.txt, 2)"),
     ("points", "for each play: words put in = the answer's words"),

@@ -1,5 +1,6 @@
 // Lowers sheets at the limits of the rules, and the sheets of the misreadings that the rules name. Writes for each the answer, the
-// constants that lowering added, the registers recorded as real, the listing's registers filled and those drawn on before, and the listing; for a misreading also registers after a play.
+// constants that lowering added, the registers recorded as real, the listing's registers filled and those drawn on before, and the listing;
+// for a misreading also registers after a play.
 
 mod print;
 mod sheets;
@@ -20,7 +21,8 @@ fn lowered(
     constants: &mut [u64],
 ) -> LowerAnswer {
     let n = sheets::within(bytes.len(), len);
-    let a = lower(&bytes[0..n], listing, constants);
+    let mut origins = [0u16; 256];
+    let a = lower(&bytes[0..n], listing, constants, &mut origins);
     print::answer(name, a);
     print::constants(constants, own, a.count);
     print::real(a.real);

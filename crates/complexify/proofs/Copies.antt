@@ -3,8 +3,9 @@ use Prim.Native.Nat.{ℕ, zero, suc, _+_, _-_, _≤_, _<_}
 use mathlib.Core.Path.{_≡_, refl, sym, ap, _∙_}
 use mathlib.Core.List.{List, _++_}
 use native.Mathlib.Nat.{add-zero, add-suc, suc-add}
+use native.Mathlib.Numerals.{add-one}
 use native.Mathlib.Omega.{arith}
-use lib.ListN.{length, take, drop, getD, set, length-append, length-take, take-append-drop}
+use lib.ListN.{length, take, drop, replicate, getD, set, length-append, length-take, take-append-drop}
 use lib.Seq.{sets, sets-eq, length-sets, take-at, drop-at, drop-drop}
 use Rattle.sheet.specs.Setup.{constantAt, constantsFromOn}
 use Rattle.complexify.specs.Taken.{Appended}
@@ -15,6 +16,18 @@ module _ (s : List ℕ) where
   nth zero i k h = absurd (omega arith)
   nth (suc n) i zero h = ap (constantAt s) (sym (add-zero i))
   nth (suc n) i (suc k) h = nth n (suc i) k (omega arith) ∙ ap (constantAt s) (suc-add i k ∙ sym (add-suc i k))
+
+-- one number stored from i up to an end
+pub fill-turn : (l : List ℕ) (v i end : ℕ) → i < end
+    → sets l i (replicate (end - i) v) ≡ sets (set l i v) (i + 1) (replicate (end - (i + 1)) v)
+fill-turn l v i end h =
+    let e : end - i ≡ suc (end - (i + 1)) = omega arith in
+    ap (λ k. sets l i (replicate k v)) e ∙ rw (add-one i)
+
+pub fill-ended : (l : List ℕ) (v i end : ℕ) → end ≤ i → sets l i (replicate (end - i) v) ≡ l
+fill-ended l v i end h =
+    let e : end - i ≡ 0 = omega arith in
+    ap (λ k. sets l i (replicate k v)) e
 
 -- a run v stored in l at w
 module _ (l v : List ℕ) (w : ℕ) (fits : w + length v ≤ length l) where

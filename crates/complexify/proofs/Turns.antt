@@ -6,7 +6,7 @@ use mathlib.Core.List.{List, [], _∷_, _++_}
 use native.Mathlib.Numerals.{add-one}
 use native.Mathlib.Omega.{arith}
 use borrow.Author.Tests.{lt-ltb, le-ltb, ltb-true, ltb-false}
-use lib.ListN.{length, take, drop, length-append, length-take}
+use lib.ListN.{length, take, drop, replicate, length-append, length-take}
 use lib.Seq.{sets}
 use Rattle.mir.specs.declared.records.Instruction.{Instruction}
 use Rattle.mir.specs.Encode.{Buf, buf, encodeAll}
@@ -27,6 +27,7 @@ use Rattle.lowering.specs.Rerun.{rerun}
 use Rattle.lowering.specs.Labels as Labels
 use Rattle.lowering.specs.Labels.{Role, role, Standing, noneStanding, sees, later, misplaced, unequal, passed}
 use Rattle.lowering.specs.Lower.{Ended, ended, past, lowerFrom, barred}
+use Rattle.lowering.specs.Origins.{originsFrom}
 use Rattle.lowering.proofs.Ahead.{labelIn, seen-first}
 use Rattle.lowering.proofs.Tests.{no, neither, goes-on, refused-label, refused-barred, refused-long}
 use Rattle.lines.proofs.Fitting.{pushAll-fits}
@@ -37,7 +38,7 @@ use Rattle.complexify.specs.declared.turn.Next.{Next}
 use Rattle.complexify.specs.declared.turn.Stop.{Stop}
 use Rattle.rerun.specs.Ends.{Ends, tabled, untabled}
 use Rattle.refusals.specs.Noted.{Noted, roleRead, tell, PassedFirst}
-use Rattle.complexify.specs.Taken.{space, Ready, Appended, endedAt, goesOn, left, refusal, finished, full, Finished, Fits, Extended, LoweredOne, Taken, stoppedAt, stopOf, Ran}
+use Rattle.complexify.specs.Taken.{space, Ready, Appended, comes, endedAt, goesOn, left, refusal, finished, full, Finished, Fits, Extended, LoweredOne, Taken, stoppedAt, stopOf, Ran}
 use Rattle.complexify.proofs.Bounds.{staged, spaced}
 use Rattle.complexify.proofs.Copies.{taken, kept-store, kept-none, kept-then}
 use Rattle.refusals.proofs.Marking.{standsAt, SeenFirst, Follows, follows, passed-as}
@@ -63,7 +64,7 @@ module _ {mode : Mode} {i : Instruction} {next : ℕ} {stage listing constants :
       → ((is : List Instruction) (fault : ℕ) (rest : List ℕ) (b : Standing) → misplaced (role i) b (past rest) ≡ false → unequal (role i) b (p .low .real) ≡ false
       → goesOn mode (length listing) (i ∷ is) fault rest b listing constants p ≡ endedAt number listing constants p)
       → LoweredOne mode i next listing constants p listing constants (refusal number p)
-  refusing number h = record { same = h; at = no; index = no; turned = unchanged number r }
+  refusing number h = record { same = h; at = no; index = no; stays = λ e. refl; after = no; turned = unchanged number r }
 
   pub turn-barred : barred (isStable mode) i (p .low .real) ≡ true → LoweredOne mode i next listing constants p listing constants (refusal 6 p)
   unfolding lowerFrom
@@ -192,6 +193,8 @@ module _ (mode : Mode) (i : Instruction) {stage stage' listing constants : List 
             ∙ sym (λ j. lowerFrom mode (length listing) is fault (past rest) next (add-one (p .index) j) (x j) (state (t .low) (y j)));
         at = λ z. refl;
         index = λ z. add-one (p .index);
+        stays = λ z. no (sym z);
+        after = λ z. ap (state (t .low)) y ∙ e .kept;
         turned = record {
           bytes = subst (λ l. Appended listing (p .written) l (p .written + length bytes)) (sym f) (kept-store listing bytes (p .written) room);
           words = subst (λ l. Appended constants (p .count) l (p .count + t .added .count)) (sym g)
@@ -238,6 +241,9 @@ pub record Turn (mode : Mode) (own : ℕ) (sheet listing constants marks rows : 
   pub goes : (b : Standing) → Noted b (drop (p .at) sheet) marks rows → Goes mode own sheet b listing constants p listing' constants' marks' rows' r
   pub on : r .done ≡ false → p .at < r .stand .at
   pub index : r .done ≡ false → r .stand .index ≡ suc (p .index)
+  pub stays : r .done ≡ true → r .stand ≡ p
+  pub origins : r .done ≡ false → (n : ℕ)
+      → comes mode own sheet constants p (suc n) ≡ replicate (r .stand .count - p .count) (p .index) ++ comes mode own sheet constants' (r .stand) n
   pub turned : Extended listing constants p listing' constants' r
 
 pub on-false : {A : Type 0} (b : Bool) (x y : A) → b ≡ false → cond b x y ≡ y
@@ -279,6 +285,24 @@ stands-here : (mode : Mode) (own : ℕ) (sheet : List ℕ) (b : Standing) (listi
 stands-here mode own sheet b listing constants p {i} {next} l h =
     ap (λ d. goesOn mode (length listing) (d .items) (d .fault) (drop (p .at) sheet) b listing constants p) (on-here own sheet (p .at) l h)
 
+-- the origins of what an instruction appends, and of what the next n do
+first-origins : {mode : Mode} (own : ℕ) (sheet : List ℕ) {listing constants : List ℕ} {p : Cursor} {i : Instruction} {next : ℕ} {listing' constants' : List ℕ} {r : Next}
+    → p .index < 612 → Here (instructionFrom own) sheet (p .at) i next → LoweredOne mode i next listing constants p listing' constants' r
+    → r .done ≡ false → (n : ℕ)
+    → comes mode own sheet constants p (suc n) ≡ replicate (r .stand .count - p .count) (p .index) ++ comes mode own sheet constants' (r .stand) n
+unfolding originsFrom
+first-origins {mode} own sheet {listing} {constants} {p} {i} {next} {listing'} {constants'} {r} few h l z n =
+    let w = l .turned .words in
+    let before : State = state (p .low) (take (p .count) constants) in
+    let x : length (take (p .count) constants) ≡ p .count = simp length-take (omega (arith, w .more, w .fits)) in
+    let y : length (take (r .stand .count) constants') ≡ r .stand .count = simp length-take (omega (arith, w .fits, w .long)) in
+    let more : length (rerun mode i before .after .consts) - length (take (p .count) constants) ≡ r .stand .count - p .count
+    = ap (λ s. length (s .consts) - length (take (p .count) constants)) (sym (l .after z)) ∙ (λ j. y j - x j) in
+    let on : ℕ → ℕ → State → List ℕ = λ index at s. originsFrom mode index (take n (decodedAt own sheet index at .items)) s in
+    ap (λ d. originsFrom mode (p .index) (take (suc n) (d .items)) before) (on-here own sheet (p .at) few h)
+    ∙ ap (λ k. replicate k (p .index) ++ on (suc (p .index)) next (rerun mode i before .after)) more
+    ∙ (λ j. replicate (r .stand .count - p .count) (p .index) ++ on (sym (l .index z) j) (sym (l .at z) j) (sym (l .after z) j))
+
 module _ {mode : Mode} {own : ℕ} {sheet listing constants marks rows : List ℕ} {p : Cursor} (few : p .index < 612) where
   module _ {i : Instruction} {next : ℕ} {marks' rows' : List ℕ} {n : ℕ} (h : Here (instructionFrom own) sheet (p .at) i next)
       (e : instructionFrom own (drop (p .at) sheet) ≡ got i) (w : Follows (role i) (p .low .real) marks rows marks' rows' n) where
@@ -309,6 +333,8 @@ module _ {mode : Mode} {own : ℕ} {sheet listing constants marks rows : List �
               };
           on = λ z. let a = l .at z in let o = h .on in omega (arith, a, o);
           index = l .index;
+          stays = l .stays;
+          origins = first-origins own sheet few h l;
           turned = l .turned;
         }
 
@@ -329,6 +355,8 @@ module _ {mode : Mode} {own : ℕ} {sheet listing constants marks rows : List �
               };
           on = no;
           index = no;
+          stays = λ z. refl;
+          origins = no;
           turned = unchanged n r;
         }
 
@@ -341,6 +369,8 @@ turn-stopped {mode} {own} {sheet} {listing} {constants} {p = p} {k = k} r h =
       goes = λ b t. record { before = b; same = stopped mode (length listing) own sheet b listing constants p k h; noted = no };
       on = no;
       index = no;
+      stays = λ z. refl;
+      origins = no;
       turned = unchanged k r;
     }
 
@@ -504,13 +534,20 @@ module _ {mode : Mode} {own : ℕ} {sheet listing₀ constants₀ : List ℕ} {s
             same = sym (turned-same ∙ on-false _ _ _ e) ∙ s .same;
           }
 
+      pub ended-there : r .done ≡ true
+          → left mode (length listing₀) own sheet noneStanding listing₀ constants₀ start ≡ endedAt (r .number) listing' constants' (r .stand)
+      ended-there e = sym (s .same) ∙ turned-same ∙ on-true _ _ _ e
+
       pub ran-refused : {a : Stop} → r .done ≡ true
           → a ≡ stoppedAt (r .number) (r .stand)
           → Ran (left mode (length listing₀) own sheet noneStanding listing₀ constants₀ start) listing₀ constants₀ start listing' constants' a
-      ran-refused e h =
-          ran (r .number) (r .stand) (sym (s .same) ∙ turned-same ∙ on-true _ _ _ e) (kept-then (s .bytes) (t .turned .bytes)) (kept-then (s .words) (t .turned .words)) h
+      ran-refused e h = ran (r .number) (r .stand) (ended-there e) (kept-then (s .bytes) (t .turned .bytes)) (kept-then (s .words) (t .turned .words)) h
+
+    pub ended-here : Done (instructionFrom own) sheet (p .at) 0
+        → left mode (length listing₀) own sheet noneStanding listing₀ constants₀ start ≡ endedAt 0 listing constants p
+    ended-here d = sym (s .same) ∙ stopped mode (length listing₀) own sheet (s .before) listing constants p 0 (on-end own sheet (p .at) (p .index) d)
 
     pub ran-ended : {a : Stop} → Done (instructionFrom own) sheet (p .at) 0
         → a ≡ stoppedAt 0 p
         → Ran (left mode (length listing₀) own sheet noneStanding listing₀ constants₀ start) listing₀ constants₀ start listing constants a
-    ran-ended d h = ran 0 p (sym (s .same) ∙ stopped mode (length listing₀) own sheet (s .before) listing constants p 0 (on-end own sheet (p .at) (p .index) d)) (s .bytes) (s .words) h
+    ran-ended d h = ran 0 p (ended-here d) (s .bytes) (s .words) h

@@ -63,18 +63,18 @@ pub record Within (listing : List ℕ) (a : LowerAnswer) : Type 0 where
   pub written : a .written ≤ length listing
   pub count : a .count ≤ 256
 
-refused : (sheet listing constants : List ℕ) → wrongSetup sheet listing constants ≡ true → Within listing (answer sheet listing constants)
-refused sheet listing constants w = record { written = simp w (omega arith); count = simp w (omega arith) }
+refused : (sheet listing constants origins : List ℕ) → wrongSetup sheet listing constants origins ≡ true → Within listing (answer sheet listing constants origins)
+refused sheet listing constants origins w = record { written = simp w (omega arith); count = simp w (omega arith) }
 
-answered : (sheet listing constants : List ℕ) → Within listing (answer sheet listing constants)
-answered sheet listing constants =
+answered : (sheet listing constants origins : List ℕ) → Within listing (answer sheet listing constants origins)
+answered sheet listing constants origins =
     either (eqb (setup sheet .number) 0)
     (λ e.
     let h = held-sheet sheet (length listing) (eqb-true _ _ e) in
     let k = h .words in
-    either (wrongSetup sheet listing constants) (refused sheet listing constants)
+    either (wrongSetup sheet listing constants origins) (refused sheet listing constants origins)
     (λ w. record { written = simp w (h .bytes); count = simp w (omega (arith, k)) }))
-    (λ e. refused sheet listing constants (simp e))
+    (λ e. refused sheet listing constants origins (simp e))
 
-pub within : (sheet listing constants : List ℕ) {a : LowerAnswer} → a ≡ answer sheet listing constants → Within listing a
-within sheet listing constants e = subst (Within listing) (sym e) (answered sheet listing constants)
+pub within : (sheet listing constants origins : List ℕ) {a : LowerAnswer} → a ≡ answer sheet listing constants origins → Within listing a
+within sheet listing constants origins e = subst (Within listing) (sym e) (answered sheet listing constants origins)

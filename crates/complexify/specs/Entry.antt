@@ -1,4 +1,4 @@
--- The whole of lowering (document 01, "What the two entries give back"): the answer, and the two lent slices after it.
+-- The whole of lowering (document 01, "What the two entries give back"): the answer, and the three lent slices after it.
 use Prim.Native.Nat.{ℕ}
 use mathlib.Core.Bool.{Bool, false, not, cond, _||_}
 use mathlib.Core.List.{List}
@@ -9,13 +9,16 @@ use Rattle.mir.specs.declared.records.Record.{Record}
 use Rattle.sheet.specs.Setup.{setup}
 use Rattle.lowering.specs.Realness.{fresh}
 use Rattle.lowering.specs.Lower.{Ended, lowerSheet, listed}
+use Rattle.lowering.specs.Origins.{originsOf}
 use Rattle.marks.specs.Marks.{drawnOn, filledBy, registers}
 use Rattle.complexify.specs.declared.entry.LowerAnswer.{LowerAnswer}
 
--- 8, "tested first": what the sheet's setup refuses, "a listing slice over 65,536 bytes, or a constants slice of other than 256 words"
-abbrev pub wrongSetup : List ℕ → List ℕ → List ℕ → Bool
-wrongSetup sheet listing constants =
-    not (eqb (setup sheet .number) 0) || (ltb 65536 (length listing) || not (eqb (length constants) 256))
+-- 8, "tested first": what the sheet's setup refuses, "a listing slice over 65,536 bytes, or a constants slice of other than 256 words", or
+-- for the origins another length than "a lent slice of 256 two-byte numbers"
+abbrev pub wrongSetup : List ℕ → List ℕ → List ℕ → List ℕ → Bool
+wrongSetup sheet listing constants origins =
+    not (eqb (setup sheet .number) 0)
+    || (ltb 65536 (length listing) || (not (eqb (length constants) 256) || not (eqb (length origins) 256)))
 
 -- "Setup refusals carry index 0, counts 0 and all realness complex"; no mark is set
 abbrev pub refusedSetup : LowerAnswer
@@ -46,17 +49,22 @@ answerOf rs e =
       drawn = registers (drawnOn rs);
     }
 
-abbrev pub answer : List ℕ → List ℕ → List ℕ → LowerAnswer
-answer sheet listing constants =
+abbrev pub answer : List ℕ → List ℕ → List ℕ → List ℕ → LowerAnswer
+answer sheet listing constants origins =
     let e = lowerSheet sheet (length listing) in
-    cond (wrongSetup sheet listing constants) refusedSetup (answerOf (listed sheet (e .index)) e)
+    cond (wrongSetup sheet listing constants origins) refusedSetup (answerOf (listed sheet (e .index)) e)
 
 -- "A refusal by 8 changes nothing. Any other refusal of lowering leaves the sheet's constants, the finished instructions' bytes and
 -- constants, nothing of the refused one, and every later byte or word as lent"
-abbrev pub listingAfter : List ℕ → List ℕ → List ℕ → List ℕ
-listingAfter sheet listing constants =
-    cond (wrongSetup sheet listing constants) listing (sets listing 0 (lowerSheet sheet (length listing) .bytes))
+abbrev pub listingAfter : List ℕ → List ℕ → List ℕ → List ℕ → List ℕ
+listingAfter sheet listing constants origins =
+    cond (wrongSetup sheet listing constants origins) listing (sets listing 0 (lowerSheet sheet (length listing) .bytes))
 
-abbrev pub constantsAfter : List ℕ → List ℕ → List ℕ → List ℕ
-constantsAfter sheet listing constants =
-    cond (wrongSetup sheet listing constants) constants (sets constants 0 (lowerSheet sheet (length listing) .state .consts))
+abbrev pub constantsAfter : List ℕ → List ℕ → List ℕ → List ℕ → List ℕ
+constantsAfter sheet listing constants origins =
+    cond (wrongSetup sheet listing constants origins) constants (sets constants 0 (lowerSheet sheet (length listing) .state .consts))
+
+-- "lowering returns, per constant, the instruction that first appended it, or 65,535 for one from the sheet", "those past the count as lent"
+abbrev pub originsAfter : List ℕ → List ℕ → List ℕ → List ℕ → List ℕ
+originsAfter sheet listing constants origins =
+    cond (wrongSetup sheet listing constants origins) origins (sets origins 0 (originsOf sheet (lowerSheet sheet (length listing) .index)))

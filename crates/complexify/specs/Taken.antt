@@ -2,7 +2,7 @@
 use Prim.Native.Nat.{ℕ, suc, _+_, _-_, _≤_, _<_}
 use mathlib.Core.Path.{_≡_}
 use mathlib.Core.Bool.{Bool, cond, true, false}
-use mathlib.Core.List.{List, _∷_}
+use mathlib.Core.List.{List, _∷_, _++_}
 use lib.ListN.{length, take, drop}
 use lib.Seq.{sets}
 use lib.Dec.{ltb}
@@ -13,8 +13,10 @@ use Rattle.mir.specs.Decode.{Item}
 use Rattle.sheet.specs.declared.setup.Mode.{Mode}
 use Rattle.sheet.specs.Instruction.{instructionsOn}
 use Rattle.lowering.specs.Complexifier.{position, MIN_POSITIVE, INFINITY, QUARTER, EXP_MASK_FINITE, FLOOR_FINITE}
+use Rattle.lowering.specs.Rerun.{rerun}
 use Rattle.lowering.specs.Labels.{Standing, role, misplaced, unequal, passed}
 use Rattle.lowering.specs.Lower.{Ended, ended, past, lowerFrom}
+use Rattle.lowering.specs.Origins.{originsFrom}
 use Rattle.marks.specs.Marks.{drawnOn, filledBy, registers}
 use Rattle.complexifier.specs.Does.{state}
 use Rattle.rerun.specs.declared.output.Output.{Output}
@@ -113,6 +115,8 @@ pub record LoweredOne (mode : Mode) (i : Instruction) (next : ℕ) (listing cons
       (goesOn mode (length listing) is fault (past rest) (passed (role i) (p .low .real) b) listing' constants' (r .stand))
   pub at : r .done ≡ false → r .stand .at ≡ next
   pub index : r .done ≡ false → r .stand .index ≡ suc (p .index)
+  pub stays : r .done ≡ true → r .stand ≡ p
+  pub after : r .done ≡ false → state (r .stand .low) (take (r .stand .count) constants') ≡ rerun mode i (state (p .low) (take (p .count) constants)) .after
   pub turned : Extended listing constants p listing' constants' r
 
 -- one turn: an instruction that is read is lowered; one that a number refuses as it is read has changed nothing
@@ -154,3 +158,13 @@ pub record Ran (whole : Ended) (l k : List ℕ) (p : Cursor) (l' k' : List ℕ) 
   pub consts : whole .state .consts ≡ take (r .count) k'
   pub listing : Appended l (p .written) l' (r .written)
   pub constants : Appended k (p .count) k' (r .count)
+
+-- the origins of the constants that the next n instructions append
+abbrev pub comes : Mode → ℕ → List ℕ → List ℕ → Cursor → ℕ → List ℕ
+comes mode own sheet constants p n =
+    originsFrom mode (p .index) (take n (instructionsOn (p .index) own (drop (p .at) sheet) .items)) (state (p .low) (take (p .count) constants))
+
+-- the origins after the whole loop: those that stood there, then those of the instructions finished since, and every later one as lent
+pub record Dated (whole : Ended) (mode : Mode) (own : ℕ) (sheet constants : List ℕ) (p : Cursor) (o o' : List ℕ) (r : Stop) : Type 0 where
+  pub named : take (r .count) o' ≡ take (p .count) o ++ comes mode own sheet constants p (whole .index - p .index)
+  pub origins : Appended o (p .count) o' (r .count)

@@ -1,7 +1,7 @@
-// Finished bytes and constants, copied to the lent slices.
+// Finished bytes, constants and origins, put into the lent slices.
 ghost use mathlib.Core.Path.{_≡_};
-ghost use Prim.Native.Nat.{_+_, _≤_};
-ghost use lib.ListN.{length};
+ghost use Prim.Native.Nat.{_+_, _-_, _≤_};
+ghost use lib.ListN.{length, replicate};
 ghost use lib.Seq.{sets};
 ghost use Rattle.words.specs.Bytes.{stored};
 ghost use Rattle.sheet.specs.Setup.{constantsOf};
@@ -23,6 +23,19 @@ pub(crate) fn copy_words(from: &[u64], to: &mut [u64], at: usize)
     ensures { λ r. ⌜ now (to .exit) ≡ sets (now (to .entry)) at (now (from .entry)) ⌝ }
 {
     put_words(to, at, from);
+}
+
+// The origin of the constants from a position up to another.
+pub(crate) fn put_origins(origins: &mut [u16], start: usize, end: usize, origin: u16)
+    requires { ⌜ start ≤ end ⌝ }
+    requires { ⌜ end ≤ length (now origins) ⌝ }
+    ensures { λ r. ⌜ now (origins .exit) ≡ sets (now (origins .entry)) start (replicate (end - start) origin) ⌝ }
+{
+    let mut i = start;
+    while i < end {
+        origins[i] = origin;
+        i += 1;
+    }
 }
 
 // The sheet's first `count` constants.

@@ -8,8 +8,9 @@ ghost use Rattle.mir.specs.Encode.{encodeAll};
 ghost use Rattle.lowering.specs.Labels.{noneStanding};
 ghost use Rattle.complexify.specs.Entry as Spec;
 ghost use Rattle.refusals.specs.Noted.{Noted};
-ghost use Rattle.complexify.specs.Taken.{Ready, Ran, left, stoppedAt, withMarks};
+ghost use Rattle.complexify.specs.Taken.{Ready, Ran, Dated, left, stoppedAt, withMarks};
 use super::copying::copy_constants;
+use super::copying::put_origins;
 use super::turn::Cursor;
 use super::turn::Stop;
 use super::turn::one;
@@ -21,6 +22,9 @@ use refusals::labels::pass_at;
 use sheet::reader::LONGEST;
 use sheet::setup::Mode;
 use sheet::setup::read_setup;
+
+// The origin of a constant that the sheet has.
+pub const FROM_SHEET: u16 = 65535;
 
 // The number (0: accepted), an instruction's index, the bytes written, the count of constants, and the final record of realness: registers
 // and places, and which of a listing's registers are filled. Then which of them are drawn on before being filled.
@@ -74,11 +78,14 @@ fn run(
     rows: &mut [u8],
     listing: &mut [u8],
     constants: &mut [u64],
+    origins: &mut [u16],
 ) -> Stop
     requires { ⌜ Ready (replicate 704 0) (now listing) (now constants) start ⌝ }
     requires { ⌜ start .index ≤ 612 ⌝ }
+    requires { ⌜ length (now origins) ≡ 256 ⌝ }
     requires { ⌜ Noted noneStanding (drop (start .at) (now sheet)) (now marks) (now rows) ⌝ }
-    ensures { λ r. ⌜ Ran (left mode (length (now (listing .entry))) own (now (sheet .entry)) noneStanding (now (listing .entry)) (now (constants .entry)) start) (now (listing .entry)) (now (constants .entry)) start (now (listing .exit)) (now (constants .exit)) r ⌝ }
+    ensures { λ r. ⌜ (Ran (left mode (length (now (listing .entry))) own (now (sheet .entry)) noneStanding (now (listing .entry)) (now (constants .entry)) start) (now (listing .entry)) (now (constants .entry)) start (now (listing .exit)) (now (constants .exit)) r)
+        × (Dated (left mode (length (now (listing .entry))) own (now (sheet .entry)) noneStanding (now (listing .entry)) (now (constants .entry)) start) mode own (now (sheet .entry)) (now (constants .entry)) start (now (origins .entry)) (now (origins .exit)) r) ⌝ }
 {
     let mut stage = [0u8; 704];
     let mut p = start;
@@ -97,6 +104,7 @@ fn run(
         if t.done {
             return stop_at(t.number, next);
         }
+        put_origins(origins, p.count, next.count, p.index as u16);
         p = next;
     }
     stop_at(0, p)
@@ -110,10 +118,13 @@ fn run_marked(
     start: Cursor,
     listing: &mut [u8],
     constants: &mut [u64],
+    origins: &mut [u16],
 ) -> Stop
     requires { ⌜ Ready (replicate 704 0) (now listing) (now constants) start ⌝ }
     requires { ⌜ start .index ≤ 612 ⌝ }
-    ensures { λ r. ⌜ Ran (left mode (length (now (listing .entry))) own (now (sheet .entry)) noneStanding (now (listing .entry)) (now (constants .entry)) start) (now (listing .entry)) (now (constants .entry)) start (now (listing .exit)) (now (constants .exit)) r ⌝ }
+    requires { ⌜ length (now origins) ≡ 256 ⌝ }
+    ensures { λ r. ⌜ (Ran (left mode (length (now (listing .entry))) own (now (sheet .entry)) noneStanding (now (listing .entry)) (now (constants .entry)) start) (now (listing .entry)) (now (constants .entry)) start (now (listing .exit)) (now (constants .exit)) r)
+        × (Dated (left mode (length (now (listing .entry))) own (now (sheet .entry)) noneStanding (now (listing .entry)) (now (constants .entry)) start) mode own (now (sheet .entry)) (now (constants .entry)) start (now (origins .entry)) (now (origins .exit)) r) ⌝ }
 {
     let mut marks = [0u8; 256];
     if find_labels(sheet, start.at, &mut marks) {
@@ -127,6 +138,7 @@ fn run_marked(
             &mut rows,
             listing,
             constants,
+            origins,
         );
     }
     let mut none = [0u8; 1];
@@ -139,6 +151,7 @@ fn run_marked(
         &mut none,
         listing,
         constants,
+        origins,
     )
 }
 
@@ -163,10 +176,16 @@ fn marked(stop: Stop, listing: &[u8]) -> LowerAnswer
     }
 }
 
-pub fn lower(sheet: &[u8], listing: &mut [u8], constants: &mut [u64]) -> LowerAnswer
-    ensures { λ r. ⌜ (r ≡ Spec.answer (now (sheet .entry)) (now (listing .entry)) (now (constants .entry)))
-        × (now (listing .exit) ≡ Spec.listingAfter (now (sheet .entry)) (now (listing .entry)) (now (constants .entry)))
-        × (now (constants .exit) ≡ Spec.constantsAfter (now (sheet .entry)) (now (listing .entry)) (now (constants .entry))) ⌝ }
+pub fn lower(
+    sheet: &[u8],
+    listing: &mut [u8],
+    constants: &mut [u64],
+    origins: &mut [u16],
+) -> LowerAnswer
+    ensures { λ r. ⌜ (r ≡ Spec.answer (now (sheet .entry)) (now (listing .entry)) (now (constants .entry)) (now (origins .entry)))
+        × (now (listing .exit) ≡ Spec.listingAfter (now (sheet .entry)) (now (listing .entry)) (now (constants .entry)) (now (origins .entry)))
+        × (now (constants .exit) ≡ Spec.constantsAfter (now (sheet .entry)) (now (listing .entry)) (now (constants .entry)) (now (origins .entry)))
+        × (now (origins .exit) ≡ Spec.originsAfter (now (sheet .entry)) (now (listing .entry)) (now (constants .entry)) (now (origins .entry))) ⌝ }
 {
     let setup = read_setup(sheet);
     if setup.number != 0 {
@@ -178,8 +197,12 @@ pub fn lower(sheet: &[u8], listing: &mut [u8], constants: &mut [u64]) -> LowerAn
     if constants.len() != 256 {
         return wrong_setup();
     }
+    if origins.len() != 256 {
+        return wrong_setup();
+    }
     let own = setup.count;
     copy_constants(sheet, own, constants);
+    put_origins(origins, 0, own, FROM_SHEET);
     let places = setup.places;
     let low = Complexifier {
         real: Realness::fresh(places),
@@ -193,6 +216,6 @@ pub fn lower(sheet: &[u8], listing: &mut [u8], constants: &mut [u64]) -> LowerAn
         low: low,
     };
     let mode = setup.mode;
-    let stop = run_marked(sheet, own, mode, start, listing, constants);
+    let stop = run_marked(sheet, own, mode, start, listing, constants, origins);
     marked(stop, listing)
 }

@@ -23,9 +23,9 @@ use Rattle.leftovers.proofs.Listing.{grows}
 use Rattle.leftovers.proofs.Sheets.{sound, read-back}
 use Rattle.entries.specs.Entries.{left}
 use Rattle.entries.specs.Complexified.{Listed, All, Complexified}
-use Rattle.entries.proofs.Entered.{neither, entered}
+use Rattle.entries.proofs.Entered.{rightly, entered}
 
-module _ (sheet listing constants : List ℕ) where
+module _ (sheet listing constants origins : List ℕ) where
   abbrev room : ℕ
   room = length listing
 
@@ -36,15 +36,15 @@ module _ (sheet listing constants : List ℕ) where
       let c = length-constants sheet (setup sheet .count) 0 in
       omega (arith, g, c, right sheet h .few)
 
-  listed : wrongSetup sheet listing constants ≡ false → Listed sheet listing constants (answer sheet listing constants .index)
+  listed : wrongSetup sheet listing constants origins ≡ false → Listed sheet listing constants origins (answer sheet listing constants origins .index)
   listed w =
       let o = lowerSheet sheet room in
-      let n = neither (not (eqb (setup sheet .number) 0)) (ltb 65536 room) (not (eqb (length constants) 256)) w in
-      let c = eqb-true (length constants) 256 (not-false _ (n .third)) in
+      let n = rightly sheet listing constants origins w in
+      let c = n .words in
       let state = ends sheet room .state ∙ ap (λ k. upTo (sheetOf sheet) k .after) (counted sheet room) in
-      let f = few (eqb-true (setup sheet .number) 0 (not-false _ (n .first))) (o .index) in
-      let at : o .index ≡ answer sheet listing constants .index = sym (ap (λ b. cond b refusedSetup (right-answer sheet room) .index) w) in
-      subst (λ k. Listed sheet listing constants k) at
+      let f = few (n .right) (o .index) in
+      let at : o .index ≡ answer sheet listing constants origins .index = sym (ap (λ b. cond b refusedSetup (right-answer sheet room) .index) w) in
+      subst (λ k. Listed sheet listing constants origins k) at
       (record {
         bytes =
             ap (λ b. take (cond b refusedSetup (right-answer sheet room) .written) (cond b listing (sets listing 0 (o .bytes)))) w
@@ -59,17 +59,17 @@ module _ (sheet listing constants : List ℕ) where
       })
 
   -- all of them, where no number is given
-  all : wrongSetup sheet listing constants ≡ false → answer sheet listing constants .number ≡ 0
-      → All sheet listing constants (answer sheet listing constants .index)
+  all : wrongSetup sheet listing constants origins ≡ false → answer sheet listing constants origins .number ≡ 0
+      → All sheet listing constants origins (answer sheet listing constants origins .index)
   all w e =
       let s = sheetOf sheet in
       let o = lowerSheet sheet room in
-      let is : answer sheet listing constants ≡ right-answer sheet room = ap (λ b. cond b refusedSetup (right-answer sheet room)) w in
+      let is : answer sheet listing constants origins ≡ right-answer sheet room = ap (λ b. cond b refusedSetup (right-answer sheet room)) w in
       let l = listed w in
-      let n : answer sheet listing constants .index ≡ length (s .instructions) = ap (λ a. a .index) is ∙ sym (counted sheet room) ∙ ends sheet room .all (sym (ap (λ a. a .number) is) ∙ e) in
-      let every : take (answer sheet listing constants .index) (s .instructions) ≡ s .instructions =
+      let n : answer sheet listing constants origins .index ≡ length (s .instructions) = ap (λ a. a .index) is ∙ sym (counted sheet room) ∙ ends sheet room .all (sym (ap (λ a. a .number) is) ∙ e) in
+      let every : take (answer sheet listing constants origins .index) (s .instructions) ≡ s .instructions =
       ap (λ k. take k (s .instructions)) n ∙ take-length (s .instructions) in
-      let a = sound sheet room (entered sheet listing constants e .accepted) in
+      let a = sound sheet room (entered sheet listing constants origins e .accepted) in
       record {
         count = n;
         read =
@@ -82,10 +82,10 @@ module _ (sheet listing constants : List ℕ) where
       }
 
 pub complexified : Complexified
-complexified sheet listing constants h = go (wrongSetup sheet listing constants) refl
+complexified sheet listing constants origins h = go (wrongSetup sheet listing constants origins) refl
   where
-    go : (b : Bool) → wrongSetup sheet listing constants ≡ b
-        → Listed sheet listing constants (answer sheet listing constants .index)
-        × (answer sheet listing constants .number ≡ 0 → All sheet listing constants (answer sheet listing constants .index))
+    go : (b : Bool) → wrongSetup sheet listing constants origins ≡ b
+        → Listed sheet listing constants origins (answer sheet listing constants origins .index)
+        × (answer sheet listing constants origins .number ≡ 0 → All sheet listing constants origins (answer sheet listing constants origins .index))
     go true w = absurd (h (ap (λ b. cond b refusedSetup (right-answer sheet (length listing)) .number) w))
-    go false w = (listed sheet listing constants w, all sheet listing constants w)
+    go false w = (listed sheet listing constants origins w, all sheet listing constants origins w)

@@ -28,21 +28,21 @@ use Rattle.entries.proofs.Entered.{entered}
 use Rattle.entries.proofs.Demand.{same}
 use Rattle.entries.proofs.Complexified.{complexified}
 
-module _ (sheet listing constants : List ℕ) (accepted : answer sheet listing constants .number ≡ 0) where
+module _ (sheet listing constants origins : List ℕ) (accepted : answer sheet listing constants origins .number ≡ 0) where
   abbrev rs : List Record
-  rs = recordsOf (left sheet listing constants)
+  rs = recordsOf (left sheet listing constants origins)
 
   -- the records that the player reads are those listed
-  read-as : rs ≡ listed sheet (answer sheet listing constants .index)
+  read-as : rs ≡ listed sheet (answer sheet listing constants origins .index)
   unfolding listed
-  read-as = ap (λ d. d .items) (complexified sheet listing constants (λ e. let z = sym accepted ∙ e in absurd (omega (arith, z))) .1 accepted .read)
+  read-as = ap (λ d. d .items) (complexified sheet listing constants origins (λ e. let z = sym accepted ∙ e in absurd (omega (arith, z))) .1 accepted .read)
 
   -- the answer has their marks
-  pub drawn-as : answer sheet listing constants .drawn ≡ registers (drawnOn rs)
-  drawn-as = go (wrongSetup sheet listing constants) refl ∙ ap (λ l. registers (drawnOn l)) (sym read-as)
+  pub drawn-as : answer sheet listing constants origins .drawn ≡ registers (drawnOn rs)
+  drawn-as = go (wrongSetup sheet listing constants origins) refl ∙ ap (λ l. registers (drawnOn l)) (sym read-as)
     where
-      go : (b : Bool) → wrongSetup sheet listing constants ≡ b
-          → answer sheet listing constants .drawn ≡ registers (drawnOn (listed sheet (answer sheet listing constants .index)))
+      go : (b : Bool) → wrongSetup sheet listing constants origins ≡ b
+          → answer sheet listing constants origins .drawn ≡ registers (drawnOn (listed sheet (answer sheet listing constants origins .index)))
       go true w =
           let z : _≡_ {A = ℕ} 8 0 = sym (ap (λ b. cond b refusedSetup (right-answer sheet (length listing)) .number) w) ∙ accepted in
           absurd (omega (arith, z))
@@ -51,16 +51,16 @@ module _ (sheet listing constants : List ℕ) (accepted : answer sheet listing c
           (λ b. let a = cond b refusedSetup (right-answer sheet (length listing)) in a .drawn ≡ registers (drawnOn (listed sheet (a .index))))
           (sym w) refl
 
-  pub mark-as : (i : ℕ) → i < 66 → mark (answer sheet listing constants) i ≡ drawnOn rs i
+  pub mark-as : (i : ℕ) → i < 66 → mark (answer sheet listing constants origins) i ≡ drawnOn rs i
   mark-as i h = ap (λ l. getD l i false) drawn-as ∙ flag-at 66 (drawnOn rs) i h
 
   right : Sound sheet (length listing)
-  right = sound sheet (length listing) (entered sheet listing constants accepted .accepted)
+  right = sound sheet (length listing) (entered sheet listing constants origins accepted .accepted)
 
   -- they are those of all instructions
   read-whole : rs ≡ whole (sheetOf sheet) .records
   read-whole =
-      ap recordsOf (sym (same sheet listing constants (entered sheet listing constants accepted)) ∙ right .same)
+      ap recordsOf (sym (same sheet listing constants origins (entered sheet listing constants origins accepted)) ∙ right .same)
       ∙ ap (λ d. d .items) (read-back (sheetOf sheet) (right .in-range) (right .few))
 
   -- they keep the jump rules
@@ -76,42 +76,42 @@ module _ (sheet listing constants : List ℕ) (accepted : answer sheet listing c
       let s = sheetOf sheet in
       whole-quiet s (all-in s (right .in-range) (right .few)) i h .before start (subst (λ l. T (drawnOn l i)) read-whole t)
 
-  unmarked-at : (i : ℕ) → Scratch i → i < 66 → mark (answer sheet listing constants) i ≡ false
-  unmarked-at i h l = go (mark (answer sheet listing constants) i) (mark-as i l)
+  unmarked-at : (i : ℕ) → Scratch i → i < 66 → mark (answer sheet listing constants origins) i ≡ false
+  unmarked-at i h l = go (mark (answer sheet listing constants origins) i) (mark-as i l)
     where
       go : (b : Bool) → b ≡ drawnOn rs i → b ≡ false
       go true e = absurd (quiet i h (subst T e tt))
       go false e = refl
 
 pub none-drawn : NoneDrawn (λ a. a .drawn)
-none-drawn sheet listing constants σ τ e n a =
-    let l = left sheet listing constants in
-    unmarked (l .listing) (l .constants) σ τ (sym (drawn-as sheet listing constants e) ∙ n) a
+none-drawn sheet listing constants origins σ τ e n a =
+    let l = left sheet listing constants origins in
+    unmarked (l .listing) (l .constants) σ τ (sym (drawn-as sheet listing constants origins e) ∙ n) a
 
 pub marked-alone : MarkedAlone
-marked-alone sheet listing constants σ τ e a m =
-    let l = left sheet listing constants in
+marked-alone sheet listing constants origins σ τ e a m =
+    let l = left sheet listing constants origins in
     let h = drawn-alone (l .listing) (l .constants) σ τ a (λ i t. go i t (decLt i 66)) in
     record { equal = h .equal; within = λ i t. back i t (decLt i 66) (h .within i) (h .equal .places i) }
   where
-    is-mark : (i : ℕ) → i < 66 → mark (answer sheet listing constants) i ≡ drawnOn (recordsOf (left sheet listing constants)) i
-    is-mark = mark-as sheet listing constants e
+    is-mark : (i : ℕ) → i < 66 → mark (answer sheet listing constants origins) i ≡ drawnOn (recordsOf (left sheet listing constants origins)) i
+    is-mark = mark-as sheet listing constants origins e
 
-    go : (i : ℕ) → T (drawnOn (recordsOf (left sheet listing constants)) i) → Dec (i < 66) → at σ i ≡ at τ i
+    go : (i : ℕ) → T (drawnOn (recordsOf (left sheet listing constants origins)) i) → Dec (i < 66) → at σ i ≡ at τ i
     go i t (yes h) = m i (subst T (sym (is-mark i h)) t)
     go i t (no h) = a .places i (omega arith)
 
-    back : (i : ℕ) {P : Type 0} → T (mark (answer sheet listing constants) i) → Dec (i < 66)
-        → (T (drawnOn (recordsOf (left sheet listing constants)) i) → P) → (66 ≤ i → P) → P
+    back : (i : ℕ) {P : Type 0} → T (mark (answer sheet listing constants origins) i) → Dec (i < 66)
+        → (T (drawnOn (recordsOf (left sheet listing constants origins)) i) → P) → (66 ≤ i → P) → P
     back i t (yes h) f g = f (subst T (is-mark i h) t)
     back i t (no h) f g = g (omega arith)
 
 pub marked-led : MarkedLed
-marked-led sheet listing constants i e h =
-    let m = mark-as sheet listing constants e i h in
-    let w = led-to (recordsOf (left sheet listing constants)) i (kept sheet listing constants e) in
+marked-led sheet listing constants origins i e h =
+    let m = mark-as sheet listing constants origins e i h in
+    let w = led-to (recordsOf (left sheet listing constants origins)) i (kept sheet listing constants origins e) in
     (λ t. w .0 (subst T m t), λ l. subst T (sym m) (w .1 l))
 
 pub scratch-undrawn : ScratchUndrawn
-scratch-undrawn sheet listing constants e =
-    (unmarked-at sheet listing constants e 2 (lit≤ tt, lit≤ tt) (lit< tt), unmarked-at sheet listing constants e 3 (lit≤ tt, lit≤ tt) (lit< tt))
+scratch-undrawn sheet listing constants origins e =
+    (unmarked-at sheet listing constants origins e 2 (lit≤ tt, lit≤ tt) (lit< tt), unmarked-at sheet listing constants origins e 3 (lit≤ tt, lit≤ tt) (lit< tt))

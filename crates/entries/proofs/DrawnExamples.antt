@@ -30,7 +30,7 @@ use Rattle.leftovers.specs.Examples.{room}
 use Rattle.marks.specs.Marks.{step, scan, drawnOn, registers}
 use Rattle.marks.specs.Claims.{SamePlaces}
 use Rattle.marks.specs.Examples.{numbers}
-use Rattle.entries.specs.Examples.{bytes, words}
+use Rattle.entries.specs.Examples.{bytes, words, names}
 use Rattle.entries.specs.Drawn.{playLeft}
 use Rattle.entries.specs.DrawnExamples.{filling, drawing, filledWith, Undrawn, DrawnApart}
 use Rattle.entries.proofs.Examples.{accepts, as-left}
@@ -67,10 +67,10 @@ unfoldable ending : List ℕ → Store → ℕ → ℕ
 unfolding lower recordFrom Player.answer play ticks exec put writes breach block seek isLabel works
 ending sheet σ i = at (Player.answer (lower sheet .listing) (lower sheet .constants) 0 σ .store) i
 
-marks-answered : (sheet : List ℕ) → Accepted sheet room → answer sheet bytes words .drawn ≡ marks sheet
+marks-answered : (sheet : List ℕ) → Accepted sheet room → answer sheet bytes words names .drawn ≡ marks sheet
 unfolding marks lower
 marks-answered sheet a =
-    drawn-as sheet bytes words (accepts sheet a) ∙ ap (λ l. registers (drawnOn (recordsOf l))) (sym (as-left sheet a))
+    drawn-as sheet bytes words names (accepts sheet a) ∙ ap (λ l. registers (drawnOn (recordsOf l))) (sym (as-left sheet a))
 
 filling-accepted : Accepted filling room
 unfolding filling lower
@@ -101,8 +101,8 @@ unfolding drawing marks
 drawing-marks = refl
 
 -- a Save fills no register
-drawing-fills : answer drawing bytes words .filled ≡ replicate 66 false
-unfolding drawing bytes words lower listed step scan block seek isLabel works
+drawing-fills : answer drawing bytes words names .filled ≡ replicate 66 false
+unfolding drawing bytes words names lower listed step scan block seek isLabel works
 drawing-fills = refl
 
 drawing-ends : (v : ℕ) → ending drawing (filledWith v) 578 ≡ v
@@ -113,7 +113,7 @@ pub drawn-apart : DrawnApart drawing (filledWith 0) (filledWith 1) 578
 unfolding ending lower
 drawn-apart =
     let a = drawing-accepted in
-    let ends : (v : ℕ) → at (playLeft drawing bytes words (filledWith v) .store) 578 ≡ v =
+    let ends : (v : ℕ) → at (playLeft drawing bytes words names (filledWith v) .store) 578 ≡ v =
     λ v. subst (λ (l : Lowered). at (Player.answer (l .listing) (l .constants) 0 (filledWith v) .store) 578 ≡ v) (as-left drawing a) (drawing-ends v) in
     record {
       accepted = accepts drawing a;

@@ -14,20 +14,20 @@ use Rattle.leftovers.specs.Leftovers.{Lowered, Accepted, lowered, standing, Mix
 use Rattle.leftovers.specs.Examples.{room, zeros, mixing, stableMixing, mindingMixing, clean, jumping, clearing, touched, marked, compared}
 use Rattle.leftovers.proofs.Examples as computed
 use Rattle.entries.specs.Entries.{Given}
-use Rattle.entries.specs.Examples.{bytes, words, leftOf, Needed, Minded, Met, JumpedOver, Cleared}
+use Rattle.entries.specs.Examples.{bytes, words, names, leftOf, Needed, Minded, Met, JumpedOver, Cleared}
 use Rattle.entries.proofs.Entered.{answered, entered}
 use Rattle.entries.proofs.Demand.{same}
 
 -- the slices are as long as is asked
-pub accepts : (sheet : List ℕ) → Accepted sheet room → answer sheet bytes words .number ≡ 0
-unfolding bytes words
-accepts sheet a = answered sheet bytes words a refl
+pub accepts : (sheet : List ℕ) → Accepted sheet room → answer sheet bytes words names .number ≡ 0
+unfolding bytes words names
+accepts sheet a = answered sheet bytes words names a refl refl
 
 pub as-left : (sheet : List ℕ) → Accepted sheet room → lowered sheet room ≡ leftOf sheet
-unfolding bytes words
-as-left sheet a = same sheet bytes words (entered sheet bytes words (accepts sheet a))
+unfolding bytes words names
+as-left sheet a = same sheet bytes words names (entered sheet bytes words names (accepts sheet a))
 
-given : (sheet : List ℕ) (i : ℕ) → Leftovers.Given sheet room zeros i zeros touched → Given sheet bytes words zeros i zeros touched
+given : (sheet : List ℕ) (i : ℕ) → Leftovers.Given sheet room zeros i zeros touched → Given sheet bytes words names zeros i zeros touched
 given sheet i g =
     record {
       accepted = accepts sheet (g .accepted);

@@ -4,3 +4,4 @@ pub mod Examples
 pub mod Complexified
 pub mod Drawn
 pub mod DrawnExamples
+pub mod Originated

@@ -18,18 +18,18 @@ use Rattle.marks.specs.Leads.{LeadsTo}
 use Rattle.entries.specs.Entries.{left}
 
 -- a play from record 0 of what `lower` left
-abbrev pub playLeft : List ℕ → List ℕ → List ℕ → Store → Player.Answer
-playLeft sheet listing constants σ =
-    let l = left sheet listing constants in
+abbrev pub playLeft : List ℕ → List ℕ → List ℕ → List ℕ → Store → Player.Answer
+playLeft sheet listing constants origins σ =
+    let l = left sheet listing constants origins in
     Player.answer (l .listing) (l .constants) 0 σ
 
 -- "If no mark is set, two plays from record 0 whose stores agree in all places end with equal places, however their registers began. This
 -- needs no condition about Half.": of every call of `lower` that answers 0 (theorem `noneDrawn`, of the answer's `drawn`)
 abbrev pub NoneDrawn : (LowerAnswer → List Bool) → Type 0
 NoneDrawn marks =
-    (sheet listing constants : List ℕ) (σ τ : Store)
-    → answer sheet listing constants .number ≡ 0 → marks (answer sheet listing constants) ≡ replicate 66 false → SamePlaces σ τ
-    → EndEqual (playLeft sheet listing constants σ) (playLeft sheet listing constants τ)
+    (sheet listing constants origins : List ℕ) (σ τ : Store)
+    → answer sheet listing constants origins .number ≡ 0 → marks (answer sheet listing constants origins) ≡ replicate 66 false → SamePlaces σ τ
+    → EndEqual (playLeft sheet listing constants origins σ) (playLeft sheet listing constants origins τ)
 
 -- the mark that an answer has for register i
 abbrev pub mark : LowerAnswer → ℕ → Bool
@@ -39,20 +39,20 @@ mark a i = getD (a .drawn) i false
 -- equally many records, and with equal words in these (theorem `markedAlone`)
 abbrev pub MarkedAlone : Type 0
 MarkedAlone =
-    (sheet listing constants : List ℕ) (σ τ : Store)
-    → answer sheet listing constants .number ≡ 0 → SamePlaces σ τ
-    → ((i : ℕ) → T (mark (answer sheet listing constants) i) → at σ i ≡ at τ i)
-    → EndEqualIn (mark (answer sheet listing constants)) (playLeft sheet listing constants σ) (playLeft sheet listing constants τ)
+    (sheet listing constants origins : List ℕ) (σ τ : Store)
+    → answer sheet listing constants origins .number ≡ 0 → SamePlaces σ τ
+    → ((i : ℕ) → T (mark (answer sheet listing constants origins) i) → at σ i ≡ at τ i)
+    → EndEqualIn (mark (answer sheet listing constants origins)) (playLeft sheet listing constants origins σ) (playLeft sheet listing constants origins τ)
 
 -- of an accepted sheet a register is marked just where some way leads in the listing's records to one that draws on it, past none that fills
 -- it (theorem `markedLed`)
 abbrev pub MarkedLed : Type 0
 MarkedLed =
-    (sheet listing constants : List ℕ) (i : ℕ) → answer sheet listing constants .number ≡ 0 → i < 66
-    → T (mark (answer sheet listing constants) i) ↔ LeadsTo (recordsOf (left sheet listing constants)) i
+    (sheet listing constants origins : List ℕ) (i : ℕ) → answer sheet listing constants origins .number ≡ 0 → i < 66
+    → T (mark (answer sheet listing constants origins) i) ↔ LeadsTo (recordsOf (left sheet listing constants origins)) i
 
 -- and neither of the scratch registers 2 and 3 is (theorem `scratchUndrawn`)
 abbrev pub ScratchUndrawn : Type 0
 ScratchUndrawn =
-    (sheet listing constants : List ℕ) → answer sheet listing constants .number ≡ 0
-    → (mark (answer sheet listing constants) T0 ≡ false) × (mark (answer sheet listing constants) T1 ≡ false)
+    (sheet listing constants origins : List ℕ) → answer sheet listing constants origins .number ≡ 0
+    → (mark (answer sheet listing constants origins) T0 ≡ false) × (mark (answer sheet listing constants origins) T1 ≡ false)

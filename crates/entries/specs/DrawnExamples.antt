@@ -25,7 +25,7 @@ use Rattle.leftovers.specs.Examples.{header}
 use Rattle.marks.specs.Marks.{step, scan}
 use Rattle.marks.specs.Claims.{SamePlaces}
 use Rattle.marks.specs.Examples.{numbers}
-use Rattle.entries.specs.Examples.{bytes, words}
+use Rattle.entries.specs.Examples.{bytes, words, names}
 use Rattle.entries.specs.Drawn.{playLeft}
 
 -- the bytes of instructions: Uni by the operation's number, Load and Save by the index of a place in Mem, and those with labels
@@ -74,20 +74,20 @@ filledWith v = replicate 66 v ++ replicate 1536 0
 
 -- `lower` accepts the sheet and sets no mark, and two stores agree in all places and in no register (theorem `undrawn`)
 pub record Undrawn (sheet : List ℕ) (σ τ : Store) : Type 0 where
-  pub accepted : answer sheet bytes words .number ≡ 0
-  pub unmarked : answer sheet bytes words .drawn ≡ replicate 66 false
+  pub accepted : answer sheet bytes words names .number ≡ 0
+  pub unmarked : answer sheet bytes words names .drawn ≡ replicate 66 false
   pub places : SamePlaces σ τ
   pub registers : (i : ℕ) → i < 66 → at σ i ≡ at τ i → ⊥
 
 -- `lower` accepts the sheet, of which no register is filled and two are drawn on, and of two stores that agree in all places the plays end
 -- with other words at index i (theorem `drawnApart`)
 pub record DrawnApart (sheet : List ℕ) (σ τ : Store) (i : ℕ) : Type 0 where
-  pub accepted : answer sheet bytes words .number ≡ 0
-  pub unfilled : answer sheet bytes words .filled ≡ replicate 66 false
-  pub marked : numbers 0 (answer sheet bytes words .drawn) ≡ 4 ∷ 5 ∷ []
+  pub accepted : answer sheet bytes words names .number ≡ 0
+  pub unfilled : answer sheet bytes words names .filled ≡ replicate 66 false
+  pub marked : numbers 0 (answer sheet bytes words names .drawn) ≡ 4 ∷ 5 ∷ []
   pub places : SamePlaces σ τ
   pub place : 66 ≤ i
-  pub apart : at (playLeft sheet bytes words σ .store) i ≡ at (playLeft sheet bytes words τ .store) i → ⊥
+  pub apart : at (playLeft sheet bytes words names σ .store) i ≡ at (playLeft sheet bytes words names τ .store) i → ⊥
 
 -- ---- short sheets
 
@@ -108,6 +108,6 @@ rows =
     ∷ (header ++ (save 0 1 ++ save 32 1), 4 ∷ 5 ∷ [])
     ∷ []
 
-pub holds : map (λ row. numbers 0 (answer (row .0) bytes words .drawn)) rows ≡ map (λ row. row .1) rows
-unfolding header bytes words lowerSheet listed setup constantAt u16At lowerFrom role later misplaced unequal passed barred decoded instructionFrom takesKind lengthOf placeAt savePlace uniOps rerun rerunUni complexify recordOf re im isRealLoc withoutLoc c.then c.unlisted c.directed c.emit c.byOne c.byTwo c.fmov c.loadFrom c.loadConst c.saveTo c.half c.callRoot c.blockOf c.blockConsts c.defineRoot c.root lines.fmovLines lines.loadLines lines.saveLines lines.halfLines lines.mindingHalfLines lines.plainRootMagnitude lines.rootBlock step scan block seek isLabel works
+pub holds : map (λ row. numbers 0 (answer (row .0) bytes words names .drawn)) rows ≡ map (λ row. row .1) rows
+unfolding header bytes words names lowerSheet listed setup constantAt u16At lowerFrom role later misplaced unequal passed barred decoded instructionFrom takesKind lengthOf placeAt savePlace uniOps rerun rerunUni complexify recordOf re im isRealLoc withoutLoc c.then c.unlisted c.directed c.emit c.byOne c.byTwo c.fmov c.loadFrom c.loadConst c.saveTo c.half c.callRoot c.blockOf c.blockConsts c.defineRoot c.root lines.fmovLines lines.loadLines lines.saveLines lines.halfLines lines.mindingHalfLines lines.plainRootMagnitude lines.rootBlock step scan block seek isLabel works
 holds = refl

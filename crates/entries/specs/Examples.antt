@@ -17,26 +17,29 @@ use Rattle.leftovers.specs.Leftovers.{Lowered, sheetOf, realAt, standing, Mixin
 use Rattle.leftovers.specs.Examples.{room, zeros, touched, marked, compared}
 use Rattle.entries.specs.Entries.{left, Given}
 
--- the slices lent: the listing's bytes, and 256 words for constants
+-- the slices lent: the listing's bytes, 256 words for constants, and 256 numbers for their origins
 unfoldable pub bytes : List ℕ
 bytes = replicate room 0
 
 unfoldable pub words : List ℕ
 words = replicate 256 0
 
+unfoldable pub names : List ℕ
+names = replicate 256 0
+
 -- what `lower` leaves there
 abbrev pub leftOf : List ℕ → Lowered
-leftOf sheet = left sheet bytes words
+leftOf sheet = left sheet bytes words names
 
 -- at point i of a sheet's play all that the claim takes is given, but for the condition, and the endings differ (theorem `needed`: `mixing`
 -- at point 1; theorem `neededStable`: the same in stable mode)
 pub record Needed (sheet : List ℕ) (i : ℕ) : Type 0 where
-  pub given : Given sheet bytes words zeros i zeros touched
+  pub given : Given sheet bytes words names zeros i zeros touched
   pub differs : EndAlike (leftOf sheet) i zeros touched → ⊥
 
 -- at point i all that the claim takes is given, with the condition, of a change (theorem `met`: `clean` at point 2, which the Half follows)
 pub record Met (sheet : List ℕ) (i : ℕ) : Type 0 where
-  pub given : Given sheet bytes words zeros i zeros touched
+  pub given : Given sheet bytes words names zeros i zeros touched
   pub unmixed : Mixing (leftOf sheet) i zeros → ⊥
   pub other : zeros ≡ touched → ⊥
 

@@ -13,11 +13,12 @@ use Rattle.mir.specs.declared.records.Work.{Work}
 use Rattle.mir.specs.Operation.{uniNumber, binNumber, arithNumber, fusedNumber}
 use Rattle.player_machine.specs.Machine.{Store, Write, _≔_, writes}
 use Rattle.complexify.specs.declared.entry.LowerAnswer.{LowerAnswer}
-use Rattle.complexify.specs.Entry.{answer, listingAfter, constantsAfter}
+use Rattle.complexify.specs.Entry.{answer, listingAfter, constantsAfter, originsAfter}
 
 -- a sheet's bytes, lowered in a listing slice of `room` bytes: "a number (0: accepted), an instruction's index, listing bytes written, a
 -- count of constants and the final record of realness" (the registers recorded as real, the 64 bytes of the places, and the listing's
--- registers that are filled), the listing's registers drawn on before being filled, and the bytes and constants themselves
+-- registers that are filled), the listing's registers drawn on before being filled, the bytes and constants themselves, and
+-- the origin of each constant
 pub record LoweredSheet : Type 0 where
   pub sheet : List ℕ
   pub room : ℕ
@@ -27,6 +28,7 @@ pub record LoweredSheet : Type 0 where
   pub bytes : List ℕ
   pub count : ℕ
   pub constants : List ℕ
+  pub origins : List ℕ
   pub registers : List ℕ
   pub places : List ℕ
   pub filled : List ℕ
@@ -52,21 +54,25 @@ pub data Fact : Type 0 where
 
 -- ---- what the definitions give
 
--- every byte and word lent holds these before
+-- every byte, word and number lent holds these before
 abbrev pub lentByte : ℕ
 lentByte = 0xaa
 
 abbrev pub lentWord : ℕ
 lentWord = 0xaaaa_aaaa_aaaa_aaaa
 
--- what comes of a row: the entry's answer with both lent slices after it, or words
+abbrev pub lentNumber : ℕ
+lentNumber = 0xaaaa
+
+-- what comes of a row: the entry's answer with the three lent slices after it, or words
 pub data Outcome : Type 0 where
-  left : LowerAnswer → List ℕ → List ℕ → Outcome
+  left : LowerAnswer → List ℕ → List ℕ → List ℕ → Outcome
   wrote : List ℕ → Outcome
 
-abbrev pub lower : List ℕ → List ℕ → List ℕ → Outcome
-lower sheet listing constants =
-    left (answer sheet listing constants) (listingAfter sheet listing constants) (constantsAfter sheet listing constants)
+abbrev pub lower : List ℕ → List ℕ → List ℕ → List ℕ → Outcome
+lower sheet listing constants origins =
+    left (answer sheet listing constants origins) (listingAfter sheet listing constants origins) (constantsAfter sheet listing constants origins)
+    (originsAfter sheet listing constants origins)
 
 -- an operation's record: its operands are registers 0, 1, 2 and 3, in order, and of IfElse the real word of Stack 0 is the third; what it
 -- gives goes to registers 4 and 5
@@ -87,7 +93,7 @@ values [] = []
 values (i ≔ v ∷ ws) = v ∷ values ws
 
 abbrev pub given : Fact → Outcome
-given (lowered x) = lower (x .sheet) (replicate (x .room) lentByte) (replicate 256 lentWord)
+given (lowered x) = lower (x .sheet) (replicate (x .room) lentByte) (replicate 256 lentWord) (replicate 256 lentNumber)
 given (computed x) = wrote (values (writes [] (holding (x .words)) (asWork (x .operation))))
 
 -- ---- what the row says
@@ -97,7 +103,7 @@ abbrev pub flags : ℕ → List ℕ → List Bool
 flags n [] = replicate n false
 flags n (r ∷ rs) = set (flags n rs) r true
 
--- "every later byte or word as lent"
+-- "every later byte or word as lent"; of the origins "those past the count as lent"
 abbrev pub stated : Fact → Outcome
 stated (lowered x) =
     left
@@ -112,6 +118,7 @@ stated (lowered x) =
     })
     (x .bytes ++ replicate (x .room - length (x .bytes)) lentByte)
     (x .constants ++ replicate (256 - length (x .constants)) lentWord)
+    (x .origins ++ replicate (256 - length (x .origins)) lentNumber)
 stated (computed x) = wrote (x .gives)
 
 -- ---- which operations have a row

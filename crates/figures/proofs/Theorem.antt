@@ -90,11 +90,11 @@ bounded sheet room a n =
 
 -- ---- the theorem
 
-module _ (sheet listing constants : List ℕ) (long : length listing ≡ 65536) (words : length constants ≡ 256) where
+module _ (sheet listing constants origins : List ℕ) (long : length listing ≡ 65536) (words : length constants ≡ 256) (names : length origins ≡ 256) where
   -- a wrong setup is the sheet's
-  wrong : (x : Bool) → not (eqb (setup sheet .number) 0) ≡ x → Lowering.wrongSetup sheet listing constants ≡ x
+  wrong : (x : Bool) → not (eqb (setup sheet .number) 0) ≡ x → Lowering.wrongSetup sheet listing constants origins ≡ x
   wrong true e = rw e refl
-  wrong false e = rw (e, long, words) refl
+  wrong false e = rw (e, long, words, names) refl
 
   abbrev whole-end : Ended
   whole-end = lowerSheet sheet 65536
@@ -106,7 +106,7 @@ module _ (sheet listing constants : List ℕ) (long : length listing ≡ 65536) 
       (same (sheetOf sheet .mode) (sheetOf sheet .instructions) (instructions (setup sheet .count) (drop (setup sheet .start) sheet) .fault)
       (drop (setup sheet .start) sheet) noneStanding 0 [] nothing (start (sheetOf sheet)) refl)
 
-  answered : setup sheet .number ≡ 0 → Lowering.answer sheet listing constants ≡ right-answer sheet 65536
+  answered : setup sheet .number ≡ 0 → Lowering.answer sheet listing constants origins ≡ right-answer sheet 65536
   answered e = rw (wrong false (rw (eq-eqb (setup sheet .number) 0 e) refl), long) refl
 
   -- accepted, and refused
@@ -118,10 +118,10 @@ module _ (sheet listing constants : List ℕ) (long : length listing ≡ 65536) 
         bytes = length (whole-end .bytes);
         constants = length (whole-end .state .consts);
         records = run (all (sheetOf sheet));
-      }) sheet listing constants
+      }) sheet listing constants origins
   accepting e n =
       let a = answered e in
-      let l = entered sheet listing constants (ap (λ a. a .number) a ∙ n) in
+      let l = entered sheet listing constants origins (ap (λ a. a .number) a ∙ n) in
       record {
         number = ap (λ a. a .number) a ∙ n;
         index = ap (λ a. a .index) a;
@@ -132,7 +132,7 @@ module _ (sheet listing constants : List ℕ) (long : length listing ≡ 65536) 
         none = λ c. absurd (c refl);
       }
 
-  refusing : setup sheet .number ≡ 0 → (whole-end .number ≡ 0 → ⊥) → Reported (refusal (whole-end .number) (whole-end .index)) sheet listing constants
+  refusing : setup sheet .number ≡ 0 → (whole-end .number ≡ 0 → ⊥) → Reported (refusal (whole-end .number) (whole-end .index)) sheet listing constants origins
   refusing e n =
       let a = answered e in
       record {
@@ -145,19 +145,19 @@ module _ (sheet listing constants : List ℕ) (long : length listing ≡ 65536) 
         none = λ _. refl;
       }
 
-  by-number : setup sheet .number ≡ 0 → (x : Bool) → eqb (whole-end .number) 0 ≡ x → Reported (shelf sheet) sheet listing constants
+  by-number : setup sheet .number ≡ 0 → (x : Bool) → eqb (whole-end .number) 0 ≡ x → Reported (shelf sheet) sheet listing constants origins
   by-number e true h =
-      subst (λ (f : Figures). Reported f sheet listing constants) (sym (ends e ∙ rw h refl)) (accepting e (eqb-true (whole-end .number) 0 h))
+      subst (λ (f : Figures). Reported f sheet listing constants origins) (sym (ends e ∙ rw h refl)) (accepting e (eqb-true (whole-end .number) 0 h))
   by-number e false h =
-      subst (λ (f : Figures). Reported f sheet listing constants) (sym (ends e ∙ rw h refl)) (refusing e (eqb-false (whole-end .number) 0 h))
+      subst (λ (f : Figures). Reported f sheet listing constants origins) (sym (ends e ∙ rw h refl)) (refusing e (eqb-false (whole-end .number) 0 h))
 
   -- 8
-  wrong-setup : not (eqb (setup sheet .number) 0) ≡ true → Reported (shelf sheet) sheet listing constants
+  wrong-setup : not (eqb (setup sheet .number) 0) ≡ true → Reported (shelf sheet) sheet listing constants origins
   unfolding shelf
   wrong-setup e =
       let w = wrong true e in
       let f : shelf sheet ≡ refusal 8 0 = rw e refl in
-      subst (λ (f : Figures). Reported f sheet listing constants) (sym f)
+      subst (λ (f : Figures). Reported f sheet listing constants origins) (sym f)
       (record {
         number = rw w refl;
         index = rw w refl;
@@ -168,9 +168,9 @@ module _ (sheet listing constants : List ℕ) (long : length listing ≡ 65536) 
         none = λ _. refl;
       })
 
-  reported : (x : Bool) → not (eqb (setup sheet .number) 0) ≡ x → Reported (shelf sheet) sheet listing constants
+  reported : (x : Bool) → not (eqb (setup sheet .number) 0) ≡ x → Reported (shelf sheet) sheet listing constants origins
   reported true e = wrong-setup e
   reported false e = by-number (eqb-true (setup sheet .number) 0 (not-false _ e)) (eqb (whole-end .number) 0) refl
 
 pub figures : FiguresReported shelf
-figures sheet listing constants long words = reported sheet listing constants long words (not (eqb (setup sheet .number) 0)) refl
+figures sheet listing constants origins long words names = reported sheet listing constants origins long words names (not (eqb (setup sheet .number) 0)) refl

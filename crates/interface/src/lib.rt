@@ -1,13 +1,15 @@
 // The two entries as C functions. Words go in and out as eight bytes each, the lowest first.
 ghost use mathlib.Core.Path.{_≡_};
 ghost use mathlib.Core.List.{[], _∷_, map};
+ghost use Prim.Native.Nat.{_*_, _≤_};
 ghost use lib.ListN.{length};
+ghost use lib.Seq.{sets};
 ghost use Rattle.mir.specs.Encode.{flagByte};
 ghost use Rattle.player_machine.specs.Answer.{answer};
 ghost use Rattle.player.specs.Values.{whole};
 ghost use Rattle.complexify.specs.Entry as Entry;
 ghost use Rattle.words.specs.Bytes.{bytesOf, wordsOf, stored};
-ghost use Rattle.interface.specs.Calls.{playCall, lowerCall, lowerAnswer};
+ghost use Rattle.interface.specs.Calls.{playCall, lowerCall, lowerAnswer, pairsOf, unnamed, originsOver};
 use complexify::entry::LowerAnswer;
 use complexify::entry::wrong_setup;
 use lowering::bytes::put_flags;
@@ -101,30 +103,54 @@ fn put_answer(out: &mut [u8], a: LowerAnswer)
     put_marks(out, filled, drawn);
 }
 
-// Lowers with the constants as bytes. Lowering reads no word that it has not written, so none is read from the bytes.
-fn lower_words(sheet: &[u8], listing: &mut [u8], constants: &mut [u8]) -> LowerAnswer
+// Numbers as two bytes each, the lower first.
+fn put_numbers(out: &mut [u8], numbers: &[u16])
+    requires { ⌜ 2 * length (now numbers) ≤ length (now out) ⌝ }
+    ensures { λ r. ⌜ now (out .exit) ≡ sets (now (out .entry)) 0 (pairsOf (now (numbers .entry))) ⌝ }
+{
+    let mut i: usize = 0;
+    while i < numbers.len() {
+        let n = numbers[i];
+        out[2 * i] = (n % 256) as u8;
+        out[2 * i + 1] = (n / 256 % 256) as u8;
+        i += 1;
+    }
+}
+
+// Lowers with the constants and the origins as bytes. Lowering reads no word that it has not written, so none is read from the bytes.
+fn lower_words(
+    sheet: &[u8],
+    listing: &mut [u8],
+    constants: &mut [u8],
+    origins: &mut [u8],
+) -> LowerAnswer
     requires { ⌜ length (now constants) ≡ 2048 ⌝ }
-    ensures { λ r. ⌜ (r ≡ Entry.answer (now (sheet .entry)) (now (listing .entry)) (wordsOf (now (constants .entry))))
-        × (now (listing .exit) ≡ Entry.listingAfter (now (sheet .entry)) (now (listing .entry)) (wordsOf (now (constants .entry))))
-        × (now (constants .exit) ≡ bytesOf (Entry.constantsAfter (now (sheet .entry)) (now (listing .entry)) (wordsOf (now (constants .entry))))) ⌝ }
+    requires { ⌜ length (now origins) ≡ 512 ⌝ }
+    ensures { λ r. ⌜ (r ≡ Entry.answer (now (sheet .entry)) (now (listing .entry)) (wordsOf (now (constants .entry))) unnamed)
+        × (now (listing .exit) ≡ Entry.listingAfter (now (sheet .entry)) (now (listing .entry)) (wordsOf (now (constants .entry))) unnamed)
+        × (now (constants .exit) ≡ bytesOf (Entry.constantsAfter (now (sheet .entry)) (now (listing .entry)) (wordsOf (now (constants .entry))) unnamed))
+        × (now (origins .exit) ≡ originsOver (now (sheet .entry)) (now (listing .entry)) (wordsOf (now (constants .entry))) (now (origins .entry))) ⌝ }
 {
     let mut words = [0u64; 256];
-    let a = complexify::entry::lower(sheet, listing, &mut words);
+    let mut numbers = [0u16; 256];
+    let a = complexify::entry::lower(sheet, listing, &mut words, &mut numbers);
     let count = a.count;
     save(constants, &words[..count]);
+    put_numbers(origins, &numbers[..count]);
     a
 }
 
-// Lowers a sheet. The constants are 2,048 bytes; the answer is 260: number, index, bytes written, count of constants, 32 flags of
+// Lowers a sheet. The constants are 2,048 bytes, the origins 512; the answer is 260: number, index, bytes written, count of constants, 32 flags of
 // registers, 64 bytes of places, 66 flags of a listing's registers that are filled, and 66 of those drawn on before. Returns the number.
 #[no_mangle]
 pub extern "C" fn tulipcricket_lower_unguarded(
     sheet: &[u8],
     listing: &mut [u8],
     constants: &mut [u8],
+    origins: &mut [u8],
     answer: &mut [u8],
 ) -> u32
-    ensures { λ r. ⌜ record { number = r; listing = now (listing .exit); constants = now (constants .exit); answer = now (answer .exit) } ≡ lowerCall (now (sheet .entry)) (now (listing .entry)) (now (constants .entry)) (now (answer .entry)) ⌝ }
+    ensures { λ r. ⌜ record { number = r; listing = now (listing .exit); constants = now (constants .exit); origins = now (origins .exit); answer = now (answer .exit) } ≡ lowerCall (now (sheet .entry)) (now (listing .entry)) (now (constants .entry)) (now (origins .entry)) (now (answer .entry)) ⌝ }
 {
     if answer.len() != 260 {
         return 8;
@@ -133,7 +159,11 @@ pub extern "C" fn tulipcricket_lower_unguarded(
         put_answer(answer, wrong_setup());
         return 8;
     }
-    let a = lower_words(sheet, listing, constants);
+    if origins.len() != 512 {
+        put_answer(answer, wrong_setup());
+        return 8;
+    }
+    let a = lower_words(sheet, listing, constants, origins);
     put_answer(answer, a);
     a.number as u32
 }

@@ -1,12 +1,14 @@
 -- The constants that stable mode appends: each stands in the table afterwards, and there are at most five.
-use mathlib.Core.Path.{_≡_, refl}
-use mathlib.Core.Bool.{Bool, true, false, cond}
+use mathlib.Core.Path.{_≡_, refl, sym, ap, _∙_}
+use mathlib.Core.Bool.{Bool, true, false, not, cond}
 use mathlib.Core.List.{List, [], _∷_, _++_}
 use Prim.Native.Nat.{ℕ, suc, _+_, _≤_, _<_}
 use native.Mathlib.Omega.{arith}
-use lib.ListN.{length, length-append}
+use borrow.Author.Tests.{ltb-true, ltb-false}
+use lib.ListN.{length, getD, length-append}
+use lib.Seq.{getD-take, getD-append-seam, take-at}
 use lib.Dec.{eqb, ltb, ltb→lt, lt→ltb, eqb-refl}
-use Rattle.lowering.specs.Complexifier.{position, stableConst, threeConsts, MIN_POSITIVE, INFINITY, QUARTER, EXP_MASK_FINITE, FLOOR_FINITE}
+use Rattle.lowering.specs.Complexifier.{position, appends, stableConst, threeConsts, MIN_POSITIVE, INFINITY, QUARTER, EXP_MASK_FINITE, FLOOR_FINITE}
 use Rattle.leftovers.proofs.Rows.{T→true}
 
 -- the five
@@ -57,14 +59,14 @@ pub found : (v : ℕ) (k : List ℕ) → position v (stableConst v k) < length (
 unfolding stableConst
 found v k = go (ltb (position v k) (length k)) refl
   where
-    go : (q : Bool) → ltb (position v k) (length k) ≡ q → position v (cond q k (k ++ v ∷ [])) < length (cond q k (k ++ v ∷ []))
+    go : (q : Bool) → ltb (position v k) (length k) ≡ q → position v (cond (not q) (k ++ v ∷ []) k) < length (cond (not q) (k ++ v ∷ []) k)
     go true e = ltb→lt (position v k) (length k) (rw e tt)
     go false e = appended v k
 
 pub longer : (v : ℕ) (k : List ℕ) → length k ≤ length (stableConst v k)
 unfolding stableConst
 longer v k =
-    by-test (λ q. length k ≤ length (cond q k (k ++ v ∷ []))) (omega arith) (omega (arith, length-append k (v ∷ [])))
+    by-test (λ q. length k ≤ length (cond (not q) (k ++ v ∷ []) k)) (omega arith) (omega (arith, length-append k (v ∷ [])))
     (ltb (position v k) (length k))
 
 pub grown-length : {k k' : List ℕ} → Grown k k' → length k ≤ length k'
@@ -72,6 +74,62 @@ grown-length same = omega arith
 grown-length (more {k'} {v} s g) =
     let h = grown-length g in
     omega (arith, longer v k')
+
+-- a word that stands in the table stands there when it has grown
+stands-on : (u v : ℕ) (k : List ℕ) → position u k < length k → position u (stableConst v k) < length (stableConst v k)
+unfolding stableConst
+stands-on u v k h =
+    by-test (λ q. position u (cond (not q) (k ++ v ∷ []) k) < length (cond (not q) (k ++ v ∷ []) k)) h (still u k (v ∷ []) h)
+    (ltb (position v k) (length k))
+
+grown-stands : {k k' : List ℕ} → Grown k k' → (u : ℕ) → position u k < length k → position u k' < length k'
+grown-stands same u h = h
+grown-stands (more {k'} {v} s g) u h = stands-on u v k' (grown-stands g u h)
+
+-- at the same position
+front : (k l : List ℕ) (p : ℕ) → p < length k → getD (k ++ l) p 0 ≡ getD k p 0
+front k l p h = sym (getD-take (length k) (k ++ l) p 0 h) ∙ ap (λ x. getD x p 0) (take-at k l (length k) refl)
+
+const-keeps : (v : ℕ) (k : List ℕ) (p : ℕ) → p < length k → getD (stableConst v k) p 0 ≡ getD k p 0
+unfolding stableConst
+const-keeps v k p h =
+    by-test (λ q. getD (cond (not q) (k ++ v ∷ []) k) p 0 ≡ getD k p 0) refl (front k (v ∷ []) p h) (ltb (position v k) (length k))
+
+pub grown-keeps : {k k' : List ℕ} → Grown k k' → (p : ℕ) → p < length k → getD k' p 0 ≡ getD k p 0
+grown-keeps same p h = refl
+grown-keeps (more {k'} {v} s g) p h = const-keeps v k' p (let l = grown-length g in omega (arith, l, h)) ∙ grown-keeps g p h
+
+-- a word that it has then and had not before stood nowhere in it
+nowhere : {k k' : List ℕ} → Grown k k' → (v : ℕ) → length k' ≤ position v k' → appends v k ≡ true
+nowhere {k} {k'} g v h = go (ltb (position v k) (length k)) refl
+  where
+    go : (q : Bool) → ltb (position v k) (length k) ≡ q → not q ≡ true
+    go true e = let l = grown-stands g v (ltb-true _ _ e) in absurd (omega (arith, l, h))
+    go false e = refl
+
+new-const : {k k' : List ℕ} (v : ℕ) → Grown k k' → (p : ℕ) → (p < length k' → appends (getD k' p 0) k ≡ true)
+    → p < length (stableConst v k') → appends (getD (stableConst v k') p 0) k ≡ true
+unfolding stableConst
+new-const {k} {k'} v g p ih l = go (ltb (position v k') (length k')) refl l
+  where
+    at : length k' ≤ position v k' → p < length (k' ++ v ∷ []) → (x : Bool) → ltb p (length k') ≡ x → appends (getD (k' ++ v ∷ []) p 0) k ≡ true
+    at z l true i = let f = ltb-true p (length k') i in ap (λ w. appends w k) (front k' (v ∷ []) p f) ∙ ih f
+    at z l false i =
+        let n = length-append k' (v ∷ []) in
+        let f = ltb-false p (length k') i in
+        let e : p ≡ length k' = omega (arith, n, f, l) in
+        ap (λ p. appends (getD (k' ++ v ∷ []) p 0) k) e
+        ∙ ap (λ w. appends w k) (getD-append-seam k' v [] 0)
+        ∙ nowhere g v z
+
+    go : (q : Bool) → ltb (position v k') (length k') ≡ q → p < length (cond (not q) (k' ++ v ∷ []) k')
+        → appends (getD (cond (not q) (k' ++ v ∷ []) k') p 0) k ≡ true
+    go true e l = ih l
+    go false e l = at (ltb-false (position v k') (length k') e) l (ltb p (length k')) refl
+
+pub grown-new : {k k' : List ℕ} → Grown k k' → (p : ℕ) → length k ≤ p → p < length k' → appends (getD k' p 0) k ≡ true
+grown-new same p h l = absurd (omega (arith, h, l))
+grown-new (more {v = v} s g) p h l = new-const v g p (λ i. grown-new g p h i) l
 
 -- ---- at most five
 
@@ -121,7 +179,7 @@ unfolding stableConst
 total-falls {v} k s = go (ltb (position v k) (length k)) refl
   where
     go : (q : Bool) → ltb (position v k) (length k) ≡ q
-        → length (cond q k (k ++ v ∷ [])) + missing (cond q k (k ++ v ∷ [])) ≤ length k + missing k
+        → length (cond (not q) (k ++ v ∷ []) k) + missing (cond (not q) (k ++ v ∷ []) k) ≤ length k + missing k
     go true e = omega arith
     go false e =
         let g : gap v k ≡ 1 = unfold gap in rw e in

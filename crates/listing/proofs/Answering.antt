@@ -17,11 +17,11 @@ module _ (named : Bool) (a : LowerAnswer) (constants listing : List ℕ) where
   pub accepted-text : a .number ≡ 0 → pageOf (take (a .count - 0) constants) (take (a .written - 0) listing) ≡ textOf named a constants listing
   accepted-text h = simp (sub-zero, eq-eqb _ _ h)
 
-pub all-printed : (named : Bool) (sheet : List ℕ) {a : LowerAnswer} {constants listing : List ℕ} → a ≡ answer sheet (replicate 65536 0) (replicate 256 0)
-    → listing ≡ listingAfter sheet (replicate 65536 0) (replicate 256 0) → constants ≡ constantsAfter sheet (replicate 65536 0) (replicate 256 0)
+pub all-printed : (named : Bool) (sheet : List ℕ) {a : LowerAnswer} {constants listing : List ℕ} → a ≡ answer sheet (replicate 65536 0) (replicate 256 0) (replicate 256 0)
+    → listing ≡ listingAfter sheet (replicate 65536 0) (replicate 256 0) (replicate 256 0) → constants ≡ constantsAfter sheet (replicate 65536 0) (replicate 256 0) (replicate 256 0)
     → textOf named a constants listing ≡ printedFor named sheet
 unfolding printedFor
 all-printed named sheet {a} {constants} {listing} e f g =
     ap (λ a. textOf named a constants listing) e
-    ∙ ap (λ k. textOf named (answer sheet (replicate 65536 0) (replicate 256 0)) k listing) g
-    ∙ ap (textOf named (answer sheet (replicate 65536 0) (replicate 256 0)) (constantsAfter sheet (replicate 65536 0) (replicate 256 0))) f
+    ∙ ap (λ k. textOf named (answer sheet (replicate 65536 0) (replicate 256 0) (replicate 256 0)) k listing) g
+    ∙ ap (textOf named (answer sheet (replicate 65536 0) (replicate 256 0) (replicate 256 0)) (constantsAfter sheet (replicate 65536 0) (replicate 256 0) (replicate 256 0))) f

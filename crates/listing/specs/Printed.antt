@@ -28,7 +28,9 @@ unfoldable pub printedFor : Bool → List ℕ → List ℕ
 printedFor named sheet =
     let listing : List ℕ = replicate 65536 0 in
     let constants : List ℕ = replicate 256 0 in
-    textOf named (answer sheet listing constants) (constantsAfter sheet listing constants) (listingAfter sheet listing constants)
+    let origins : List ℕ = replicate 256 0 in
+    textOf named (answer sheet listing constants origins) (constantsAfter sheet listing constants origins)
+    (listingAfter sheet listing constants origins)
 
 -- from standard input
 abbrev pub printed : List ℕ → List ℕ

@@ -52,7 +52,8 @@ fn put_sheet(sheet: &[u8], named: bool, out: &mut [u8]) -> usize
 {
     let mut listing = [0u8; 65536];
     let mut constants = [0u64; 256];
-    let a = lower(sheet, &mut listing, &mut constants);
+    let mut origins = [0u16; 256];
+    let a = lower(sheet, &mut listing, &mut constants, &mut origins);
     put_text(out, named, a, &constants, &listing)
 }
 

@@ -39,8 +39,9 @@ answerText answer =
     cond (eqb (wordAt answer 0) 8) (answerLine answer) (answerLine answer ++ drawnLine (take 66 (drop 194 answer)))
 
 -- the lent bytes are what the call leaves, and the text is its answer's
-pub record Lowers (call : LowerCall) (o listing constants answer o' : List ℕ) (n : ℕ) : Type 0 where
+pub record Lowers (call : LowerCall) (o listing constants origins answer o' : List ℕ) (n : ℕ) : Type 0 where
   pub of-listing : listing ≡ call .listing
   pub of-constants : constants ≡ call .constants
+  pub of-origins : origins ≡ call .origins
   pub of-answer : answer ≡ call .answer
   pub prints : Puts o 0 (answerText (call .answer)) o' n

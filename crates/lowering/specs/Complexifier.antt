@@ -1,6 +1,6 @@
 -- complexify.rs's `Complexifier`: what its methods list and record, under their names and in their order.
 use Prim.Native.Nat.{ℕ, suc}
-use mathlib.Core.Bool.{Bool, true, false, cond, _&&_}
+use mathlib.Core.Bool.{Bool, true, false, not, cond, _&&_}
 use mathlib.Core.List.{List, [], _∷_, _++_, map}
 use lib.ListN.{length}
 use lib.Dec.{ltb, eqb}
@@ -101,11 +101,15 @@ unfoldable pub position : ℕ → List ℕ → ℕ
 position v [] = 0
 position v (x ∷ xs) = cond (eqb x v) 0 (suc (position v xs))
 
+-- "Finding a constant now also says whether it was appended": it is where v stands nowhere among the constants
+abbrev pub appends : ℕ → List ℕ → Bool
+appends v consts = not (ltb (position v consts) (length consts))
+
 -- `stable_const`: "Constants added by stable mode are appended unless equal bits stand earlier": the constants then, where v stands at
 -- `position v`
 unfoldable pub stableConst : ℕ → List ℕ → List ℕ
 unfolding position
-stableConst v consts = cond (ltb (position v consts) (length consts)) consts (consts ++ v ∷ [])
+stableConst v consts = cond (appends v consts) (consts ++ v ∷ []) consts
 
 -- f64::MIN_POSITIVE, f64::INFINITY and 0.25
 abbrev pub MIN_POSITIVE : ℕ

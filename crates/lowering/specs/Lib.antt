@@ -6,5 +6,6 @@ pub mod Complexifier
 pub mod Rerun
 pub mod Labels
 pub mod Lower
+pub mod Origins
 pub mod Paper
 pub mod Elsewhere

@@ -31,7 +31,7 @@ use Rattle.lowering.specs.Labels.{role, later, misplaced, unequal, passed}
 use Rattle.lowering.specs.Lower.{barred, lowerFrom, lowerSheet}
 use Rattle.leftovers.specs.Leftovers.{Lowered, sheetOf, Accepted, lowered, realAt, playOn}
 use Rattle.leftovers.specs.Examples.{room, zeros, clean}
-use Rattle.entries.specs.Examples.{bytes, words, leftOf}
+use Rattle.entries.specs.Examples.{bytes, words, names, leftOf}
 use Rattle.leftovers.proofs.Examples.{clean-given}
 use Rattle.entries.proofs.Examples.{accepts, as-left}
 use Rattle.meaning.specs.Settled.{Unmixed}

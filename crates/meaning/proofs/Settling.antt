@@ -102,17 +102,17 @@ module _ (m : Mode) (k : List ℕ) where
       stands-so is (cond (isLabel l i) going (seeking l)) n (λ j. h (suc j)) (λ j. h' (suc j)) X (λ n X' l e. t (suc n) X' (omega arith) e)
 
 pub settled : Settled
-settled sheet listing constants σ₀ a h t w j X e =
+settled sheet listing constants origins σ₀ a h t w j X e =
     p .points j X (stands-so (s .mode) (s .constants) (s .instructions) going j (p .lost) w (valuesOf (realAt s 0) σ₀) unmixing ∙ e)
   where
     s : Sheet
     s = sheetOf sheet
 
-    p : Preserves (left sheet listing constants) σ₀
-    p = preserved sheet listing constants σ₀ a h
+    p : Preserves (left sheet listing constants origins) σ₀
+    p = preserved sheet listing constants origins σ₀ a h
 
     v : AllIn (length (s .constants)) (s .instructions)
-    v = sound sheet (length listing) (entered sheet listing constants a .accepted) .in-range
+    v = sound sheet (length listing) (entered sheet listing constants origins a .accepted) .in-range
 
     unmixing : (n : ℕ) (X' : Values) → n < length (s .instructions) → stands (s .mode) (s .constants) (p .lost) going n (s .instructions) (valuesOf (realAt s 0) σ₀) ≡ some X'
         → Unmixing (s .mode) (getD (s .instructions) n Instruction.Nop) X'

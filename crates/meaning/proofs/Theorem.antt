@@ -107,6 +107,6 @@ lowered-preserves bytes room σ₀ a h =
 
 -- what `lower` left is what is lowered
 pub preserved : Preserved
-preserved sheet listing constants σ₀ a h =
-    let f = entered sheet listing constants a in
-    subst (λ (l : Lowered). Preserves l σ₀) (same sheet listing constants f) (lowered-preserves sheet (length listing) σ₀ (f .accepted) h)
+preserved sheet listing constants origins σ₀ a h =
+    let f = entered sheet listing constants origins a in
+    subst (λ (l : Lowered). Preserves l σ₀) (same sheet listing constants origins f) (lowered-preserves sheet (length listing) σ₀ (f .accepted) h)

@@ -257,6 +257,6 @@ module _ (roots : Bool) where
     }
 
 pub tidied : Tidied
-tidied sheet listing constants σ₀ roots a h t =
-    tidy-preserves roots (left sheet listing constants) σ₀ (preserved sheet listing constants σ₀ a h) _
-    (sound sheet (length listing) (entered sheet listing constants a .accepted) .in-range) t
+tidied sheet listing constants origins σ₀ roots a h t =
+    tidy-preserves roots (left sheet listing constants origins) σ₀ (preserved sheet listing constants origins σ₀ a h) _
+    (sound sheet (length listing) (entered sheet listing constants origins a .accepted) .in-range) t

@@ -8,7 +8,7 @@ use Rattle.player_machine.specs.Machine.{at, place}
 use Rattle.complexify.specs.Entry.{answer}
 use Rattle.leftovers.specs.Leftovers.{sheetOf, playOn}
 use Rattle.leftovers.specs.Examples.{header, zeros}
-use Rattle.entries.specs.Examples.{bytes, words, leftOf}
+use Rattle.entries.specs.Examples.{bytes, words, names, leftOf}
 use Rattle.meaning.specs.Settled.{Unmixed}
 use Rattle.meaning.specs.Tidy.{TidySheet}
 
@@ -29,12 +29,12 @@ dividing =
 
 -- the sheet is accepted and tidy, and x + iy is what its play saves to Mem 0 (theorem `tidyMet`: 3 - 3i of `dividing`)
 pub record TidyMet (sheet : List ℕ) (x y : ℕ) : Type 0 where
-  pub accepted : answer sheet bytes words .number ≡ 0
+  pub accepted : answer sheet bytes words names .number ≡ 0
   pub tidy : TidySheet false (sheetOf sheet)
   pub real : at (playOn (leftOf sheet) 0 zeros .store) (place (Loc.Mem 0)) ≡ x
   pub imaginary : at (playOn (leftOf sheet) 0 zeros .store) (suc (place (Loc.Mem 0))) ≡ y
 
 -- the sheet is accepted, and no Half of it loses a word (theorem `settledMet`: the Half of `clean`, of demand 3's examples)
 pub record SettledMet (sheet : List ℕ) : Type 0 where
-  pub accepted : answer sheet bytes words .number ≡ 0
+  pub accepted : answer sheet bytes words names .number ≡ 0
   pub unmixed : Unmixed (sheetOf sheet)

@@ -63,5 +63,5 @@ pub record Preserves (l : Lowered) (σ₀ : Store) : Type 0 where
 -- for every call of `lower` that answers 0 and every store on which `play` plays what it left (theorem `preserved`)
 abbrev pub Preserved : Type 0
 Preserved =
-    (sheet listing constants : List ℕ) (σ₀ : Store) → answer sheet listing constants .number ≡ 0 → length σ₀ ≡ 1602
-    → Preserves (left sheet listing constants) σ₀
+    (sheet listing constants origins : List ℕ) (σ₀ : Store) → answer sheet listing constants origins .number ≡ 0 → length σ₀ ≡ 1602
+    → Preserves (left sheet listing constants origins) σ₀

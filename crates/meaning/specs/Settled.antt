@@ -26,5 +26,5 @@ Unmixed s =
 -- (theorem `settled`)
 abbrev pub Settled : Type 0
 Settled =
-    (sheet listing constants : List ℕ) (σ₀ : Store) → answer sheet listing constants .number ≡ 0 → length σ₀ ≡ 1602 → Unmixed (sheetOf sheet)
-    → (h : ℕ → ℕ) (j : ℕ) (X : Values) → meaning (sheetOf sheet) h σ₀ j ≡ some X → StandsWith 32 Every (left sheet listing constants) σ₀ j X
+    (sheet listing constants origins : List ℕ) (σ₀ : Store) → answer sheet listing constants origins .number ≡ 0 → length σ₀ ≡ 1602 → Unmixed (sheetOf sheet)
+    → (h : ℕ → ℕ) (j : ℕ) (X : Values) → meaning (sheetOf sheet) h σ₀ j ≡ some X → StandsWith 32 Every (left sheet listing constants origins) σ₀ j X

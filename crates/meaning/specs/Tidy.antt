@@ -99,5 +99,5 @@ pub record TidyPreserves (roots : Bool) (l : Lowered) (σ₀ : Store) : Type 0 w
 -- for every call of `lower` that answers 0 for a tidy sheet, and every store (theorem `tidied`)
 abbrev pub Tidied : Type 0
 Tidied =
-    (sheet listing constants : List ℕ) (σ₀ : Store) (roots : Bool) → answer sheet listing constants .number ≡ 0 → length σ₀ ≡ 1602
-    → TidySheet roots (sheetOf sheet) → TidyPreserves roots (left sheet listing constants) σ₀
+    (sheet listing constants origins : List ℕ) (σ₀ : Store) (roots : Bool) → answer sheet listing constants origins .number ≡ 0 → length σ₀ ≡ 1602
+    → TidySheet roots (sheetOf sheet) → TidyPreserves roots (left sheet listing constants origins) σ₀

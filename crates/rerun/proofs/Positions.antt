@@ -10,7 +10,7 @@ use borrow.Author.Tests.{eq-eqb, ne-eqb, lt-ltb, le-ltb}
 use lib.ListN.{length, take, drop, replicate, getD, set, length-append, length-take, drop-of-length-le}
 use lib.Seq.{drop-cons, drop-drop, drop-set-lt, take-suc-set}
 use lib.Dec.{eqb}
-use Rattle.lowering.specs.Complexifier.{position, stableConst}
+use Rattle.lowering.specs.Complexifier.{position, appends, stableConst}
 use Rattle.rerun.specs.declared.output.Added.{Added}
 use Rattle.rerun.specs.declared.constants.Found.{Found}
 use Rattle.rerun.specs.Added.{none, table, Sought, ThreeSought}
@@ -59,13 +59,20 @@ module _ (v : ℕ) where
   in-second [] l h = sym (zero-add (position v l))
   in-second (x ∷ k) l h = right (eqb x v) (position v k) (position v (k ++ l)) (length k) (position v l) (in-second k l) h
 
+  -- it is appended where it stands nowhere
+  pub found-there : (t : List ℕ) → position v t < length t → appends v t ≡ false
+  found-there t h = simp (lt-ltb _ _ h)
+
+  pub found-nowhere : (t : List ℕ) → length t ≤ position v t → appends v t ≡ true
+  found-nowhere t h = simp (le-ltb _ _ h)
+
   pub stays : (t : List ℕ) → position v t < length t → stableConst v t ≡ t
   unfolding stableConst
-  stays t h = simp (lt-ltb _ _ h)
+  stays t h = simp (found-there t h)
 
   pub grows : (t : List ℕ) → length t ≤ position v t → stableConst v t ≡ t ++ v ∷ []
   unfolding stableConst
-  grows t h = simp (le-ltb _ _ h)
+  grows t h = simp (found-nowhere t h)
 
   pub at-end : (t : List ℕ) → length t ≤ position v t → position v (t ++ v ∷ []) ≡ length t
   unfolding position
@@ -81,26 +88,34 @@ one-less l c v z h =
 
 -- the three answers of `stable_const`
 module _ {k : List ℕ} {a : Added} {v : ℕ} where
-  pub found : {p : ℕ} → p ≡ position v k → p < length k → Sought k a v (record { at = p; added = a })
+  pub found : {p : ℕ} → p ≡ position v k → p < length k → Sought k a v (record { at = p; appended = false; added = a })
   found {p} e h =
       let t = table k a in
       let f = in-first v k (take (a .count) (a .words)) (omega (arith, e)) in
       let n : length t ≡ length k + length (take (a .count) (a .words)) = simp length-append in
-      let s = stays v t (omega (arith, e, f, n)) in
-      record { at = e ∙ sym f ∙ ap (position v) (sym s); kept = sym s; few = omega arith; zeros = λ z. z }
+      let h : position v t < length t = omega (arith, e, f, n) in
+      let s = stays v t h in
+      record { at = e ∙ sym f ∙ ap (position v) (sym s); told = sym (found-there v t h); kept = sym s; few = omega arith; zeros = λ z. z }
 
   pub found-added : {q : ℕ} → length k ≤ position v k → q ≡ position v (take (a .count) (a .words)) → q < length (take (a .count) (a .words))
-      → Sought k a v (record { at = length k + q; added = a })
+      → Sought k a v (record { at = length k + q; appended = false; added = a })
   found-added {q} h e m =
       let t = table k a in
       let f = in-second v k (take (a .count) (a .words)) h in
       let n : length t ≡ length k + length (take (a .count) (a .words)) = simp length-append in
-      let s = stays v t (omega (arith, e, f, n, m)) in
-      record { at = ap (λ q. length k + q) e ∙ sym f ∙ ap (position v) (sym s); kept = sym s; few = omega arith; zeros = λ z. z }
+      let i : position v t < length t = omega (arith, e, f, n, m) in
+      let s = stays v t i in
+      record {
+        at = ap (λ q. length k + q) e ∙ sym f ∙ ap (position v) (sym s);
+        told = sym (found-there v t i);
+        kept = sym s;
+        few = omega arith;
+        zeros = λ z. z;
+      }
 
   pub newly : length k ≤ position v k → length (take (a .count) (a .words)) ≤ position v (take (a .count) (a .words))
       → a .count < length (a .words) → length (a .words) ≡ 3
-      → Sought k a v (record { at = length k + a .count; added = record { words = set (a .words) (a .count) v; count = a .count + 1 } })
+      → Sought k a v (record { at = length k + a .count; appended = true; added = record { words = set (a .words) (a .count) v; count = a .count + 1 } })
   newly h m c three =
       let t = table k a in
       let f = in-second v k (take (a .count) (a .words)) h in
@@ -110,6 +125,7 @@ module _ {k : List ℕ} {a : Added} {v : ℕ} where
       let s = grows v t z in
       record {
         at = omega (arith, n, w) ∙ sym (at-end v t z) ∙ ap (position v) (sym s);
+        told = sym (found-nowhere v t z);
         kept =
             ap (λ c. k ++ take c (set (a .words) (a .count) v)) (add-one (a .count))
             ∙ ap (λ l. k ++ l) (take-suc-set (a .words) (a .count) v c)

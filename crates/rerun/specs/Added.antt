@@ -3,7 +3,7 @@ use Prim.Native.Nat.{ℕ, suc, _-_, _≤_}
 use mathlib.Core.Path.{_≡_}
 use mathlib.Core.List.{List, [], _∷_, _++_}
 use lib.ListN.{take, drop, replicate}
-use Rattle.lowering.specs.Complexifier.{position, stableConst, threeConsts}
+use Rattle.lowering.specs.Complexifier.{position, appends, stableConst, threeConsts}
 use Rattle.rerun.specs.declared.output.Added.{Added}
 use Rattle.rerun.specs.declared.constants.Found.{Found}
 use Rattle.rerun.specs.declared.constants.Three.{Three}
@@ -20,9 +20,10 @@ table k a = k ++ take (a .count) (a .words)
 abbrev pub Zeros : Added → Type 0
 Zeros a = drop (a .count) (a .words) ≡ replicate (3 - a .count) 0
 
--- `stable_const` of v: the position, and what is then added
+-- `stable_const` of v: the position, whether it was appended, and what is then added
 pub record Sought (k : List ℕ) (a : Added) (v : ℕ) (f : Found) : Type 0 where
   pub at : f .at ≡ position v (stableConst v (table k a))
+  pub told : f .appended ≡ appends v (table k a)
   pub kept : table k (f .added) ≡ stableConst v (table k a)
   pub few : f .added .count ≤ suc (a .count)
   pub zeros : Zeros a → Zeros (f .added)

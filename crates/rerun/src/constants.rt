@@ -18,9 +18,10 @@ pub const EXP_MASK_FINITE: u64 = 0x7fe0_0000_0000_0000;
 
 pub const FLOOR_FINITE: u64 = 0x0020_0000_0000_0000;
 
-// The index of a constant, and what is then added.
+// The index of a constant, whether it was appended, and what is then added.
 pub struct Found {
     pub at: u16,
+    pub appended: bool,
     pub added: Added,
 }
 
@@ -56,6 +57,7 @@ fn stable_const(constants: &[u64], added: Added, v: u64) -> Found
     if p < n {
         return Found {
             at: p as u16,
+            appended: false,
             added: added,
         };
     }
@@ -65,6 +67,7 @@ fn stable_const(constants: &[u64], added: Added, v: u64) -> Found
     if q < k {
         return Found {
             at: (n + q) as u16,
+            appended: false,
             added: added,
         };
     }
@@ -75,6 +78,7 @@ fn stable_const(constants: &[u64], added: Added, v: u64) -> Found
     };
     Found {
         at: (n + k) as u16,
+        appended: true,
         added: more,
     }
 }

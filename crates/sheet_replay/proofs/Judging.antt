@@ -15,7 +15,7 @@ use Rattle.words.specs.Bytes.{wordsOf, stored}
 use Rattle.words.proofs.Stored.{stored-fits}
 use Rattle.replay.specs.Numbers.{u32At}
 use Rattle.replay.proofs.Parts.{take-replicate}
-use Rattle.sheet_replay.specs.Case.{Lent, lentBytes, lentWords, room, tableLength, written, count, listingAt, constantsAt, end, sheet, answered, listingAfter, constantsAfter, numbersAgree, listingExpected, constantsExpected, expected, differs}
+use Rattle.sheet_replay.specs.Case.{Lent, lentBytes, lentWords, lentNumbers, room, tableLength, written, count, listingAt, constantsAt, end, sheet, answered, listingAfter, constantsAfter, numbersAgree, listingExpected, constantsExpected, expected, differs}
 
 module _ (s : List ℕ) {n m : ℕ} {l c : List ℕ} (hn : n ≡ room s) (hm : m ≡ tableLength s) (bn : n ≤ 65537) (bm : m ≤ 257) where
   pub lent : l ≡ lentBytes 65537 → c ≡ lentWords 257 → Lent s (take n l) (take m c)
@@ -84,16 +84,16 @@ module _ (s : List ℕ) {at : ℕ} {l₀ c₀ : List ℕ} (ha : at ≡ listingAt
       ∙ (ap (λ (l : List ℕ). f (sheet s) l c₀) (p .bytes) ∙ ap (f (sheet s) (lentBytes (room s))) (p .words))
 
   pub judged : {a : LowerAnswer} {l c : List ℕ} {g : Bool}
-      → a ≡ Entry.answer (take (at - 256) (drop 256 s)) l₀ c₀
-      → l ≡ Entry.listingAfter (take (at - 256) (drop 256 s)) l₀ c₀
-      → c ≡ Entry.constantsAfter (take (at - 256) (drop 256 s)) l₀ c₀
+      → a ≡ Entry.answer (take (at - 256) (drop 256 s)) l₀ c₀ lentNumbers
+      → l ≡ Entry.listingAfter (take (at - 256) (drop 256 s)) l₀ c₀ lentNumbers
+      → c ≡ Entry.constantsAfter (take (at - 256) (drop 256 s)) l₀ c₀ lentNumbers
       → g ≡ expected s a l c
       → (a .number ≡ answered s .number) × (not g ≡ differs s)
   unfolding answered listingAfter constantsAfter differs
   judged {a} {l} {c} ea el ec eg =
-      let x : a ≡ answered s = ea ∙ of-case Entry.answer in
-      let y : l ≡ listingAfter s = el ∙ of-case Entry.listingAfter in
-      let z : c ≡ constantsAfter s = ec ∙ of-case Entry.constantsAfter in (
+      let x : a ≡ answered s = ea ∙ of-case (λ s l c. Entry.answer s l c lentNumbers) in
+      let y : l ≡ listingAfter s = el ∙ of-case (λ s l c. Entry.listingAfter s l c lentNumbers) in
+      let z : c ≡ constantsAfter s = ec ∙ of-case (λ s l c. Entry.constantsAfter s l c lentNumbers) in (
         ap (λ (b : LowerAnswer). b .number) x,
         ap not
             (eg

@@ -58,6 +58,10 @@ lentBytes n = replicate n 165
 unfoldable pub lentWords : ℕ → List ℕ
 lentWords n = replicate n 11936128518282651045
 
+-- the numbers lent for the origins, of which a case says nothing
+abbrev pub lentNumbers : List ℕ
+lentNumbers = replicate 256 0
+
 -- both slices as a case lends them
 pub record Lent (s listing constants : List ℕ) : Type 0 where
   pub bytes : listing ≡ lentBytes (room s)
@@ -68,13 +72,13 @@ sheet s = take (sheetLength s) (drop 256 s)
 
 -- what lowering answers, and both slices after it
 unfoldable pub answered : List ℕ → LowerAnswer
-answered s = Entry.answer (sheet s) (lentBytes (room s)) (lentWords (tableLength s))
+answered s = Entry.answer (sheet s) (lentBytes (room s)) (lentWords (tableLength s)) lentNumbers
 
 unfoldable pub listingAfter : List ℕ → List ℕ
-listingAfter s = Entry.listingAfter (sheet s) (lentBytes (room s)) (lentWords (tableLength s))
+listingAfter s = Entry.listingAfter (sheet s) (lentBytes (room s)) (lentWords (tableLength s)) lentNumbers
 
 unfoldable pub constantsAfter : List ℕ → List ℕ
-constantsAfter s = Entry.constantsAfter (sheet s) (lentBytes (room s)) (lentWords (tableLength s))
+constantsAfter s = Entry.constantsAfter (sheet s) (lentBytes (room s)) (lentWords (tableLength s)) lentNumbers
 
 -- whether number, index, bytes written and count of constants are the expected ones
 unfoldable pub numbersAgree : List ℕ → LowerAnswer → Bool

@@ -4,8 +4,9 @@ ghost use mathlib.Core.Path.{_≡_};
 ghost use mathlib.Core.List.{_++_, map};
 ghost use lib.ListN.{length};
 ghost use Rattle.mir.specs.Encode.{flagByte};
+ghost use Rattle.complexify.specs.Entry as Entry;
 ghost use Rattle.sheet_replay.specs.Case as Case;
-ghost use Rattle.sheet_replay.specs.Case.{WholeSheet, Lent, lentBytes, lentWords, answered, differs, expected, numbersAgree, realAgrees, marksAgree, listingExpected, constantsExpected};
+ghost use Rattle.sheet_replay.specs.Case.{WholeSheet, Lent, lentBytes, lentWords, lentNumbers, answered, differs, expected, numbersAgree, realAgrees, marksAgree, listingExpected, constantsExpected};
 use complexify::entry::LowerAnswer;
 use complexify::entry::lower;
 use lowering::bytes::put_flags;
@@ -117,6 +118,16 @@ pub struct SheetOutcome {
     pub differs: bool,
 }
 
+// Lowers a sheet. A case says nothing of origins: 256 numbers are lent for them.
+fn lower_case(sheet: &[u8], listing: &mut [u8], constants: &mut [u64]) -> LowerAnswer
+    ensures { λ r. ⌜ (r ≡ Entry.answer (now (sheet .entry)) (now (listing .entry)) (now (constants .entry)) lentNumbers)
+        × (now (listing .exit) ≡ Entry.listingAfter (now (sheet .entry)) (now (listing .entry)) (now (constants .entry)) lentNumbers)
+        × (now (constants .exit) ≡ Entry.constantsAfter (now (sheet .entry)) (now (listing .entry)) (now (constants .entry)) lentNumbers) ⌝ }
+{
+    let mut origins = [0u16; 256];
+    lower(sheet, listing, constants, &mut origins)
+}
+
 // Lowers the case's sheet, and compares what lowering gives with what the case expects, which is made of the last two slices.
 fn judge(
     s: &[u8],
@@ -133,7 +144,7 @@ fn judge(
     let stop = end(s);
     put_bytes(bytes, 0, &s[at..row]);
     load(words, &s[row..stop]);
-    let a = lower(&s[256..at], listing, constants);
+    let a = lower_case(&s[256..at], listing, constants);
     let agreed = agrees(s, a, listing, constants, bytes, words);
     SheetOutcome {
         number: a.number,

@@ -37,7 +37,7 @@ use Rattle.lowering.specs.Lower.{lowerFrom, lowerSheet}
 use Rattle.leftovers.specs.Leftovers.{Leftover, half, Accepted}
 use Rattle.leftovers.specs.Kept.{Kept, kept-im, Parted}
 use Rattle.leftovers.specs.Examples.{zeros, header, touched, mixing, stableMixing, mindingMixing, clean}
-use Rattle.entries.specs.Examples.{bytes, words, Needed, Minded, Met, JumpedOver}
+use Rattle.entries.specs.Examples.{bytes, words, names, Needed, Minded, Met, JumpedOver}
 use Rattle.entries.specs.Drawn.{NoneDrawn}
 use Rattle.entries.specs.DrawnExamples.{filling, drawing, filledWith, DrawnApart}
 use Rattle.entries.proofs.Entered.{answered}
@@ -54,7 +54,7 @@ use Rattle.pages.specs.Uncut.{UncutLaw}
 
 -- where the endings differ the condition fails, and where it holds they are alike
 apart : (sheet : List ℕ) (i : ℕ) → Needed sheet i → Met sheet i → ⊥
-apart sheet i n m = n .differs (entries-demand-3 sheet bytes words zeros i zeros touched (n .given) .ending (m .unmixed))
+apart sheet i n m = n .differs (entries-demand-3 sheet bytes words names zeros i zeros touched (n .given) .ending (m .unmixed))
 
 pub met-where-mixing : Met mixing 1 → ⊥
 met-where-mixing m = apart mixing 1 needed m
@@ -84,11 +84,11 @@ parted-by-two-records p =
 pub none-filled : NoneDrawn (λ a. a .filled) → ⊥
 none-filled law =
     let d = drawn-apart in
-    d .apart (law drawing bytes words (filledWith 0) (filledWith 1) (d .accepted) (d .unfilled) (d .places) .places 578 (lit≤ tt))
+    d .apart (law drawing bytes words names (filledWith 0) (filledWith 1) (d .accepted) (d .unfilled) (d .places) .places 578 (lit≤ tt))
 
 pub apart-where-unmarked : DrawnApart filling (filledWith 0) (filledWith 1) 578 → ⊥
 apart-where-unmarked d =
-    d .apart (none-drawn filling bytes words (filledWith 0) (filledWith 1) (d .accepted) (undrawn .unmarked) (d .places) .places 578 (lit≤ tt))
+    d .apart (none-drawn filling bytes words names (filledWith 0) (filledWith 1) (d .accepted) (undrawn .unmarked) (d .places) .places 578 (lit≤ tt))
 
 -- ---- mode 2
 
@@ -174,8 +174,9 @@ pub figures-of-no-sheet : FiguresReported (λ sheet. refusal 8 0) → ⊥
 figures-of-no-sheet law =
     let listing : List ℕ = replicate 65536 0 in
     let long : length listing ≡ 65536 = length-replicate {A = ℕ} 65536 0 in
-    let a = answered header listing (replicate 256 0) (subst (λ n. Accepted header n) (sym long) header-accepted) (length-replicate {A = ℕ} 256 0) in
-    differ (sym a ∙ law header listing (replicate 256 0) long (length-replicate {A = ℕ} 256 0) .number)
+    let two : length (replicate {A = ℕ} 256 0) ≡ 256 = length-replicate {A = ℕ} 256 0 in
+    let a = answered header listing (replicate 256 0) (replicate 256 0) (subst (λ n. Accepted header n) (sym long) header-accepted) two two in
+    differ (sym a ∙ law header listing (replicate 256 0) (replicate 256 0) long two two .number)
   where
     differ : _≡_ {A = ℕ} 0 8 → ⊥
     differ e = omega arith

@@ -29,6 +29,7 @@ use Rattle.meaning.specs.Settled.{Settled}
 use Rattle.meaning.specs.Tidy.{Tidied}
 use Rattle.meaning.specs.Examples.{dividing, TidyMet, SettledMet}
 use Rattle.entries.specs.Complexified.{Complexified}
+use Rattle.entries.specs.Originated.{Originated, Finding, Refusing}
 use Rattle.figures.specs.Shelf.{shelf}
 use Rattle.figures.specs.Told.{FiguresReported}
 use Rattle.assembly.specs.SheetText.{sheetText}
@@ -44,6 +45,11 @@ use Rattle.pages.specs.Uncut.{UncutLaw, Joined}
 pub record Theorems : Type 0 where
   -- demand 2: a call of `lower` leaves what `complexify` lists for the instructions that it finished, all of them where it answers 0
   pub complexified : Complexified
+  -- "per constant, the instruction that first appended it, or 65,535 for one from the sheet", of every call of `lower` that is not refused by
+  -- 8; there are such constants, and a refused instruction names none
+  pub originated : Originated
+  pub named : Finding
+  pub namedNone : Refusing
   -- mode 2 lists and records as stable mode does, but for Half and for Divide into Temp
   pub elsewhereStable : ElsewhereStable minded
   -- demand 3, of every call of `lower` that answers 0

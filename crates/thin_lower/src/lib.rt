@@ -26,13 +26,15 @@ pub fn lower(
     sheet: &[u8],
     listing: &mut [u8],
     constants: &mut [u64],
+    origins: &mut [u16],
 ) -> Numbers
-    ensures { λ r. ⌜ (r ≡ numbersOf (Spec.answer (now (sheet .entry)) (now (listing .entry)) (now (constants .entry))))
-        × (now (realness .exit) ≡ heldOf (Spec.answer (now (sheet .entry)) (now (listing .entry)) (now (constants .entry))))
-        × (now (listing .exit) ≡ Spec.listingAfter (now (sheet .entry)) (now (listing .entry)) (now (constants .entry)))
-        × (now (constants .exit) ≡ Spec.constantsAfter (now (sheet .entry)) (now (listing .entry)) (now (constants .entry))) ⌝ }
+    ensures { λ r. ⌜ (r ≡ numbersOf (Spec.answer (now (sheet .entry)) (now (listing .entry)) (now (constants .entry)) (now (origins .entry))))
+        × (now (realness .exit) ≡ heldOf (Spec.answer (now (sheet .entry)) (now (listing .entry)) (now (constants .entry)) (now (origins .entry))))
+        × (now (listing .exit) ≡ Spec.listingAfter (now (sheet .entry)) (now (listing .entry)) (now (constants .entry)) (now (origins .entry)))
+        × (now (constants .exit) ≡ Spec.constantsAfter (now (sheet .entry)) (now (listing .entry)) (now (constants .entry)) (now (origins .entry)))
+        × (now (origins .exit) ≡ Spec.originsAfter (now (sheet .entry)) (now (listing .entry)) (now (constants .entry)) (now (origins .entry))) ⌝ }
 {
-    let answer = complexify::entry::lower(sheet, listing, constants);
+    let answer = complexify::entry::lower(sheet, listing, constants, origins);
     *realness = Held {
         real: answer.real,
         filled: answer.filled,

@@ -25,9 +25,10 @@ fn row(name: &'static str, records: usize, call: impl FnMut() + 'static) -> Row 
 fn lowering(name: &'static str, instructions: Vec<Vec<u8>>) -> Row {
     let sheet = sheet(false, &[0; 64], &[], &instructions);
     let (mut listing, mut constants, mut answer) = (vec![0; LISTING_LIMIT], vec![0; 8 * TABLE], [0; ffi::LOWER_ANSWER]);
-    assert_eq!(ffi::lower(&sheet, &mut listing, &mut constants, &mut answer), 0);
+    let mut origins = [0; ffi::ORIGINS];
+    assert_eq!(ffi::lower(&sheet, &mut listing, &mut constants, &mut origins, &mut answer), 0);
     row(name, instructions.len(), move || {
-        black_box(ffi::lower(black_box(&sheet), &mut listing, &mut constants, &mut answer));
+        black_box(ffi::lower(black_box(&sheet), &mut listing, &mut constants, &mut origins, &mut answer));
     })
 }
 

@@ -20,7 +20,7 @@ fn sheet(record: &[u8], bytes: usize) -> Vec<u8> {
 fn lowered(sheet: &[u8]) -> u32 {
     let (mut listing, mut constants, mut answer) =
         (vec![0; LISTING_LIMIT], vec![0; 8 * TABLE], vec![0; ffi::LOWER_ANSWER]);
-    ffi::lower(black_box(sheet), &mut listing, &mut constants, &mut answer)
+    ffi::lower(black_box(sheet), &mut listing, &mut constants, &mut [0; ffi::ORIGINS], &mut answer)
 }
 
 fn shelved(sheet: &[u8]) -> u32 {

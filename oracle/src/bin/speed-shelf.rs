@@ -26,7 +26,13 @@ fn main() {
     for _ in 0..rounds {
         lower = lower.min(microseconds(|| {
             for sheet in &sheets {
-                black_box(ffi::lower(black_box(sheet), &mut listing, &mut constants, &mut [0; ffi::LOWER_ANSWER]));
+                black_box(ffi::lower(
+                    black_box(sheet),
+                    &mut listing,
+                    &mut constants,
+                    &mut [0; ffi::ORIGINS],
+                    &mut [0; ffi::LOWER_ANSWER],
+                ));
             }
         }));
         shelf = shelf.min(microseconds(|| {

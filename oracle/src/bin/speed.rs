@@ -89,9 +89,10 @@ fn lowering(rounds: u64, stable: bool, size: usize, sheets: &[Decoded]) {
     };
     let (mut listing, mut constants, mut answer) =
         (vec![0; LISTING_LIMIT], vec![0; 8 * TABLE], vec![0; ffi::LOWER_ANSWER]);
+    let mut origins = [0; ffi::ORIGINS];
     let mut ours = || {
         for d in sheets {
-            black_box(ffi::lower(&d.sheet, &mut listing, &mut constants, &mut answer));
+            black_box(ffi::lower(&d.sheet, &mut listing, &mut constants, &mut origins, &mut answer));
         }
     };
     row(&size.to_string(), stable, work, fastest(rounds, [&mut unchanged, &mut ours]));

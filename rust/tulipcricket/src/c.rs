@@ -9,6 +9,8 @@ mod raw {
             listing_len: usize,
             constants: *mut u8,
             constants_len: usize,
+            origins: *mut u8,
+            origins_len: usize,
             answer: *mut u8,
             answer_len: usize,
         ) -> u32;
@@ -64,7 +66,13 @@ mod raw {
 }
 
 /// `tulipcricket_lower`; the number it returns.
-pub fn lower(sheet: &[u8], listing: &mut [u8], constants: &mut [u8; 2048], answer: &mut [u8; 260]) -> u32 {
+pub fn lower(
+    sheet: &[u8],
+    listing: &mut [u8],
+    constants: &mut [u8; 2048],
+    origins: &mut [u8; 512],
+    answer: &mut [u8; 260],
+) -> u32 {
     // SAFETY: each pointer comes with the length of the slice it was taken from, and the function keeps none.
     unsafe {
         raw::tulipcricket_lower(
@@ -74,6 +82,8 @@ pub fn lower(sheet: &[u8], listing: &mut [u8], constants: &mut [u8; 2048], answe
             listing.len(),
             constants.as_mut_ptr(),
             constants.len(),
+            origins.as_mut_ptr(),
+            origins.len(),
             answer.as_mut_ptr(),
             answer.len(),
         )

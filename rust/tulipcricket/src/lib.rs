@@ -94,9 +94,18 @@ pub struct Lowered {
     /// The places recorded as real at the end, as in a header.
     pub real_places: [u8; 64],
     marks: [[bool; REGISTERS]; 2],
+    origins: Vec<u16>,
 }
 
+/// The origin of a constant from the sheet.
+const FROM_THE_SHEET: u16 = 65_535;
+
 impl Lowered {
+    /// Of each constant the instruction that first appended it; `None` of one from the sheet.
+    pub fn origins(&self) -> Vec<Option<u16>> {
+        self.origins.iter().map(|origin| (*origin != FROM_THE_SHEET).then_some(*origin)).collect()
+    }
+
     /// The listing's registers that are filled at the end, by their numbers (64 Ret, 65 Temp).
     pub fn filled(&self) -> Vec<u8> {
         marked(&self.marks[0])
@@ -126,12 +135,15 @@ fn to_bytes(words: &[u64]) -> Vec<u8> {
 /// Lowers a sheet to a listing of at most `room` bytes. What was listed before a refusal is dropped.
 pub fn lower(sheet: &[u8], room: usize) -> Result<Lowered, Refused> {
     let (mut listing, mut table, mut answer) = (vec![0; room], [0; 8 * TABLE], [0; 260]);
-    let refusal = c::lower(sheet, &mut listing, &mut table, &mut answer);
+    let mut origins = [0; 2 * TABLE];
+    let refusal = c::lower(sheet, &mut listing, &mut table, &mut origins, &mut answer);
     accepted(refusal, number(&answer, 8))?;
     listing.truncate(number(&answer, 16) as usize);
+    let count = number(&answer, 24) as usize;
     Ok(Lowered {
         listing,
-        constants: (0..number(&answer, 24) as usize).map(|i| number(&table, 8 * i)).collect(),
+        constants: (0..count).map(|i| number(&table, 8 * i)).collect(),
+        origins: (0..count).map(|i| u16::from_le_bytes([origins[2 * i], origins[2 * i + 1]])).collect(),
         instructions: number(&answer, 8),
         real_registers: std::array::from_fn(|i| answer[32 + i] == 1),
         real_places: answer[64..128].try_into().expect("64 bytes"),

@@ -43,6 +43,18 @@ fn what_a_listing_draws_on_before_filling_it() {
 }
 
 #[test]
+fn where_each_constant_came_from() {
+    assert_eq!(lowered().origins(), [None]);
+    let mut sheet = Sheet::new(Mode::Stable);
+    let infinity = sheet.constant(f64::INFINITY);
+    sheet.load_const(1, infinity).uni(Uni::Abs, 2, 0).uni(Uni::Abs, 3, 0);
+    let found = lower(&sheet.bytes(), LISTING_LIMIT).unwrap();
+    // stable Abs asks for 2^-1021, 2^1023 and infinity
+    assert_eq!(found.constants, [0x7ff0_0000_0000_0000, 0x0020_0000_0000_0000, 0x7fe0_0000_0000_0000]);
+    assert_eq!(found.origins(), [None, Some(1), Some(1)]);
+}
+
+#[test]
 fn forty_bytes_are_refused_by_7_at_3() {
     assert_eq!(lower(&paper(), 40), Err(Refused { why: Why::ListingFull, index: 3 }));
     assert_eq!(lower(&paper(), 41).unwrap().listing.len(), 41);

@@ -11,14 +11,15 @@ lower-bytes-spec =
     tie.close
     (tie.spec
     (λ c κs. search needs)
-    (λ c κs. (c .before .before .before .before .before .before .before .before .before .before .before .before .before .before .before .before .before .pre .0, search needs))
-    (λ c. search needs) (λ c. search needs) (λ c. search needs) (λ c. search needs)
+    (λ c κs. (c .before .before .before .before .before .before .before .before .before .before .before .before .before .before .before .before .before .before .before .before .before .pre .0, search needs))
+    (λ c. search needs) (λ c. search needs) (λ c. search needs) (λ c. search needs) (λ c. search needs)
     (λ c.
-    let e = c .before .before .before .before .before .before .before .before .before .before .before .tulipcricket-lower-unguarded .ensures in
+    let e = c .before .before .before .before .before .before .before .before .before .before .before .before .before .tulipcricket-lower-unguarded .ensures in
     let p = c .before .before .put-answer in
     record {
       of-listing = ap (λ x. x .listing) e;
       of-constants = ap (λ x. x .constants) e;
+      of-origins = ap (λ x. x .origins) e;
       of-answer = ap (λ x. x .answer) e;
-      prints = subst (λ a. Puts (c .before .before .before .before .before .before .before .before .before .before .before .before .before .before .before .before .before .before .before .before .args .out .now) 0 (answerText a) (p .last .0) (p .result)) (ap (λ x. x .answer) e) (p .ensures);
+      prints = subst (λ a. Puts (c .before .before .before .before .before .before .before .before .before .before .before .before .before .before .before .before .before .before .before .before .before .before .before .before .args .out .now) 0 (answerText a) (p .last .0) (p .result)) (ap (λ x. x .answer) e) (p .ensures);
     }))

@@ -22,6 +22,7 @@ use Rattle.meaning.proofs.Settling.{settled}
 use Rattle.meaning.proofs.Tidied.{tidied}
 use Rattle.meaning.proofs.Examples.{settled-met, tidy-met}
 use Rattle.entries.proofs.Complexified.{complexified}
+use Rattle.entries.proofs.Originated.{originated, named, named-none}
 use Rattle.figures.proofs.Theorem.{figures}
 use Rattle.assembly.proofs.Theorem.{round-trip}
 use Rattle.nearest.proofs.Law.{nearest-law}
@@ -34,6 +35,9 @@ returns : tie.Need-returns
 returns c =
     record {
       complexified = complexified;
+      originated = originated;
+      named = named;
+      namedNone = named-none;
       elsewhereStable = elsewhere-stable;
       demand3 = entries-demand-3;
       needed = needed;
