@@ -10,7 +10,7 @@ use lib.Seq.{drop-cons, drop-drop}
 use lib.Dec.{eqb}
 use Rattle.mir.specs.Read.{Read, got, refused}
 use Rattle.replay.specs.Same.{same}
-use Rattle.assembly.specs.Assembled.{joined, pieces, uncommented, numberFrom}
+use Rattle.assembly.specs.Assembled.{joined, pieces, uncommented, number_from}
 use Rattle.assembly.specs.Reading.{before}
 
 one_more : (n k : ℕ) (t : Bool) → n ≤ k → cond t 0 (suc n) ≤ suc k
@@ -54,24 +54,24 @@ cutting c s i e h q =
     ∙ ap (λ x. take (before c (drop i s)) (drop i s) ∷ pieces c x) (drop-drop (suc (before c (drop i s))) i s ∙ ap (λ k. drop k s) m)
     ∙ ap (λ k. take k (drop i s) ∷ pieces c (drop (e + 1) s)) n
 
-pub ends-within : (c : ℕ) (s : List ℕ) (i e : ℕ) → i ≤ length s → e ≡ i + before c (drop i s) → (i ≤ e) × (e ≤ length s)
-ends-within c s i e h q =
+pub ends_within : (c : ℕ) (s : List ℕ) (i e : ℕ) → i ≤ length s → e ≡ i + before c (drop i s) → (i ≤ e) × (e ≤ length s)
+ends_within c s i e h q =
     let k = within c (drop i s) in
     let l : length (drop i s) ≡ length s - i = simp length-drop in
     (omega (arith, q), omega (arith, q, k, l, h))
 
 -- a word compared with the piece of a row
-module _ (s w : List ℕ) (i e n : ℕ) {r : Read ℕ} (known : numberFrom n (pieces 32 (drop i s)) w ≡ r) (h : i < length s) (q : e ≡ i + before 32 (drop i s)) where
+module _ (s w : List ℕ) (i e n : ℕ) {r : Read ℕ} (known : number_from n (pieces 32 (drop i s)) w ≡ r) (h : i < length s) (q : e ≡ i + before 32 (drop i s)) where
   pub found : true ≡ same (take (e - i) (drop i s)) w → got n ≡ r
-  unfolding numberFrom
+  unfolding number_from
   found t = rw (cutting 32 s i e h q, sym t) at known
 
-  pub not_yet : false ≡ same (take (e - i) (drop i s)) w → numberFrom (n + 1) (pieces 32 (drop (e + 1) s)) w ≡ r
-  unfolding numberFrom
+  pub not_yet : false ≡ same (take (e - i) (drop i s)) w → number_from (n + 1) (pieces 32 (drop (e + 1) s)) w ≡ r
+  unfolding number_from
   not_yet t = rw (add-one n) (rw (cutting 32 s i e h q, sym t) at known)
 
-pub none_left : (s w : List ℕ) (i n : ℕ) {r : Read ℕ} → numberFrom n (pieces 32 (drop i s)) w ≡ r → length s ≤ i → refused 3 ≡ r
-unfolding numberFrom pieces
+pub none_left : (s w : List ℕ) (i n : ℕ) {r : Read ℕ} → number_from n (pieces 32 (drop i s)) w ≡ r → length s ≤ i → refused 3 ≡ r
+unfolding number_from pieces
 none_left s w i n known h = rw (drop_of_length-le s h) at known
 
 -- a byte that is passed over, or the one that ends the piece
@@ -98,5 +98,5 @@ unfolding before uncommented
 counts [] = refl
 counts (b ∷ s) = comment b (before 35 s) s (uncommented s) (eqb b 35) (counts s)
 
-pub comment-cut : (l : List ℕ) (e : ℕ) → e ≡ 0 + before 35 l → take (e - 0) l ≡ uncommented l
-comment-cut l e q = let n : e - 0 ≡ before 35 l = omega (arith, q) in ap (λ n. take n l) n ∙ counts l
+pub comment_cut : (l : List ℕ) (e : ℕ) → e ≡ 0 + before 35 l → take (e - 0) l ≡ uncommented l
+comment_cut l e q = let n : e - 0 ≡ before 35 l = omega (arith, q) in ap (λ n. take n l) n ∙ counts l

@@ -7,14 +7,14 @@ use native.Mathlib.Omega.{arith}
 use lib.ListN.{length, take, drop, get_or}
 use Rattle.mir.specs.Read.{Read, got, refused, and_then}
 use Rattle.text.specs.declared.line.Line.{Line}
-use Rattle.text.specs.Line.{emptyLine, addAll}
-use Rattle.assembly.specs.Assembled.{Reading, words_of, numberFrom, heads, nothing, line_of}
+use Rattle.text.specs.Line.{empty_line, add_all}
+use Rattle.assembly.specs.Assembled.{Reading, words_of, number_from, heads, nothing, line_of}
 use Rattle.assembly.specs.declared.reading.WordTaken.{WordTaken}
-use Rattle.assembly.specs.Reading.{run, asWordTaken, wordsPut}
-use Rattle.assembly.specs.Making.{Told, part_of, tagged, asLine, told}
+use Rattle.assembly.specs.Reading.{run, as_word_taken, words_put}
+use Rattle.assembly.specs.Making.{Told, part_of, tagged, as_line, told}
 use Rattle.assembly.proofs.Runs.{no_words, word-at}
 use Rattle.assembly.proofs.Wording.{words-put}
-use Rattle.assembly.proofs.Every.{afterFirst, part_at}
+use Rattle.assembly.proofs.Every.{after_first, part_at}
 
 -- a line's bytes with its first word's number
 tag : (ok : Bool) (n : ℕ) (l : Line)
@@ -22,7 +22,7 @@ tag : (ok : Bool) (n : ℕ) (l : Line)
 tag true n l = refl
 tag false n l = refl
 
-pub tagging : (n : ℕ) (t : WordTaken) → asLine (record { ok = t.ok; head = n; line = t.line }) ≡ and_then (asWordTaken t) (tagged (part_of n))
+pub tagging : (n : ℕ) (t : WordTaken) → as_line (record { ok = t.ok; head = n; line = t.line }) ≡ and_then (as_word_taken t) (tagged (part_of n))
 tagging n t = tag t.ok n t.line
 
 abbrev pub Said : Read Reading → Read Told
@@ -37,12 +37,12 @@ module _ (l : List ℕ) (i : ℕ) (q : i ≡ 0 + run 1 l) where
   -- and the first word at e
   module _ (e : ℕ) (h : i < length l) (z : e ≡ i + run 0 (drop i l)) where
     first : line_of (words_of l)
-        ≡ and_then (numberFrom 0 (map (λ h. h.word) heads) (take (e - i) (drop i l))) (afterFirst (words_of (drop e l)))
+        ≡ and_then (number_from 0 (map (λ h. h.word) heads) (take (e - i) (drop i l))) (after_first (words_of (drop e l)))
     unfolding line_of
     first = ap line_of (word-at l 0 i q e h z)
 
-    pub read_at : (n : ℕ) {p : Read Line} {r : Read Told} → got n ≡ numberFrom 0 (map (λ h. h.word) heads) (take (e - i) (drop i l))
-        → p ≡ wordsPut (get_or heads n nothing).sorts (addAll emptyLine (get_or heads n nothing).start) (words_of (drop e l))
+    pub read_at : (n : ℕ) {p : Read Line} {r : Read Told} → got n ≡ number_from 0 (map (λ h. h.word) heads) (take (e - i) (drop i l))
+        → p ≡ words_put (get_or heads n nothing).sorts (add_all empty_line (get_or heads n nothing).start) (words_of (drop e l))
         → r ≡ and_then p (tagged (part_of n)) → r ≡ Said (line_of (words_of l))
     read_at n {p} g f t =
         let h' = get_or heads n nothing in
@@ -50,8 +50,8 @@ module _ (l : List ℕ) (i : ℕ) (q : i ≡ 0 + run 1 l) where
         ∙ ap (λ x. and_then p (tagged x)) (sym (part_at n))
         ∙ ap (λ x. and_then x (tagged h'.part)) f
         ∙ words-put h'.part h'.sorts (words_of (drop e l)) h'.start
-        ∙ sym (ap Said (first ∙ sym (ap (λ x. and_then x (afterFirst (words_of (drop e l)))) g)))
+        ∙ sym (ap Said (first ∙ sym (ap (λ x. and_then x (after_first (words_of (drop e l)))) g)))
 
-    pub read_none : {r : Read Told} → refused 3 ≡ numberFrom 0 (map (λ h. h.word) heads) (take (e - i) (drop i l)) → r ≡ refused 3
+    pub read_none : {r : Read Told} → refused 3 ≡ number_from 0 (map (λ h. h.word) heads) (take (e - i) (drop i l)) → r ≡ refused 3
         → r ≡ Said (line_of (words_of l))
-    read_none g p = p ∙ sym (ap Said (first ∙ sym (ap (λ x. and_then x (afterFirst (words_of (drop e l)))) g)))
+    read_none g p = p ∙ sym (ap Said (first ∙ sym (ap (λ x. and_then x (after_first (words_of (drop e l)))) g)))

@@ -11,7 +11,7 @@ use Rattle.mir.specs.declared.records.Loc.{Loc}
 use Rattle.mir.specs.Place.{class, index}
 use Rattle.mir.specs.Read.{refuse}
 use Rattle.mir.specs.Operation.{taken}
-use Rattle.mir.specs.Field.{classed, savedTo, on_stack}
+use Rattle.mir.specs.Field.{classed, saved_to, on_stack}
 use Rattle.mir.proofs.IfRead.{IfRead, read, told, tested, chosen}
 use Rattle.assembly.specs.Assembled.{counting}
 
@@ -43,7 +43,7 @@ placed c lo hi h =
     (chosen c 1 (λ e. read (record { kind = sym e; at = w; high = z }))
     (chosen c 2 (λ e. read (record { kind = sym e; at = w; high = z })) told)))
 
-pub saved : (p : Loc) → IfRead (λ q. q ≡ p) (savedTo p)
+pub saved : (p : Loc) → IfRead (λ q. q ≡ p) (saved_to p)
 saved (Loc.Stack i) = read refl
 saved (Loc.Mem i) = read refl
 saved (Loc.Param i) = told

@@ -9,11 +9,11 @@ use Rattle.mir.specs.declared.ops.UniOp.{UniOp}
 use Rattle.mir.specs.declared.ops.BinOp.{BinOp}
 use Rattle.mir.specs.declared.ops.ArithOp.{ArithOp}
 use Rattle.mir.specs.declared.ops.FusedOp.{FusedOp}
-use Rattle.mir.specs.Operation.{uniNumber, binNumber, arithNumber, fusedNumber}
-use Rattle.mir.specs.Encode.{recordOf}
-use Rattle.text.specs.Text.{ascii, uniName, binName, fusedName}
-use Rattle.assembly.specs.Lines.{mathName}
-use Rattle.assembly.specs.Assembled.{Sort, aRegister, aClass, anIndex, instruction, FirstWord, nothing, heads}
+use Rattle.mir.specs.Operation.{uni_number, bin_number, arith_number, fused_number}
+use Rattle.mir.specs.Encode.{record_of}
+use Rattle.text.specs.Text.{ascii, uni_name, bin_name, fused_name}
+use Rattle.assembly.specs.Lines.{math_name}
+use Rattle.assembly.specs.Assembled.{Sort, a_register, a_class, an_index, instruction, FirstWord, nothing, heads}
 use Rattle.assembly.proofs.Pieces.{t_true}
 
 pub record Row (n : ℕ) (h : FirstWord) : Type 0 where
@@ -24,11 +24,11 @@ pub row : (n : ℕ) (h : FirstWord) → T (ltb n 59) → get_or heads n nothing 
 row n h t e = record { low = ltb-true n 59 (t_true (ltb n 59) t); same = e }
 
 -- an instruction's row
-abbrev pub ofOp : List ℕ → ℕ → List ℕ → List Sort → FirstWord
-ofOp name kind ops sorts = record { word = name; part = instruction; start = recordOf kind ops; sorts = sorts }
+abbrev pub of_op : List ℕ → ℕ → List ℕ → List Sort → FirstWord
+of_op name kind ops sorts = record { word = name; part = instruction; start = record_of kind ops; sorts = sorts }
 
-pub uni-row : (op : UniOp) → Row (4 + uniNumber op) (ofOp (uniName op) 1 (uniNumber op ∷ []) (aRegister ∷ aRegister ∷ []))
-unfolding heads recordOf ascii uniName
+pub uni-row : (op : UniOp) → Row (4 + uni_number op) (of_op (uni_name op) 1 (uni_number op ∷ []) (a_register ∷ a_register ∷ []))
+unfolding heads record_of ascii uni_name
 uni-row UniOp.Neg = row 4 _ tt refl
 uni-row UniOp.Not = row 5 _ tt refl
 uni-row UniOp.Abs = row 6 _ tt refl
@@ -50,8 +50,8 @@ uni-row UniOp.Abs2 = row 21 _ tt refl
 uni-row UniOp.TimesI = row 22 _ tt refl
 uni-row UniOp.TimesNegI = row 23 _ tt refl
 
-pub bin-row : (op : BinOp) → Row (24 + binNumber op) (ofOp (binName op) 2 (binNumber op ∷ []) (aRegister ∷ aRegister ∷ aRegister ∷ []))
-unfolding heads recordOf ascii binName
+pub bin-row : (op : BinOp) → Row (24 + bin_number op) (of_op (bin_name op) 2 (bin_number op ∷ []) (a_register ∷ a_register ∷ a_register ∷ []))
+unfolding heads record_of ascii bin_name
 bin-row BinOp.Plus = row 24 _ tt refl
 bin-row BinOp.Minus = row 25 _ tt refl
 bin-row BinOp.Times = row 26 _ tt refl
@@ -68,23 +68,23 @@ bin-row BinOp.Or = row 36 _ tt refl
 bin-row BinOp.Xor = row 37 _ tt refl
 bin-row BinOp.Complex = row 38 _ tt refl
 
-pub fused-row : (op : FusedOp) → Row (43 + fusedNumber op) (ofOp (fusedName op) 7 (fusedNumber op ∷ []) (aRegister ∷ aRegister ∷ aRegister ∷ aRegister ∷ []))
-unfolding heads recordOf ascii fusedName
-fused-row FusedOp.MulAdd = row 43 _ tt refl
-fused-row FusedOp.MulSub = row 44 _ tt refl
-fused-row FusedOp.NegMulAdd = row 45 _ tt refl
-fused-row FusedOp.NegMulSub = row 46 _ tt refl
+pub fused_row : (op : FusedOp) → Row (43 + fused_number op) (of_op (fused_name op) 7 (fused_number op ∷ []) (a_register ∷ a_register ∷ a_register ∷ a_register ∷ []))
+unfolding heads record_of ascii fused_name
+fused_row FusedOp.MulAdd = row 43 _ tt refl
+fused_row FusedOp.MulSub = row 44 _ tt refl
+fused_row FusedOp.NegMulAdd = row 45 _ tt refl
+fused_row FusedOp.NegMulSub = row 46 _ tt refl
 
-pub load_row : (op : ArithOp) → Row (48 + arithNumber op) (ofOp (mathName op ++ ascii "Load") 9 (arithNumber op ∷ []) (aRegister ∷ aRegister ∷ aClass ∷ anIndex ∷ []))
-unfolding heads recordOf ascii mathName
+pub load_row : (op : ArithOp) → Row (48 + arith_number op) (of_op (math_name op ++ ascii "Load") 9 (arith_number op ∷ []) (a_register ∷ a_register ∷ a_class ∷ an_index ∷ []))
+unfolding heads record_of ascii math_name
 load_row ArithOp.Plus = row 48 _ tt refl
 load_row ArithOp.Minus = row 49 _ tt refl
 load_row ArithOp.Times = row 50 _ tt refl
 load_row ArithOp.Divide = row 51 _ tt refl
 
-pub const-row : (op : ArithOp) → Row (52 + arithNumber op) (ofOp (mathName op ++ ascii "Const") 10 (arithNumber op ∷ []) (aRegister ∷ aRegister ∷ anIndex ∷ []))
-unfolding heads recordOf ascii mathName
-const-row ArithOp.Plus = row 52 _ tt refl
-const-row ArithOp.Minus = row 53 _ tt refl
-const-row ArithOp.Times = row 54 _ tt refl
-const-row ArithOp.Divide = row 55 _ tt refl
+pub const_row : (op : ArithOp) → Row (52 + arith_number op) (of_op (math_name op ++ ascii "Const") 10 (arith_number op ∷ []) (a_register ∷ a_register ∷ an_index ∷ []))
+unfolding heads record_of ascii math_name
+const_row ArithOp.Plus = row 52 _ tt refl
+const_row ArithOp.Minus = row 53 _ tt refl
+const_row ArithOp.Times = row 54 _ tt refl
+const_row ArithOp.Divide = row 55 _ tt refl

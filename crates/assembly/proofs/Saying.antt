@@ -8,27 +8,27 @@ use borrow.Author.Tests.{ne_eqb}
 use lib.Dec.{T, eqb}
 use lib.ListN.{length, get_or}
 use Rattle.mir.specs.Read.{Read, got, refused, and_then}
-use Rattle.assembly.specs.Assembled.{numberFrom, word_bytes, Sort, LineKind, FirstWord, nothing, heads, Reading, onto, taking, takingAll, no_more, begun, line_of, pieces, uncommented, words_of, Draft, withLine, firstLine, with_words, stepped, afterLine, assembledFrom}
-use Rattle.assembly.proofs.Pieces.{isWord, areWords, tails, line-words, first, both}
-use Rattle.assembly.proofs.Words.{Stands, head-word}
+use Rattle.assembly.specs.Assembled.{number_from, word_bytes, Sort, LineKind, FirstWord, nothing, heads, Reading, onto, taking, taking_all, no_more, begun, line_of, pieces, uncommented, words_of, Draft, with_line, first_line, with_words, stepped, after_line, assembled_from}
+use Rattle.assembly.proofs.Pieces.{is_word, are_words, tails, line-words, first, both}
+use Rattle.assembly.proofs.Words.{Stands, head_word}
 
 -- words that stand for bytes, sort by sort
 pub data Fields : List Sort → List (List ℕ) → List ℕ → Type 0 where
   none : Fields [] [] []
-  and : {k : Sort} {w b : List ℕ} {ks : List Sort} {ws : List (List ℕ)} {bs : List ℕ} → word_bytes k w ≡ got b → T (isWord w)
+  and : {k : Sort} {w b : List ℕ} {ks : List Sort} {ws : List (List ℕ)} {bs : List ℕ} → word_bytes k w ≡ got b → T (is_word w)
       → Fields ks ws bs
       → Fields (k ∷ ks) (w ∷ ws) (b ++ bs)
 
-worded : {ks : List Sort} {ws : List (List ℕ)} {bs : List ℕ} → Fields ks ws bs → T (areWords ws)
+worded : {ks : List Sort} {ws : List (List ℕ)} {bs : List ℕ} → Fields ks ws bs → T (are_words ws)
 worded none = tt
-worded (and {w} {ws} e t f) = both (isWord w) (areWords ws) t (worded f)
+worded (and {w} {ws} e t f) = both (is_word w) (are_words ws) t (worded f)
 
 taken : {ks : List Sort} {ws : List (List ℕ)} {bs : List ℕ} (part : LineKind) (start : List ℕ) → Fields ks ws bs
-    → takingAll ks (got (record { part = part; bytes = start; words = ws })) ≡ got (record { part = part; bytes = start ++ bs; words = [] })
+    → taking_all ks (got (record { part = part; bytes = start; words = ws })) ≡ got (record { part = part; bytes = start ++ bs; words = [] })
 unfolding taking
 taken part start none = ap (λ b. got (record { part = part; bytes = b; words = [] })) (sym (append-nil start))
 taken part start (and {k} {w} {b} {ks} {ws} {bs} e t f) =
-    ap (λ x. takingAll ks (onto part start ws x)) e
+    ap (λ x. taking_all ks (onto part start ws x)) e
     ∙ taken part (start ++ b) f
     ∙ ap (λ b. got (record { part = part; bytes = b; words = [] })) (append_assoc start b bs)
 
@@ -46,15 +46,15 @@ module _ (n : ℕ) (h : FirstWord) (l : n < 59) (e : get_or heads n nothing ≡ 
       → line_of (h.word ∷ ws) ≡ got (record { part = h.part; bytes = h.start ++ bs; words = [] })
   unfolding line_of
   read ws bs f =
-      ap (λ x. and_then x (λ n. and_then (takingAll (get_or heads n nothing).sorts (got (begun (get_or heads n nothing) ws))) (λ r. no_more r r.words)))
-      (head-word n h l e).number
-      ∙ ap (λ g. and_then (takingAll g.sorts (got (begun g ws))) (λ r. no_more r r.words)) e
+      ap (λ x. and_then x (λ n. and_then (taking_all (get_or heads n nothing).sorts (got (begun (get_or heads n nothing) ws))) (λ r. no_more r r.words)))
+      (head_word n h l e).number
+      ∙ ap (λ g. and_then (taking_all g.sorts (got (begun g ws))) (λ r. no_more r r.words)) e
       ∙ ap (λ x. and_then x (λ r. no_more r r.words)) (taken h.part h.start f)
 
   -- the line of a first word and of words behind it
   pub says : {ws : List (List ℕ)} {bs : List ℕ} → Fields h.sorts ws bs → Says ((h.word ++ tails ws) ++ 10 ∷ []) h.part (h.start ++ bs)
   says {ws} {bs} f =
-      let t = (head-word n h l e).word in
+      let t = (head_word n h l e).word in
       let u = worded f in
       record {
         content = h.word ++ tails ws;
@@ -71,10 +71,10 @@ retold {t} {u} {part} {a} {b} e f s = subst (λ x. Says u part x) f (subst (λ x
 -- a sheet goes on to another by the lines of a text
 pub record Onward (a : Draft) (text : List ℕ) (b : Draft) : Type 0 where
   pub lines : ℕ
-  pub goes : (n : ℕ) (rest : List ℕ) → assembledFrom n a (pieces 10 (text ++ rest)) ≡ assembledFrom (lines + n) b (pieces 10 rest)
+  pub goes : (n : ℕ) (rest : List ℕ) → assembled_from n a (pieces 10 (text ++ rest)) ≡ assembled_from (lines + n) b (pieces 10 rest)
 
 pub stay : {a : Draft} → Onward a [] a
-stay {a} = record { lines = 0; goes = λ n rest. let z : n ≡ 0 + n = omega arith in ap (λ n. assembledFrom n a (pieces 10 rest)) z }
+stay {a} = record { lines = 0; goes = λ n rest. let z : n ≡ 0 + n = omega arith in ap (λ n. assembled_from n a (pieces 10 rest)) z }
 
 infixl 30 ◌▹◌
 pub ◌▹◌ : {a b c : Draft} {t u : List ℕ} → Onward a t b → Onward b u c → Onward a (t ++ u) c
@@ -83,46 +83,46 @@ pub ◌▹◌ : {a b c : Draft} {t u : List ℕ} → Onward a t b → Onward b u
       lines = q.lines + p.lines;
       goes = λ n rest.
           let z : q.lines + (p.lines + n) ≡ q.lines + p.lines + n = omega arith in
-          ap (λ l. assembledFrom n a (pieces 10 l)) (append_assoc t u rest)
+          ap (λ l. assembled_from n a (pieces 10 l)) (append_assoc t u rest)
           ∙ p.goes n (u ++ rest)
           ∙ q.goes (p.lines + n) rest
-          ∙ ap (λ n. assembledFrom n c (pieces 10 rest)) z;
+          ∙ ap (λ n. assembled_from n c (pieces 10 rest)) z;
     }
 
-pub onward-as : {a b b' : Draft} {t t' : List ℕ} → t ≡ t' → b ≡ b' → Onward a t b → Onward a t' b'
-onward-as {a} {b} {b'} {t} {t'} e f p = subst (λ x. Onward a t' x) f (subst (λ x. Onward a x b) e p)
+pub onward_as : {a b b' : Draft} {t t' : List ℕ} → t ≡ t' → b ≡ b' → Onward a t b → Onward a t' b'
+onward_as {a} {b} {b'} {t} {t'} e f p = subst (λ x. Onward a t' x) f (subst (λ x. Onward a x b) e p)
 
 -- by one line
-pub by-line : {a b : Draft} {text bytes : List ℕ} {part : LineKind} → Says text part bytes → 1 ≤ a.stage → withLine a part bytes ≡ got b → Onward a text b
-unfolding assembledFrom stepped
-by-line {a} {b} {text} {bytes} {part} p h e =
+pub by_line : {a b : Draft} {text bytes : List ℕ} {part : LineKind} → Says text part bytes → 1 ≤ a.stage → with_line a part bytes ≡ got b → Onward a text b
+unfolding assembled_from stepped
+by_line {a} {b} {text} {bytes} {part} p h e =
     let z : eqb a.stage 0 ≡ false = ne_eqb a.stage 0 (λ k. omega (arith, k, h)) in
     record {
       lines = 1;
       goes = λ n rest.
           let k : suc n ≡ 1 + n = omega arith in
-          ap (assembledFrom n a) (p.cuts rest)
-          ∙ ap (λ ws. afterLine n a p.content (with_words a ws) (λ s. assembledFrom (suc n) s (pieces 10 rest))) p.words
-          ∙ ap (λ t. afterLine n a p.content (cond t (firstLine (line_of (p.first ∷ p.others))) (and_then (line_of (p.first ∷ p.others)) (λ r. withLine a r.part r.bytes))) (λ s. assembledFrom (suc n) s (pieces 10 rest))) z
-          ∙ ap (λ x. afterLine n a p.content (and_then x (λ r. withLine a r.part r.bytes)) (λ s. assembledFrom (suc n) s (pieces 10 rest))) p.said
-          ∙ ap (λ x. afterLine n a p.content x (λ s. assembledFrom (suc n) s (pieces 10 rest))) e
-          ∙ ap (λ n. assembledFrom n b (pieces 10 rest)) k;
+          ap (assembled_from n a) (p.cuts rest)
+          ∙ ap (λ ws. after_line n a p.content (with_words a ws) (λ s. assembled_from (suc n) s (pieces 10 rest))) p.words
+          ∙ ap (λ t. after_line n a p.content (cond t (first_line (line_of (p.first ∷ p.others))) (and_then (line_of (p.first ∷ p.others)) (λ r. with_line a r.part r.bytes))) (λ s. assembled_from (suc n) s (pieces 10 rest))) z
+          ∙ ap (λ x. after_line n a p.content (and_then x (λ r. with_line a r.part r.bytes)) (λ s. assembled_from (suc n) s (pieces 10 rest))) p.said
+          ∙ ap (λ x. after_line n a p.content x (λ s. assembled_from (suc n) s (pieces 10 rest))) e
+          ∙ ap (λ n. assembled_from n b (pieces 10 rest)) k;
     }
 
 -- by the first line
 pub by_first : {a b : Draft} {text bytes : List ℕ} {part : LineKind} → Says text part bytes → a.stage ≡ 0
-    → firstLine (got (record { part = part; bytes = bytes; words = [] })) ≡ got b
+    → first_line (got (record { part = part; bytes = bytes; words = [] })) ≡ got b
     → Onward a text b
-unfolding assembledFrom stepped
+unfolding assembled_from stepped
 by_first {a} {b} {text} {bytes} {part} p h e =
     record {
       lines = 1;
       goes = λ n rest.
           let k : suc n ≡ 1 + n = omega arith in
-          ap (assembledFrom n a) (p.cuts rest)
-          ∙ ap (λ ws. afterLine n a p.content (with_words a ws) (λ s. assembledFrom (suc n) s (pieces 10 rest))) p.words
-          ∙ ap (λ t. afterLine n a p.content (cond (eqb t 0) (firstLine (line_of (p.first ∷ p.others))) (and_then (line_of (p.first ∷ p.others)) (λ r. withLine a r.part r.bytes))) (λ s. assembledFrom (suc n) s (pieces 10 rest))) h
-          ∙ ap (λ x. afterLine n a p.content (firstLine x) (λ s. assembledFrom (suc n) s (pieces 10 rest))) p.said
-          ∙ ap (λ x. afterLine n a p.content x (λ s. assembledFrom (suc n) s (pieces 10 rest))) e
-          ∙ ap (λ n. assembledFrom n b (pieces 10 rest)) k;
+          ap (assembled_from n a) (p.cuts rest)
+          ∙ ap (λ ws. after_line n a p.content (with_words a ws) (λ s. assembled_from (suc n) s (pieces 10 rest))) p.words
+          ∙ ap (λ t. after_line n a p.content (cond (eqb t 0) (first_line (line_of (p.first ∷ p.others))) (and_then (line_of (p.first ∷ p.others)) (λ r. with_line a r.part r.bytes))) (λ s. assembled_from (suc n) s (pieces 10 rest))) h
+          ∙ ap (λ x. after_line n a p.content (first_line x) (λ s. assembled_from (suc n) s (pieces 10 rest))) p.said
+          ∙ ap (λ x. after_line n a p.content x (λ s. assembled_from (suc n) s (pieces 10 rest))) e
+          ∙ ap (λ n. assembled_from n b (pieces 10 rest)) k;
     }

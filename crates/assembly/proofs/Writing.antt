@@ -8,16 +8,16 @@ use borrow.Author.Tests.{eq-eqb, ne_eqb, lt-ltb, le-ltb}
 use lib.ListN.{length, take, drop}
 use lib.Seq.{length-sets, take-take, length-take-le}
 use Rattle.words.specs.Bytes.{stored}
-use Rattle.words.proofs.Stored.{stored-front}
-use Rattle.words.proofs.Lengths.{sets-front}
+use Rattle.words.proofs.Stored.{stored_front}
+use Rattle.words.proofs.Lengths.{sets_front}
 use Rattle.text.specs.declared.line.Line.{Line}
 use Rattle.text.specs.Line.{Prints}
 use Rattle.text.specs.Puts.{Puts}
-use Rattle.assembly.specs.Lines.{refusedText, longText}
-use Rattle.assembly.specs.Assembled.{Assembled, accepted, refusedAt, uncommented, words_of, assembled}
-use Rattle.assembly.specs.Faults.{faultOf, faultText, outcome, written}
+use Rattle.assembly.specs.Lines.{refused_text, long_text}
+use Rattle.assembly.specs.Assembled.{Assembled, accepted, refused_at, uncommented, words_of, assembled}
+use Rattle.assembly.specs.Faults.{fault_of, fault_text, outcome, written}
 use Rattle.assembly.specs.declared.making.MakeAnswer.{MakeAnswer}
-use Rattle.assembly.specs.Making.{asAssembled}
+use Rattle.assembly.specs.Making.{as_assembled}
 
 -- a line stands at the front of its 80 bytes, and these at the front of what is written
 pub line_first : (out : List ℕ) {text : List ℕ} {l : Line} {o : List ℕ} → Prints text l → 80 ≤ length out → o ≡ stored out 0 l.bytes
@@ -28,29 +28,29 @@ line_first out {text} {l} {o} p h f =
     let bytes : take l.len o ≡ text =
     sym (take-take l.len 80 o (omega (arith, k)))
     ∙ ap (λ x. take l.len (take 80 x)) f
-    ∙ ap (take l.len) (stored-front out l.bytes 80 n h)
+    ∙ ap (take l.len) (stored_front out l.bytes 80 n h)
     ∙ ap (λ n. take n l.bytes) p.whole.count
     ∙ p.whole.bytes
     in
     (bytes, p.whole.count)
 
 -- text that is put at the front
-pub text-first : {out text o : List ℕ} {n : ℕ} → Puts out 0 text o n → (take n o ≡ text) × (n ≡ length text)
-text-first {out} {text} {o} {n} p =
+pub text_first : {out text o : List ℕ} {n : ℕ} → Puts out 0 text o n → (take n o ≡ text) × (n ≡ length text)
+text_first {out} {text} {o} {n} p =
     let k = ap length p.same ∙ length-sets out 0 text in
     let z : n ≡ length text = omega (arith, p.ends) in
-    (ap (λ n. take n o) z ∙ ap (take (length text)) p.same ∙ sets-front out text (length text) refl (omega (arith, p.fits, z, k)), z)
+    (ap (λ n. take n o) z ∙ ap (take (length text)) p.same ∙ sets_front out text (length text) refl (omega (arith, p.fits, z, k)), z)
 
-module _ (e : MakeAnswer) (out t : List ℕ) {a : Assembled} (same : asAssembled e out t ≡ a) where
+module _ (e : MakeAnswer) (out t : List ℕ) {a : Assembled} (same : as_assembled e out t ≡ a) where
   -- bytes at the front, and their count
   abbrev Written : ℕ → List ℕ → Type 0
   Written n o = (take n o ≡ outcome a) × (n ≡ length (outcome a))
 
-  abbrev refusedLine : List ℕ
-  refusedLine = take (e.to - e.from) (drop e.from t)
+  abbrev refused_line : List ℕ
+  refused_line = take (e.to - e.from) (drop e.from t)
 
   abbrev by-reason : Bool → List ℕ
-  by-reason b = outcome (cond b (accepted (take e.len out)) (refusedAt e.line e.why e.stage e.count refusedLine))
+  by-reason b = outcome (cond b (accepted (take e.len out)) (refused_at e.line e.why e.stage e.count refused_line))
 
   pub sheet-written : e.why ≡ 0 → e.len ≤ length out → Written e.len out
   sheet-written z h =
@@ -58,19 +58,19 @@ module _ (e : MakeAnswer) (out t : List ℕ) {a : Assembled} (same : asAssembled
       (p, sym (length-take-le e.len out h) ∙ ap length p)
 
   pub refusal-written : {o : List ℕ} {n : ℕ} → (e.why ≡ 0 → ⊥)
-      → Puts out 0 (refusedText e.line e.why ++ faultText (uncommented refusedLine) (faultOf e.why e.stage e.count (words_of (uncommented refusedLine)))) o n
+      → Puts out 0 (refused_text e.line e.why ++ fault_text (uncommented refused_line) (fault_of e.why e.stage e.count (words_of (uncommented refused_line)))) o n
       → Written n o
   refusal-written z p =
       let text = sym (ap by-reason (ne_eqb e.why 0 z)) ∙ ap outcome same in
-      let first = text-first p in
+      let first = text_first p in
       (first.0 ∙ text, first.1 ∙ ap length text)
 
 -- a text that is too long, and one that is not
 module _ (text : List ℕ) where
-  pub written-long : 500000 < length text → longText ≡ written text
+  pub written-long : 500000 < length text → long_text ≡ written text
   unfolding written
-  written-long h = sym (ap (λ b. cond b longText (outcome (assembled text))) (lt-ltb 500000 (length text) h))
+  written-long h = sym (ap (λ b. cond b long_text (outcome (assembled text))) (lt-ltb 500000 (length text) h))
 
   pub written-short : length text ≤ 500000 → outcome (assembled text) ≡ written text
   unfolding written
-  written-short h = sym (ap (λ b. cond b longText (outcome (assembled text))) (le-ltb 500000 (length text) h))
+  written-short h = sym (ap (λ b. cond b long_text (outcome (assembled text))) (le-ltb 500000 (length text) h))

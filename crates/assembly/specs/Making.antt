@@ -3,16 +3,16 @@ use Rattle.std.specs.Prelude.{ℕ, ◌+◌, ◌-◌, ◌*◌, ◌/◌, ◌%◌, 
 use Rattle.mir.specs.declared.records.Loc.{Loc}
 use Rattle.mir.specs.Read.{Read, got, refused}
 use Rattle.text.specs.declared.line.Line.{Line}
-use Rattle.text.specs.Line.{emptyLine, addAll}
+use Rattle.text.specs.Line.{empty_line, add_all}
 use Rattle.assembly.specs.declared.reading.LineRead.{LineRead}
 use Rattle.assembly.specs.declared.making.Made.{Made}
 use Rattle.assembly.specs.declared.making.MakeAnswer.{MakeAnswer}
-use Rattle.assembly.specs.Assembled.{LineKind, mode, real, constantLine, instruction, Reading, Draft, bit_of, opened, withLine}
-use Rattle.assembly.specs.Assembled.{Assembled, accepted, refusedAt}
+use Rattle.assembly.specs.Assembled.{LineKind, mode, real, constant_line, instruction, Reading, Draft, bit_of, opened, with_line}
+use Rattle.assembly.specs.Assembled.{Assembled, accepted, refused_at}
 
 -- what a line is, by the number of its first word
 abbrev pub part_of : ℕ → LineKind
-part_of n = cond (eqb n 0) mode (cond (eqb n 1) real (cond (eqb n 2) constantLine instruction))
+part_of n = cond (eqb n 0) mode (cond (eqb n 1) real (cond (eqb n 2) constant_line instruction))
 
 -- a line that was read: what it is, and its bytes
 pub record Told : Type 0 where
@@ -24,28 +24,28 @@ abbrev pub tagged : LineKind → Line → Read Told
 tagged p l = got (record { part = p; line = l })
 
 -- the code's answer, and the definition's reading
-abbrev pub asLine : LineRead → Read Told
-asLine t = cond t.ok (tagged (part_of t.head) t.line) (refused 3)
+abbrev pub as_line : LineRead → Read Told
+as_line t = cond t.ok (tagged (part_of t.head) t.line) (refused 3)
 
 abbrev pub told : Reading → Read Told
-told r = tagged r.part (addAll emptyLine r.bytes)
+told r = tagged r.part (add_all empty_line r.bytes)
 
 -- the bit of a place that was read
-abbrev pub placeBit : Read Loc → Read ℕ
-placeBit (got p) = bit_of p
-placeBit (refused n) = refused 3
+abbrev pub place_bit : Read Loc → Read ℕ
+place_bit (got p) = bit_of p
+place_bit (refused n) = refused 3
 
 -- a byte with the bit of a power of two set
-abbrev pub withBit : ℕ → ℕ → ℕ
-withBit b p = cond (eqb (b / p % 2) 1) b (b + p)
+abbrev pub with_bit : ℕ → ℕ → ℕ
+with_bit b p = cond (eqb (b / p % 2) 1) b (b + p)
 
 -- the sheet whose bytes stand at the front of others
-abbrev pub sheetOf : Made → List ℕ → Draft
-sheetOf m out = record { bytes = take m.len out; count = m.count; instructions = m.instructions; stage = m.stage }
+abbrev pub sheet_of : Made → List ℕ → Draft
+sheet_of m out = record { bytes = take m.len out; count = m.count; instructions = m.instructions; stage = m.stage }
 
 -- the sheet, or why its last line is refused
-abbrev pub asSheet : Made → List ℕ → Read Draft
-asSheet m out = cond (eqb m.why 0) (got (sheetOf m out)) (refused m.why)
+abbrev pub as_sheet : Made → List ℕ → Read Draft
+as_sheet m out = cond (eqb m.why 0) (got (sheet_of m out)) (refused m.why)
 
 -- no sheet, for a reason
 abbrev pub refusal : ℕ → Made
@@ -69,15 +69,15 @@ pub record Grows (m : Made) (count instructions : ℕ) : Type 0 where
 
 -- the answer stands in the bytes
 pub record Makes (answer : Read Draft) (m : Made) (out : List ℕ) : Type 0 where
-  pub same : asSheet m out ≡ answer
+  pub same : as_sheet m out ≡ answer
   pub low : Low m
 
 -- a line that was read, put: the first is the mode
-abbrev pub withRead : Draft → LineKind → List ℕ → Read Draft
-withRead s p b = cond (eqb s.stage 0) (opened p b) (withLine s p b)
+abbrev pub with_read : Draft → LineKind → List ℕ → Read Draft
+with_read s p b = cond (eqb s.stage 0) (opened p b) (with_line s p b)
 
 -- the sheet, or its refusal, with the line from the text
-abbrev pub asAssembled : MakeAnswer → List ℕ → List ℕ → Assembled
-asAssembled e out t =
+abbrev pub as_assembled : MakeAnswer → List ℕ → List ℕ → Assembled
+as_assembled e out t =
     cond (eqb e.why 0) (accepted (take e.len out))
-    (refusedAt e.line e.why e.stage e.count (take (e.to - e.from) (drop e.from t)))
+    (refused_at e.line e.why e.stage e.count (take (e.to - e.from) (drop e.from t)))

@@ -9,10 +9,10 @@ abbrev pub Wrong : Fault → Type 0
 Wrong f = f.expected ≡ 0 → ⊥
 
 -- what counts of a line
-abbrev pub lineWords : List ℕ → List (List ℕ)
-lineWords l = words_of (uncommented l)
+abbrev pub line_words : List ℕ → List (List ℕ)
+line_words l = words_of (uncommented l)
 
 -- of any way to find the fault of a line, by why it is refused (0: it is not): a line that is refused has a fault, and one that is taken has none
 pub record FaultLaw (fault : ℕ → ℕ → ℕ → List (List ℕ) → Fault) : Type 0 where
-  pub of-refused : (s : Draft) (l : List ℕ) (why : ℕ) → stepped s l ≡ refused why → Wrong (fault why s.stage s.count (lineWords l))
-  pub of-taken : (s s' : Draft) (l : List ℕ) → stepped s l ≡ got s' → (fault 0 s.stage s.count (lineWords l)).expected ≡ 0
+  pub of_refused : (s : Draft) (l : List ℕ) (why : ℕ) → stepped s l ≡ refused why → Wrong (fault why s.stage s.count (line_words l))
+  pub of_taken : (s s' : Draft) (l : List ℕ) → stepped s l ≡ got s' → (fault 0 s.stage s.count (line_words l)).expected ≡ 0

@@ -3,11 +3,11 @@ ghost use Rattle.std.specs.Prelude.{◌+◌, ◌≤◌, ◌≡◌, map, length, 
 ghost use Rattle.text.specs.Line.{Prints};
 ghost use Rattle.text.specs.Puts.{Puts};
 ghost use Rattle.assembly.specs.Assembled.{real, word_bytes, words_of, heads, nothing, line_of};
-ghost use Rattle.assembly.specs.Reading.{sortOf};
+ghost use Rattle.assembly.specs.Reading.{sort_of};
 ghost use Rattle.assembly.specs.Making.{part_of};
-ghost use Rattle.assembly.specs.Faults.{wrong, labelOrFlag, expectedOf, isRead, wordFault, mayStand, firstExpected, labelFault, refusedFault, ofInstruction};
-ghost use Rattle.assembly.specs.Faults.{valueFault, readFault, standing, lineFault, faultOf, start, columnText, expectedText, faultText};
-ghost use Rattle.sheet.specs.Instruction.{instructionFrom};
+ghost use Rattle.assembly.specs.Faults.{wrong, label_or_flag, expected_of, is_read, word_fault, may_stand, first_expected, label_fault, refused_fault, of_instruction};
+ghost use Rattle.assembly.specs.Faults.{value_fault, read_fault, standing, line_fault, fault_of, start, column_text, expected_text, fault_text};
+ghost use Rattle.sheet.specs.Instruction.{instruction_from};
 
 use super::reading::{
     Number, SORT_COUNTS, SORTS, head_number, put_word, read_line, real_bit, run_end,
@@ -35,14 +35,14 @@ fn wrong(word: usize, expected: u8) -> Fault
 
 // A label, or as word 3 the byte 0 or 1.
 fn label_or_flag(k: usize) -> u8
-    ensures { result ≡ labelOrFlag k }
+    ensures { result ≡ label_or_flag k }
 {
     if k == 3 { 16 } else { 15 }
 }
 
 // What is expected of word k, by its sort's letter.
 fn expected_of(k: usize, sort: u8) -> u8
-    ensures { result ≡ expectedOf k (sortOf sort) }
+    ensures { result ≡ expected_of k (sort_of sort) }
 {
     if sort == b'r' {
         return 5;
@@ -61,7 +61,7 @@ fn expected_of(k: usize, sort: u8) -> u8
 
 // Whether a word is of a sort.
 fn is_word(sort: u8, w: &[u8]) -> bool
-    ensures { result ≡ isRead (word_bytes (sortOf sort) w.now) }
+    ensures { result ≡ is_read (word_bytes (sort_of sort) w.now) }
 {
     let t = put_word(empty_line(), sort, w);
     t.ok
@@ -69,7 +69,7 @@ fn is_word(sort: u8, w: &[u8]) -> bool
 
 // The first word from a position on that is not of its sort.
 fn word_fault(sorts: &[u8], l: &[u8], from: usize) -> Fault
-    ensures { result ≡ wordFault 1 (map sortOf sorts.now) (words_of (drop from l.now)) }
+    ensures { result ≡ word_fault 1 (map sort_of sorts.now) (words_of (drop from l.now)) }
 {
     let mut at = from;
     let mut k: usize = 0;
@@ -95,7 +95,7 @@ fn word_fault(sorts: &[u8], l: &[u8], from: usize) -> Fault
 
 // The same, by the number of a first word.
 fn rest_fault(n: usize, l: &[u8], at: usize) -> Fault
-    ensures { result ≡ wordFault 1 (get_or heads n nothing).sorts (words_of (drop at l.now)) }
+    ensures { result ≡ word_fault 1 (get_or heads n nothing).sorts (words_of (drop at l.now)) }
 {
     if n < 59 {
         let from = 5 * n;
@@ -107,7 +107,7 @@ fn rest_fault(n: usize, l: &[u8], at: usize) -> Fault
 
 // Whether a line may stand where the sheet is so far, by the number of its first word.
 fn may_stand(stage: u8, head: usize) -> bool
-    ensures { result ≡ mayStand stage (part_of head) }
+    ensures { result ≡ may_stand stage (part_of head) }
 {
     if head == 0 {
         return stage == 0;
@@ -126,7 +126,7 @@ fn may_stand(stage: u8, head: usize) -> bool
 
 // The first words that are expected there.
 fn first_expected(stage: u8) -> u8
-    ensures { result ≡ firstExpected stage }
+    ensures { result ≡ first_expected stage }
 {
     if stage == 0 {
         return 1;
@@ -139,7 +139,7 @@ fn first_expected(stage: u8) -> u8
 
 // The label of a branch, or the byte behind it.
 fn label_fault(b: &[u8]) -> Fault
-    ensures { result ≡ labelFault b.now }
+    ensures { result ≡ label_fault b.now }
 {
     if byte(b, 2) != 17 {
         return wrong(1, 15);
@@ -152,7 +152,7 @@ fn label_fault(b: &[u8]) -> Fault
 
 // The word at which an instruction is refused, by the number that refuses it.
 fn refused_fault(number: u8, b: &[u8]) -> Fault
-    ensures { result ≡ refusedFault number b.now }
+    ensures { result ≡ refused_fault number b.now }
 {
     let kind = byte(b, 2);
     if number == 4 {
@@ -171,7 +171,7 @@ fn refused_fault(number: u8, b: &[u8]) -> Fault
 }
 
 fn instruction_fault(b: &[u8], count: usize) -> Fault
-    ensures { result ≡ ofInstruction b.now (instructionFrom count b.now) }
+    ensures { result ≡ of_instruction b.now (instruction_from count b.now) }
 {
     match read_instruction(b, 0, count) {
         NextInstruction::Got(_, _) => wrong(0, 0),
@@ -181,7 +181,7 @@ fn instruction_fault(b: &[u8], count: usize) -> Fault
 
 // A real place, by its bytes.
 fn real_fault(b: &[u8]) -> Fault
-    ensures { result ≡ valueFault 0 real b.now }
+    ensures { result ≡ value_fault 0 real b.now }
 {
     match real_bit(b) {
         Number::At(_) => wrong(0, 0),
@@ -191,7 +191,7 @@ fn real_fault(b: &[u8]) -> Fault
 
 // A line by its bytes and the number of its first word.
 fn value_fault(head: usize, b: &[u8], count: usize) -> Fault
-    ensures { result ≡ valueFault count (part_of head) b.now }
+    ensures { result ≡ value_fault count (part_of head) b.now }
 {
     if 2 < head {
         return instruction_fault(b, count);
@@ -204,7 +204,7 @@ fn value_fault(head: usize, b: &[u8], count: usize) -> Fault
 
 // The same, of the first n bytes.
 fn front_fault(head: usize, b: &[u8], n: usize, count: usize) -> Fault
-    ensures { result ≡ valueFault count (part_of head) (take n b.now) }
+    ensures { result ≡ value_fault count (part_of head) (take n b.now) }
 {
     if n < b.len() {
         return value_fault(head, &b[0..n], count);
@@ -214,7 +214,7 @@ fn front_fault(head: usize, b: &[u8], n: usize, count: usize) -> Fault
 
 // What the words of a line say.
 fn read_fault(l: &[u8], count: usize) -> Fault
-    ensures { result ≡ readFault count (line_of (words_of l.now)) }
+    ensures { result ≡ read_fault count (line_of (words_of l.now)) }
 {
     let t = read_line(l);
     if t.ok {
@@ -241,7 +241,7 @@ fn head_fault(n: usize, l: &[u8], at: usize, stage: u8, count: usize) -> Fault
 
 // The fault of a line.
 fn line_fault(l: &[u8], stage: u8, count: usize) -> Fault
-    ensures { result ≡ lineFault stage count (words_of l.now) }
+    ensures { result ≡ line_fault stage count (words_of l.now) }
 {
     let word = run_end(l, 0, 1);
     if l.len() <= word {
@@ -256,7 +256,7 @@ fn line_fault(l: &[u8], stage: u8, count: usize) -> Fault
 
 // By why the line is refused.
 pub(crate) fn fault_of(why: u8, stage: u8, count: usize, l: &[u8]) -> Fault
-    ensures { result ≡ faultOf why stage count (words_of l.now) }
+    ensures { result ≡ fault_of why stage count (words_of l.now) }
 {
     if why == 2 {
         return wrong(0, 17);
@@ -283,7 +283,7 @@ fn word_start(l: &[u8], k: usize) -> usize
 
 // The column and the word.
 fn column_line(column: u64, w: &[u8]) -> Line
-    ensures { Prints (columnText column w.now) result }
+    ensures { Prints (column_text column w.now) result }
 {
     let line = empty_line().text(b"column").number(column).text(b": ");
     if w.len() == 0 {
@@ -297,7 +297,7 @@ fn column_line(column: u64, w: &[u8]) -> Line
 
 // What was expected.
 fn expected_line(expected: u8) -> Line
-    ensures { Prints (expectedText expected) result }
+    ensures { Prints (expected_text expected) result }
 {
     empty_line()
         .text(b": expected ")
@@ -315,7 +315,7 @@ fn expected_line(expected: u8) -> Line
 // The fault of a line put as text, and the position behind it.
 pub(crate) fn put_fault(out: &mut [u8], at: usize, l: &[u8], f: Fault) -> usize
     requires { at + 160 ≤ length out.old }
-    ensures { Puts out.old at (faultText l.now f) out.new result }
+    ensures { Puts out.old at (fault_text l.now f) out.new result }
 {
     if f.expected == 0 {
         return at;

@@ -2,7 +2,7 @@
 ghost use Rattle.std.specs.Prelude.{◌≡◌};
 ghost use Rattle.text.specs.Line.{Adds, Prints};
 ghost use Rattle.mir.specs.declared.records.Instruction.{Instruction};
-ghost use Rattle.assembly.specs.Lines.{modeLine, realPlace, realLine, constantLine, named, mathName, workLine, instructionLine, refusedText, longText};
+ghost use Rattle.assembly.specs.Lines.{mode_line, real_place, real_line, constant_line, named, math_name, work_line, instruction_line, refused_text, long_text};
 
 use mir::ops::{ArithOp, arith_number};
 use mir::records::{Instruction, Loc, Record, Work};
@@ -11,7 +11,7 @@ use text::line::{Line, empty_line};
 use text::lines::record_line;
 
 pub fn mode_line(mode: Mode) -> Line
-    ensures { Prints (modeLine mode) result }
+    ensures { Prints (mode_line mode) result }
 {
     match mode {
         Mode::Plain => empty_line().text(b"mode plain\n"),
@@ -22,7 +22,7 @@ pub fn mode_line(mode: Mode) -> Line
 
 // The place of a bit of a header's realness.
 fn real_place(i: u16) -> Loc
-    ensures { result ≡ realPlace i }
+    ensures { result ≡ real_place i }
 {
     if i < 256 {
         return Loc::Stack(i);
@@ -31,13 +31,13 @@ fn real_place(i: u16) -> Loc
 }
 
 pub fn real_line(i: u16) -> Line
-    ensures { Prints (realLine i) result }
+    ensures { Prints (real_line i) result }
 {
     empty_line().text(b"real").place(real_place(i)).byte(b'\n')
 }
 
 pub fn constant_line(word: u64) -> Line
-    ensures { Prints (constantLine word) result }
+    ensures { Prints (constant_line word) result }
 {
     empty_line().text(b"constant ").hex(word).byte(b'\n')
 }
@@ -53,19 +53,19 @@ fn name(r: u8) -> u8
 }
 
 fn math_name(line: Line, op: ArithOp) -> Line
-    ensures { Adds line (mathName op) result }
+    ensures { Adds line (math_name op) result }
 {
     line.word_in(b"Plus/Minus/Times/Divide/", arith_number(op) as u64)
 }
 
 fn work_line(work: Work) -> Line
-    ensures { Prints (workLine work) result }
+    ensures { Prints (work_line work) result }
 {
     record_line(Record::Work(work))
 }
 
 fn load_math_line(op: ArithOp, dst: u8, s1: u8, loc: Loc) -> Line
-    ensures { Prints (instructionLine (Instruction.LoadMath op dst s1 loc)) result }
+    ensures { Prints (instruction_line (Instruction.LoadMath op dst s1 loc)) result }
 {
     math_name(empty_line(), op)
         .text(b"Load")
@@ -75,7 +75,7 @@ fn load_math_line(op: ArithOp, dst: u8, s1: u8, loc: Loc) -> Line
 }
 
 fn load_const_math_line(op: ArithOp, dst: u8, s1: u8, idx: u16) -> Line
-    ensures { Prints (instructionLine (Instruction.LoadConstMath op dst s1 idx)) result }
+    ensures { Prints (instruction_line (Instruction.LoadConstMath op dst s1 idx)) result }
 {
     math_name(empty_line(), op)
         .text(b"Const")
@@ -85,7 +85,7 @@ fn load_const_math_line(op: ArithOp, dst: u8, s1: u8, idx: u16) -> Line
 }
 
 pub fn instruction_line(instruction: Instruction) -> Line
-    ensures { Prints (instructionLine instruction) result }
+    ensures { Prints (instruction_line instruction) result }
 {
     match instruction {
         Instruction::Nop => empty_line().text(b"Nop\n"),
@@ -152,7 +152,7 @@ pub fn instruction_line(instruction: Instruction) -> Line
 
 // The refusal of a text.
 pub fn refused_line(number: u64, why: u8) -> Line
-    ensures { Prints (refusedText number why) result }
+    ensures { Prints (refused_text number why) result }
 {
     empty_line()
         .text(b"refused line")
@@ -167,7 +167,7 @@ pub fn refused_line(number: u64, why: u8) -> Line
 
 // The refusal of a text that is too long.
 pub fn long_line() -> Line
-    ensures { Prints longText result }
+    ensures { Prints long_text result }
 {
     empty_line().text(b"refused text of more than 500000 bytes\n")
 }

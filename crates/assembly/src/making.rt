@@ -2,11 +2,11 @@
 ghost use Rattle.std.specs.Prelude.{◌^◌, ◌%◌, ◌≤◌, ◌≡◌, length, take, drop, ◌++◌};
 ghost use Rattle.text.specs.Puts.{Puts};
 ghost use Rattle.mir.specs.Read.{got};
-ghost use Rattle.assembly.specs.Assembled.{real, constantLine, instruction, marked, grown, withLine, opened, words_of};
+ghost use Rattle.assembly.specs.Assembled.{real, constant_line, instruction, marked, grown, with_line, opened, words_of};
 ghost use Rattle.assembly.specs.Assembled.{unmarked, uncommented, with_words, stepped, assembled};
-ghost use Rattle.assembly.specs.Faults.{outcome, written, faultOf, faultText};
-ghost use Rattle.assembly.specs.Lines.{refusedText, longText};
-ghost use Rattle.assembly.specs.Making.{part_of, withBit, sheetOf, refusal, Room, Grows, Makes, withRead, asAssembled};
+ghost use Rattle.assembly.specs.Faults.{outcome, written, fault_of, fault_text};
+ghost use Rattle.assembly.specs.Lines.{refused_text, long_text};
+ghost use Rattle.assembly.specs.Making.{part_of, with_bit, sheet_of, refusal, Room, Grows, Makes, with_read, as_assembled};
 
 use super::faults::{fault_of, put_fault};
 use super::lines::{long_line, refused_line};
@@ -41,7 +41,7 @@ fn refuse(why: u8) -> Made
 
 // A byte with bit i mod 8 set.
 fn with_bit(b: u8, i: usize) -> u8
-    ensures { result ≡ withBit b (2 ^ (i % 8)) }
+    ensures { result ≡ with_bit b (2 ^ (i % 8)) }
 {
     let power = power_of(i);
     if b / power % 2 == 1 {
@@ -65,7 +65,7 @@ fn mark(out: &mut [u8], i: usize)
 // A real place more.
 fn with_real(out: &mut [u8], s: Made, b: &[u8]) -> Made
     requires { Room s out.old }
-    ensures { Makes (withLine (sheetOf s out.old) real b.now) result out.new }
+    ensures { Makes (with_line (sheet_of s out.old) real b.now) result out.new }
 {
     if 1 < s.stage {
         return refuse(3);
@@ -87,7 +87,7 @@ fn with_real(out: &mut [u8], s: Made, b: &[u8]) -> Made
 fn grow(out: &mut [u8], s: Made, count: usize, instructions: usize, stage: u8, b: &[u8]) -> Made
     requires room { Room s out.old × (length b.now ≤ 80) }
     requires grows { Grows s count instructions }
-    ensures { Makes (got (grown (sheetOf s out.old) count instructions stage b.now)) result out.new }
+    ensures { Makes (got (grown (sheet_of s out.old) count instructions stage b.now)) result out.new }
 {
     let len = s.len;
     put_bytes(out, len, b);
@@ -103,7 +103,7 @@ fn grow(out: &mut [u8], s: Made, count: usize, instructions: usize, stage: u8, b
 // A constant more.
 fn with_constant(out: &mut [u8], s: Made, b: &[u8]) -> Made
     requires { Room s out.old × (length b.now ≤ 80) }
-    ensures { Makes (withLine (sheetOf s out.old) constantLine b.now) result out.new }
+    ensures { Makes (with_line (sheet_of s out.old) constant_line b.now) result out.new }
 {
     if 2 < s.stage {
         return refuse(3);
@@ -118,7 +118,7 @@ fn with_constant(out: &mut [u8], s: Made, b: &[u8]) -> Made
 // An instruction more, but not one too many.
 fn with_instruction(out: &mut [u8], s: Made, b: &[u8]) -> Made
     requires { Room s out.old × (length b.now ≤ 80) }
-    ensures { Makes (withLine (sheetOf s out.old) instruction b.now) result out.new }
+    ensures { Makes (with_line (sheet_of s out.old) instruction b.now) result out.new }
 {
     let instructions = s.instructions;
     if LONGEST <= instructions {
@@ -134,7 +134,7 @@ fn with_instruction(out: &mut [u8], s: Made, b: &[u8]) -> Made
 // A line more, by the number of its first word.
 fn with_line(out: &mut [u8], s: Made, head: usize, b: &[u8]) -> Made
     requires { Room s out.old × (length b.now ≤ 80) }
-    ensures { Makes (withLine (sheetOf s out.old) (part_of head) b.now) result out.new }
+    ensures { Makes (with_line (sheet_of s out.old) (part_of head) b.now) result out.new }
 {
     if head == 0 {
         return refuse(3);
@@ -171,7 +171,7 @@ fn open(out: &mut [u8], head: usize, b: &[u8]) -> Made
 // A line that was read.
 fn with_read(out: &mut [u8], s: Made, head: usize, b: &[u8]) -> Made
     requires { Room s out.old × (length b.now ≤ 80) }
-    ensures { Makes (withRead (sheetOf s out.old) (part_of head) b.now) result out.new }
+    ensures { Makes (with_read (sheet_of s out.old) (part_of head) b.now) result out.new }
 {
     if s.stage == 0 {
         return open(out, head, b);
@@ -182,7 +182,7 @@ fn with_read(out: &mut [u8], s: Made, head: usize, b: &[u8]) -> Made
 // The same, of the first n bytes.
 fn with_first(out: &mut [u8], s: Made, head: usize, b: &[u8], n: usize) -> Made
     requires { Room s out.old × (n ≤ 80) }
-    ensures { Makes (withRead (sheetOf s out.old) (part_of head) (take n b.now)) result out.new }
+    ensures { Makes (with_read (sheet_of s out.old) (part_of head) (take n b.now)) result out.new }
 {
     if n < b.len() {
         return with_read(out, s, head, &b[0..n]);
@@ -193,7 +193,7 @@ fn with_first(out: &mut [u8], s: Made, head: usize, b: &[u8], n: usize) -> Made
 // The words of a line more; no words change nothing.
 fn with_words(out: &mut [u8], s: Made, l: &[u8]) -> Made
     requires { Room s out.old }
-    ensures { Makes (with_words (sheetOf s out.old) (words_of l.now)) result out.new }
+    ensures { Makes (with_words (sheet_of s out.old) (words_of l.now)) result out.new }
 {
     if l.len() <= run_end(l, 0, 1) {
         return Made {
@@ -219,7 +219,7 @@ fn with_words(out: &mut [u8], s: Made, l: &[u8]) -> Made
 // A line more, without its comment.
 fn step(out: &mut [u8], s: Made, l: &[u8]) -> Made
     requires { Room s out.old }
-    ensures { Makes (stepped (sheetOf s out.old) l.now) result out.new }
+    ensures { Makes (stepped (sheet_of s out.old) l.now) result out.new }
 {
     let end = piece_end(l, 0, b'#');
     with_words(out, s, &l[0..end])
@@ -254,7 +254,7 @@ pub(crate) struct MakeAnswer {
 // The lines of a text, one after the other.
 fn make(out: &mut [u8], t: &[u8]) -> MakeAnswer
     requires { 69184 ≤ length out.old }
-    ensures t_after { (asAssembled result out.new t.now ≡ assembled t.now) × (result.len ≤ 69184) }
+    ensures t_after { (as_assembled result out.new t.now ≡ assembled t.now) × (result.len ≤ 69184) }
     ensures from_le_to { (result.from ≤ result.to) × (result.to ≤ length t.now) }
 {
     let mut s = refuse(0);
@@ -311,7 +311,7 @@ pub struct Written {
 // The refusal of a line put as text, and its length.
 fn put_refusal(out: &mut [u8], l: &[u8], e: MakeAnswer) -> usize
     requires { 240 ≤ length out.old }
-    ensures { Puts out.old 0 (refusedText e.line e.why ++ faultText (uncommented l.now) (faultOf e.why e.stage e.count (words_of (uncommented l.now)))) out.new result }
+    ensures { Puts out.old 0 (refused_text e.line e.why ++ fault_text (uncommented l.now) (fault_of e.why e.stage e.count (words_of (uncommented l.now)))) out.new result }
 {
     let long = piece_end(l, 0, b'#');
     let f = fault_of(e.why, e.stage, e.count, &l[0..long]);
@@ -343,8 +343,8 @@ fn sheet_or_refusal(t: &[u8]) -> Written
 
 // The refusal of a text that is too long.
 fn too_long() -> Written
-    ensures bytes_value { take result.len result.bytes ≡ longText }
-    ensures len_value { result.len ≡ length longText }
+    ensures bytes_value { take result.len result.bytes ≡ long_text }
+    ensures len_value { result.len ≡ length long_text }
 {
     let mut out = [0u8; 69184];
     let line = long_line();

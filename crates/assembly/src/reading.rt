@@ -1,12 +1,12 @@
 // A text read back: its pieces, its words, its lines.
 ghost use Rattle.std.specs.Prelude.{◌≡◌, ◌+◌, ◌%◌, drop, get_or, [], ◌∷◌, map};
-ghost use Rattle.assembly.specs.Assembled.{pieces, words_of, numberFrom, registerWords, classWords, indexWords, modeWords};
-ghost use Rattle.assembly.specs.Assembled.{heads, nothing, line_of, digit, pair, areDigits, bits_of, word_bytes};
-ghost use Rattle.assembly.specs.Reading.{before, blankness, run, as_number, asWordTaken, sortOf, wordsPut, headPut};
-ghost use Rattle.assembly.specs.Making.{part_of, tagged, asLine, told, placeBit};
-ghost use Rattle.text.specs.Line.{emptyLine, addAll};
+ghost use Rattle.assembly.specs.Assembled.{pieces, words_of, number_from, register_words, class_words, index_words, mode_words};
+ghost use Rattle.assembly.specs.Assembled.{heads, nothing, line_of, digit, pair, are_digits, bits_of, word_bytes};
+ghost use Rattle.assembly.specs.Reading.{before, blankness, run, as_number, as_word_taken, sort_of, words_put, head_put};
+ghost use Rattle.assembly.specs.Making.{part_of, tagged, as_line, told, place_bit};
+ghost use Rattle.text.specs.Line.{empty_line, add_all};
 ghost use Rattle.mir.specs.Read.{got, refused, and_then};
-ghost use Rattle.mir.specs.Field.{placeAt};
+ghost use Rattle.mir.specs.Field.{place_at};
 
 use mir::fields::{byte, u16_at};
 use replay::same::same_bytes;
@@ -62,7 +62,7 @@ pub enum Number {
 
 // A word among the words of a text between single spaces.
 pub fn number_in(row: &[u8], w: &[u8]) -> Number
-    ensures { as_number result ≡ numberFrom 0 (pieces 32 row.now) w.now }
+    ensures { as_number result ≡ number_from 0 (pieces 32 row.now) w.now }
 {
     let mut at: usize = 0;
     let mut n: usize = 0;
@@ -82,7 +82,7 @@ pub fn number_in(row: &[u8], w: &[u8]) -> Number
 
 // A register.
 pub fn register_number(w: &[u8]) -> Number
-    ensures { as_number result ≡ numberFrom 0 registerWords w.now }
+    ensures { as_number result ≡ number_from 0 register_words w.now }
 {
     number_in(
         b"G0 G1 G2 G3 G4 G5 G6 G7 G8 G9 G10 G11 G12 G13 G14 G15 G16 G17 G18 G19 G20 G21 G22 G23 G24 G25 G26 G27 G28 G29 Ret Temp",
@@ -92,14 +92,14 @@ pub fn register_number(w: &[u8]) -> Number
 
 // A class of places.
 pub fn class_number(w: &[u8]) -> Number
-    ensures { as_number result ≡ numberFrom 0 classWords w.now }
+    ensures { as_number result ≡ number_from 0 class_words w.now }
 {
     number_in(b"Stack Mem Param", w)
 }
 
 // An index: 0 to 255, as it is printed.
 pub fn index_number(w: &[u8]) -> Number
-    ensures { as_number result ≡ numberFrom 0 indexWords w.now }
+    ensures { as_number result ≡ number_from 0 index_words w.now }
 {
     number_in(
         b"0 1 2 3 4 5 6 7 8 9 10 11 12 13 14 15 16 17 18 19 20 21 22 23 24 25 26 27 28 29 30 31 32 33 34 35 36 37 38 39 40 41 \
@@ -116,14 +116,14 @@ pub fn index_number(w: &[u8]) -> Number
 
 // A mode.
 pub fn mode_number(w: &[u8]) -> Number
-    ensures { as_number result ≡ numberFrom 0 modeWords w.now }
+    ensures { as_number result ≡ number_from 0 mode_words w.now }
 {
     number_in(b"plain stable minding", w)
 }
 
 // A line's first word.
 pub fn head_number(w: &[u8]) -> Number
-    ensures { as_number result ≡ numberFrom 0 (map (λ h. h.word) heads) w.now }
+    ensures { as_number result ≡ number_from 0 (map (λ h. h.word) heads) w.now }
 {
     number_in(
         b"mode real constant Nop Neg Not Abs Root RealRoot Recip Round Floor Ceiling Trunc Real Imaginary Conjugate Half IsZero \
@@ -162,7 +162,7 @@ fn two_digits(w: &[u8], i: u8) -> u8
 
 // Whether each byte is a digit.
 fn are_digits(w: &[u8]) -> bool
-    ensures { result ≡ areDigits w.now }
+    ensures { result ≡ are_digits w.now }
 {
     let mut i: usize = 0;
     while i < w.len() {
@@ -182,7 +182,7 @@ pub struct WordTaken {
 }
 
 fn with_word(line: Line) -> WordTaken
-    ensures { asWordTaken result ≡ got line }
+    ensures { as_word_taken result ≡ got line }
 {
     WordTaken {
         ok: true,
@@ -191,7 +191,7 @@ fn with_word(line: Line) -> WordTaken
 }
 
 fn without(line: Line) -> WordTaken
-    ensures { asWordTaken result ≡ refused 3 }
+    ensures { as_word_taken result ≡ refused 3 }
 {
     WordTaken {
         ok: false,
@@ -201,7 +201,7 @@ fn without(line: Line) -> WordTaken
 
 // The eight bytes of a constant.
 pub fn put_bits(line: Line, w: &[u8]) -> WordTaken
-    ensures { asWordTaken result ≡ and_then (bits_of w.now) (λ b. got (addAll line b)) }
+    ensures { as_word_taken result ≡ and_then (bits_of w.now) (λ b. got (add_all line b)) }
 {
     if w.len() != 16 {
         return without(line);
@@ -223,7 +223,7 @@ pub fn put_bits(line: Line, w: &[u8]) -> WordTaken
 
 // A number's byte.
 fn put_number(line: Line, n: Number) -> WordTaken
-    ensures { asWordTaken result ≡ and_then (as_number n) (λ n. got (addAll line (n % 256 ∷ []))) }
+    ensures { as_word_taken result ≡ and_then (as_number n) (λ n. got (add_all line (n % 256 ∷ []))) }
 {
     match n {
         Number::At(n) => with_word(line.byte((n % 256) as u8)),
@@ -233,7 +233,7 @@ fn put_number(line: Line, n: Number) -> WordTaken
 
 // An index's two bytes.
 fn put_index(line: Line, n: Number) -> WordTaken
-    ensures { asWordTaken result ≡ and_then (as_number n) (λ n. got (addAll line (n % 256 ∷ 0 ∷ []))) }
+    ensures { as_word_taken result ≡ and_then (as_number n) (λ n. got (add_all line (n % 256 ∷ 0 ∷ []))) }
 {
     match n {
         Number::At(n) => with_word(line.byte((n % 256) as u8).byte(0)),
@@ -243,7 +243,7 @@ fn put_index(line: Line, n: Number) -> WordTaken
 
 // The bytes of a word of a sort, by the sort's letter.
 pub fn put_word(line: Line, sort: u8, w: &[u8]) -> WordTaken
-    ensures { asWordTaken result ≡ and_then (word_bytes (sortOf sort) w.now) (λ b. got (addAll line b)) }
+    ensures { as_word_taken result ≡ and_then (word_bytes (sort_of sort) w.now) (λ b. got (add_all line b)) }
 {
     if sort == b'r' {
         return put_number(line, register_number(w));
@@ -272,7 +272,7 @@ pub(crate) fn behind(s: &[u8], end: usize) -> usize
 
 // The bytes of a line's words from a position on, by their sorts; there is no word more, and no word fewer.
 pub fn put_words(start: Line, sorts: &[u8], l: &[u8], from: usize) -> WordTaken
-    ensures { asWordTaken result ≡ wordsPut (map sortOf sorts.now) start (words_of (drop from l.now)) }
+    ensures { as_word_taken result ≡ words_put (map sort_of sorts.now) start (words_of (drop from l.now)) }
 {
     let mut line = start;
     let mut at = from;
@@ -326,7 +326,7 @@ pub(crate) const SORTS: [u8; 295] = *b"\
 
 // The bytes of a line by the number of its first word; the others begin at a position.
 fn put_rest(n: usize, l: &[u8], at: usize) -> WordTaken
-    ensures { asWordTaken result ≡ headPut (get_or heads n nothing) (words_of (drop at l.now)) }
+    ensures { as_word_taken result ≡ head_put (get_or heads n nothing) (words_of (drop at l.now)) }
 {
     if n < 59 {
         let from = 5 * n;
@@ -348,7 +348,7 @@ pub struct LineRead {
 
 // By its first word's number, with its bytes.
 fn with_head(n: usize, t: WordTaken) -> LineRead
-    ensures { asLine result ≡ and_then (asWordTaken t) (tagged (part_of n)) }
+    ensures { as_line result ≡ and_then (as_word_taken t) (tagged (part_of n)) }
 {
     let line = t.line;
     LineRead {
@@ -359,7 +359,7 @@ fn with_head(n: usize, t: WordTaken) -> LineRead
 }
 
 fn no_line() -> LineRead
-    ensures { asLine result ≡ refused 3 }
+    ensures { as_line result ≡ refused 3 }
 {
     LineRead {
         ok: false,
@@ -370,7 +370,7 @@ fn no_line() -> LineRead
 
 // The bit of a real place, from the place's bytes.
 pub(crate) fn real_bit(b: &[u8]) -> Number
-    ensures { as_number result ≡ placeBit (placeAt b.now 0) }
+    ensures { as_number result ≡ place_bit (place_at b.now 0) }
 {
     let class = byte(b, 0);
     let i = u16_at(b, 1) as usize;
@@ -388,7 +388,7 @@ pub(crate) fn real_bit(b: &[u8]) -> Number
 
 // What a line is, and its bytes.
 pub fn read_line(l: &[u8]) -> LineRead
-    ensures { asLine result ≡ and_then (line_of (words_of l.now)) told }
+    ensures { as_line result ≡ and_then (line_of (words_of l.now)) told }
 {
     let word = run_end(l, 0, 1);
     if l.len() <= word {

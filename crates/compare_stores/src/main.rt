@@ -1,8 +1,8 @@
-// compare_stores STORE OTHER [all]: says `same`, or names the first twenty words that differ, with the word of either store, and how many more
+// compare_stores STORE OTHER [all]: says `same`, or names the first twenty words that differ, with the word of Either store, and how many more
 // differ; with a third argument it names them all.
 ghost use Rattle.std.specs.Prelude.{◌+◌, ◌*◌, ◌≤◌, ◌≡◌, length};
 ghost use Rattle.text.specs.Puts.{Puts};
-ghost use Rattle.compare_stores.specs.Differences.{nextDifference, differenceLines, linesOrSame, oneWhere, differing, comparison};
+ghost use Rattle.compare_stores.specs.Differences.{next_difference, difference_lines, lines_or_same, one_where, differing, comparison};
 
 use reports::{difference_line, more_line};
 use text::put::{put, put_line};
@@ -10,7 +10,7 @@ use words::word_at;
 
 // The index of the first word from an index on that differs, or 1,602.
 fn next_difference(one: &[u8], other: &[u8], from: usize) -> usize
-    ensures { result ≡ nextDifference one.now other.now from }
+    ensures { result ≡ next_difference one.now other.now from }
 {
     let mut i = from;
     while i < 1602 {
@@ -25,7 +25,7 @@ fn next_difference(one: &[u8], other: &[u8], from: usize) -> usize
 // The lines of the first words that differ, so many at most.
 fn put_differences(out: &mut [u8], one: &[u8], other: &[u8], most: usize) -> usize
     requires { 80 * most + 80 ≤ length out.old }
-    ensures { (Puts out.old 0 (differenceLines one.now other.now most 0) out.new result) × (result ≤ 80 * most) }
+    ensures { (Puts out.old 0 (difference_lines one.now other.now most 0) out.new result) × (result ≤ 80 * most) }
 {
     let mut at: usize = 0;
     let mut from: usize = 0;
@@ -46,7 +46,7 @@ fn put_differences(out: &mut [u8], one: &[u8], other: &[u8], most: usize) -> usi
 // These lines, or that the stores are the same.
 fn put_lines(out: &mut [u8], one: &[u8], other: &[u8], most: usize) -> usize
     requires { 80 * most + 80 ≤ length out.old }
-    ensures { (Puts out.old 0 (linesOrSame (differenceLines one.now other.now most 0)) out.new result) × (result ≤ 80 * most + 5) }
+    ensures { (Puts out.old 0 (lines_or_same (difference_lines one.now other.now most 0)) out.new result) × (result ≤ 80 * most + 5) }
 {
     let n = put_differences(out, one, other, most);
     if n == 0 {
@@ -57,7 +57,7 @@ fn put_lines(out: &mut [u8], one: &[u8], other: &[u8], most: usize) -> usize
 
 // 1 for two words that differ, 0 for two that do not.
 fn differs(one: u64, other: u64) -> usize
-    ensures { (result ≡ oneWhere one other) × (result ≤ 1) }
+    ensures { (result ≡ one_where one other) × (result ≤ 1) }
 {
     if one == other { 0 } else { 1 }
 }

@@ -6,26 +6,26 @@ use mathlib.Core.List.{map}
 use Rattle.mir.specs.declared.records.Record.{Record}
 use Rattle.mir.specs.Encode.{Buf}
 use Rattle.sheet.specs.declared.setup.Mode.{Mode}
-use Rattle.sheet.specs.Setup.{isMinding}
-use Rattle.lowering.specs.Realness.{isRealReg, setReg}
-use Rattle.lowering.specs.Lines.{halfLines, mindingHalfLines}
-use Rattle.lowering.specs.Complexifier.{copied, mindingHalf, halfBy, half}
+use Rattle.sheet.specs.Setup.{is_minding}
+use Rattle.lowering.specs.Realness.{is_real_reg, set_reg}
+use Rattle.lowering.specs.Lines.{half_lines, minding_half_lines}
+use Rattle.lowering.specs.Complexifier.{copied, minding_half, half_by, half}
 use Rattle.lines.specs.Lists.{Lists}
 use Rattle.complexifier.specs.declared.state.Complexifier.{Complexifier}
 use Rattle.complexifier.specs.Does.{Does, recorded, listing, made₁}
 
 module _ {b c : Buf} {s u : Complexifier} (m : Mode) (d a : ℕ) {t : Bool} where
-  by_mode : t ≡ isMinding m → Does b s (halfBy t d a) c u → Does b s (half m d a) c u
+  by_mode : t ≡ is_minding m → Does b s (half_by t d a) c u → Does b s (half m d a) c u
   unfolding half
-  by_mode e p = subst (λ t. Does b s (halfBy t d a) c u) e p
+  by_mode e p = subst (λ t. Does b s (half_by t d a) c u) e p
 
-  pub minding : {x : Bool} → t ≡ true → t ≡ isMinding m → x ≡ isRealReg s.real a → Lists b (map Record.Work (mindingHalfLines x d a)) c
-      → u ≡ recorded s (setReg s.real d (isRealReg s.real a))
+  pub minding : {x : Bool} → t ≡ true → t ≡ is_minding m → x ≡ is_real_reg s.real a → Lists b (map Record.Work (minding_half_lines x d a)) c
+      → u ≡ recorded s (set_reg s.real d (is_real_reg s.real a))
       → Does b s (half m d a) c u
-  unfolding halfBy mindingHalf
-  minding h e f p g = by_mode e (subst (λ t. Does b s (halfBy t d a) c u) (sym h) (made₁ mindingHalfLines copied d a f p g))
+  unfolding half_by minding_half
+  minding h e f p g = by_mode e (subst (λ t. Does b s (half_by t d a) c u) (sym h) (made₁ minding_half_lines copied d a f p g))
 
-  pub as-rust : t ≡ false → t ≡ isMinding m → s ≡ u → Lists b (map Record.Work (halfLines d a)) c → Does b s (half m d a) c u
-  unfolding halfBy
+  pub as-rust : t ≡ false → t ≡ is_minding m → s ≡ u → Lists b (map Record.Work (half_lines d a)) c → Does b s (half m d a) c u
+  unfolding half_by
   as-rust h e q p =
-      by_mode e (subst (λ t. Does b s (halfBy t d a) c u) (sym h) (listing (map Record.Work (halfLines d a)) (λ ρ. ρ) p (sym q)))
+      by_mode e (subst (λ t. Does b s (half_by t d a) c u) (sym h) (listing (map Record.Work (half_lines d a)) (λ ρ. ρ) p (sym q)))

@@ -8,15 +8,15 @@ use Rattle.mir.specs.declared.records.Work.{Work}
 use Rattle.mir.specs.declared.records.Record.{Record}
 use Rattle.mir.specs.Encode.{Buf, pushed}
 use Rattle.lowering.specs.declared.realness.Realness.{Realness}
-use Rattle.lowering.specs.Realness.{isRealReg, isRealLoc, setReg}
-use Rattle.lowering.specs.Lines.{loadLines}
-use Rattle.lowering.specs.Complexifier.{State, Out, withReal, then, directed, emit, byOne, byTwo, loadFrom}
-use Rattle.lines.specs.Lists.{Lists, pushAll, pushAll-append}
+use Rattle.lowering.specs.Realness.{is_real_reg, is_real_loc, set_reg}
+use Rattle.lowering.specs.Lines.{load_lines}
+use Rattle.lowering.specs.Complexifier.{State, Out, with_real, then, directed, emit, one_by_one, by_two, load_from}
+use Rattle.lines.specs.Lists.{Lists, push_all, push_all_append}
 use Rattle.complexifier.specs.declared.state.Complexifier.{Complexifier}
 
 -- the state that the code carries, beside the constants
 abbrev pub state : Complexifier → List ℕ → State
-state c k = record { real = c.real; rootDefined = c.root_defined; consts = k }
+state c k = record { real = c.real; is_root_defined = c.root_defined; consts = k }
 
 -- another record of realness
 abbrev pub recorded : Complexifier → Realness → Complexifier
@@ -24,7 +24,7 @@ recorded c ρ = record { real = ρ; root_defined = c.root_defined }
 
 -- from b and s, the method f leads to c and t
 pub record Does (b : Buf) (s : Complexifier) (f : State → Out) (c : Buf) (t : Complexifier) : Type 0 where
-  pub listed : (k : List ℕ) → c ≡ pushAll b (f (state s k)).records
+  pub listed : (k : List ℕ) → c ≡ push_all b (f (state s k)).records
   pub kept : (k : List ℕ) → state t k ≡ (f (state s k)).after
 
 -- two methods one after the other
@@ -36,9 +36,9 @@ unfolding then
     record {
       listed = λ k.
           q.listed k
-          ∙ ap (λ x. pushAll c (g x).records) (p.kept k)
-          ∙ ap (λ x. pushAll x (g (f (state s k)).after).records) (p.listed k)
-          ∙ simp pushAll-append;
+          ∙ ap (λ x. push_all c (g x).records) (p.kept k)
+          ∙ ap (λ x. push_all x (g (f (state s k)).after).records) (p.listed k)
+          ∙ simp push_all_append;
       kept = λ k. q.kept k ∙ ap (λ x. (g x).after) (p.kept k);
     }
 
@@ -49,46 +49,46 @@ directs r e = record { listed = λ k. e; kept = λ k. refl }
 
 -- the lines of a method, and what it records for a register
 module _ {b c : Buf} {s t : Complexifier} where
-  pub made : (l : List Work) (d : ℕ) (f : Bool) → Lists b (map Record.Work l) c → t ≡ recorded s (setReg s.real d f)
+  pub made : (l : List Work) (d : ℕ) (f : Bool) → Lists b (map Record.Work l) c → t ≡ recorded s (set_reg s.real d f)
       → Does b s (λ s. emit s l d f) c t
   unfolding emit
   made l d f p e = record { listed = λ k. p.same; kept = λ k. ap (λ x. state x k) e }
 
   -- records listed, and the record changed
   pub listing : (l : List Record) (h : Realness → Realness) → Lists b l c → t ≡ recorded s (h s.real)
-      → Does b s (λ s. record { records = l; after = withReal s (h s.real) }) c t
+      → Does b s (λ s. record { records = l; after = with_real s (h s.real) }) c t
   listing l h p e = record { listed = λ k. p.same; kept = λ k. ap (λ x. state x k) e }
 
   -- by the realness of one operand
-  pub made₁ : (l : Bool → ℕ → ℕ → List Work) (g : Bool → Bool) (d a : ℕ) {x : Bool} → x ≡ isRealReg s.real a
-      → Lists b (map Record.Work (l x d a)) c → t ≡ recorded s (setReg s.real d (g (isRealReg s.real a)))
-      → Does b s (byOne l g d a) c t
-  unfolding byOne
+  pub made₁ : (l : Bool → ℕ → ℕ → List Work) (g : Bool → Bool) (d a : ℕ) {x : Bool} → x ≡ is_real_reg s.real a
+      → Lists b (map Record.Work (l x d a)) c → t ≡ recorded s (set_reg s.real d (g (is_real_reg s.real a)))
+      → Does b s (one_by_one l g d a) c t
+  unfolding one_by_one
   made₁ l g d a e p h =
-      record { listed = λ k. p.same ∙ ap (λ x. pushAll b (map Record.Work (l x d a))) e; kept = λ k. ap (λ x. state x k) h }
+      record { listed = λ k. p.same ∙ ap (λ x. push_all b (map Record.Work (l x d a))) e; kept = λ k. ap (λ x. state x k) h }
 
   -- by the realness of two operands
   pub made₂ : (l : Bool → Bool → ℕ → ℕ → ℕ → List Work) (g : Bool → Bool → Bool) (d a₁ a₂ : ℕ) {x y : Bool}
-      → x ≡ isRealReg s.real a₁ → y ≡ isRealReg s.real a₂
+      → x ≡ is_real_reg s.real a₁ → y ≡ is_real_reg s.real a₂
       → Lists b (map Record.Work (l x y d a₁ a₂)) c
-      → t ≡ recorded s (setReg s.real d (g (isRealReg s.real a₁) (isRealReg s.real a₂)))
-      → Does b s (byTwo l g d a₁ a₂) c t
-  unfolding byTwo
+      → t ≡ recorded s (set_reg s.real d (g (is_real_reg s.real a₁) (is_real_reg s.real a₂)))
+      → Does b s (by_two l g d a₁ a₂) c t
+  unfolding by_two
   made₂ l g d a₁ a₂ {x} {y} e i p h =
       record {
         listed = λ k.
             p.same
-            ∙ ap (λ x. pushAll b (map Record.Work (l x y d a₁ a₂))) e
-            ∙ ap (λ y. pushAll b (map Record.Work (l (isRealReg s.real a₁) y d a₁ a₂))) i;
+            ∙ ap (λ x. push_all b (map Record.Work (l x y d a₁ a₂))) e
+            ∙ ap (λ y. push_all b (map Record.Work (l (is_real_reg s.real a₁) y d a₁ a₂))) i;
         kept = λ k. ap (λ x. state x k) h;
       }
 
   -- by the realness of a place
-  pub loaded : (d : ℕ) (p : Loc) {x : Bool} → x ≡ isRealLoc s.real.places p → Lists b (map Record.Work (loadLines x d p)) c
-      → t ≡ recorded s (setReg s.real d x) → Does b s (loadFrom d p) c t
-  unfolding loadFrom
+  pub loaded : (d : ℕ) (p : Loc) {x : Bool} → x ≡ is_real_loc s.real.places p → Lists b (map Record.Work (load_lines x d p)) c
+      → t ≡ recorded s (set_reg s.real d x) → Does b s (load_from d p) c t
+  unfolding load_from
   loaded d p e l h =
       record {
-        listed = λ k. l.same ∙ ap (λ x. pushAll b (map Record.Work (loadLines x d p))) e;
-        kept = λ k. ap (λ x. state x k) h ∙ ap (λ x. state (recorded s (setReg s.real d x)) k) e;
+        listed = λ k. l.same ∙ ap (λ x. push_all b (map Record.Work (load_lines x d p))) e;
+        kept = λ k. ap (λ x. state x k) h ∙ ap (λ x. state (recorded s (set_reg s.real d x)) k) e;
       }

@@ -1,9 +1,9 @@
 // Methods of two operands and of three.
 ghost use Rattle.mir.specs.Encode.{buf};
 ghost use Rattle.complexifier.specs.Does.{Does};
-ghost use Rattle.lowering.specs.Lines.{complexLines, orderLines};
-ghost use Rattle.lowering.specs.Complexifier.{byTwo, bothAsReal, bothAsComplex, plus, minus, times, bits, compare, ifelse, fusedMulAdd, fusedMulSub, fusedNegMulAdd, fusedNegMulSub};
-ghost use Rattle.lowering.specs.Rerun.{rerunFused};
+ghost use Rattle.lowering.specs.Lines.{complex_lines, order_lines};
+ghost use Rattle.lowering.specs.Complexifier.{by_two, both_as_real, both_as_complex, plus, minus, times, bits, compare, ifelse, fused_mul_add, fused_mul_sub, fused_neg_mul_add, fused_neg_mul_sub};
+ghost use Rattle.lowering.specs.Rerun.{rerun_fused};
 
 use super::state::{Complexifier, Listed};
 use lines::binary::{
@@ -52,7 +52,7 @@ impl Complexifier {
     }
 
     pub fn complex(self, out: &mut [u8], at: usize, dst: u8, s1: u8, s2: u8) -> Listed
-        ensures { Does (buf out.old at) self (byTwo complexLines bothAsComplex dst s1 s2) (buf out.new result.at) result.low }
+        ensures { Does (buf out.old at) self (by_two complex_lines both_as_complex dst s1 s2) (buf out.new result.at) result.low }
     {
         let n = complex_lines(out, at, dst, s1, s2);
         Listed {
@@ -63,7 +63,7 @@ impl Complexifier {
 
     // `gt`, `lt`
     pub fn order(self, out: &mut [u8], at: usize, op: BinOp, dst: u8, s1: u8, s2: u8) -> Listed
-        ensures { Does (buf out.old at) self (byTwo (orderLines op) bothAsReal dst s1 s2) (buf out.new result.at) result.low }
+        ensures { Does (buf out.old at) self (by_two (order_lines op) both_as_real dst s1 s2) (buf out.new result.at) result.low }
     {
         let n = order_lines(out, at, op, dst, s1, s2);
         Listed {
@@ -128,7 +128,7 @@ impl Complexifier {
     }
 
     pub fn fused_mul_add(self, out: &mut [u8], at: usize, dst: u8, a: u8, b: u8, c: u8) -> Listed
-        ensures { Does (buf out.old at) self (fusedMulAdd dst a b c) (buf out.new result.at) result.low }
+        ensures { Does (buf out.old at) self (fused_mul_add dst a b c) (buf out.new result.at) result.low }
     {
         let s = self.times(out, at, RET, a, b);
         let low = s.low;
@@ -137,7 +137,7 @@ impl Complexifier {
     }
 
     pub fn fused_mul_sub(self, out: &mut [u8], at: usize, dst: u8, a: u8, b: u8, c: u8) -> Listed
-        ensures { Does (buf out.old at) self (fusedMulSub dst a b c) (buf out.new result.at) result.low }
+        ensures { Does (buf out.old at) self (fused_mul_sub dst a b c) (buf out.new result.at) result.low }
     {
         let s = self.times(out, at, RET, a, b);
         let low = s.low;
@@ -154,7 +154,7 @@ impl Complexifier {
         b: u8,
         c: u8,
     ) -> Listed
-        ensures { Does (buf out.old at) self (fusedNegMulAdd dst a b c) (buf out.new result.at) result.low }
+        ensures { Does (buf out.old at) self (fused_neg_mul_add dst a b c) (buf out.new result.at) result.low }
     {
         let s = self.times(out, at, RET, a, b);
         let low = s.low;
@@ -171,7 +171,7 @@ impl Complexifier {
         b: u8,
         c: u8,
     ) -> Listed
-        ensures { Does (buf out.old at) self (fusedNegMulSub dst a b c) (buf out.new result.at) result.low }
+        ensures { Does (buf out.old at) self (fused_neg_mul_sub dst a b c) (buf out.new result.at) result.low }
     {
         let s = self.times(out, at, RET, a, b);
         let low = s.low;
@@ -192,7 +192,7 @@ impl Complexifier {
         b: u8,
         c: u8,
     ) -> Listed
-        ensures { Does (buf out.old at) self (rerunFused op dst a b c) (buf out.new result.at) result.low }
+        ensures { Does (buf out.old at) self (rerun_fused op dst a b c) (buf out.new result.at) result.low }
     {
         match op {
             FusedOp::MulAdd => self.fused_mul_add(out, at, dst, a, b, c),

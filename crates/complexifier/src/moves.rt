@@ -1,7 +1,7 @@
 // Moves, places, the call of the root block, and the labels and branches of a sheet.
 ghost use Rattle.mir.specs.Encode.{buf};
 ghost use Rattle.complexifier.specs.Does.{Does};
-ghost use Rattle.lowering.specs.Complexifier.{ensureComplex, fmov, loadConst, loadFrom, saveTo, callRoot, setLabel, branch, branchIf};
+ghost use Rattle.lowering.specs.Complexifier.{ensure_complex, fmov, load_const, load_from, save_to, call_root, set_label, branch, branch_if};
 
 use super::state::{Complexifier, Listed};
 use lines::emit::call;
@@ -12,7 +12,7 @@ use mir::writer::{push_branch, push_branch_if, push_label};
 
 impl Complexifier {
     pub fn ensure_complex(self, out: &mut [u8], at: usize, d: u8) -> Listed
-        ensures { Does (buf out.old at) self (ensureComplex d) (buf out.new result.at) result.low }
+        ensures { Does (buf out.old at) self (ensure_complex d) (buf out.new result.at) result.low }
     {
         let x = self.is_real_reg(d);
         let n = ensure_lines(out, at, x, d);
@@ -34,7 +34,7 @@ impl Complexifier {
     }
 
     pub fn load_const(self, out: &mut [u8], at: usize, dst: u8, idx: u16) -> Listed
-        ensures { Does (buf out.old at) self (loadConst dst idx) (buf out.new result.at) result.low }
+        ensures { Does (buf out.old at) self (load_const dst idx) (buf out.new result.at) result.low }
     {
         let n = load_const_lines(out, at, dst, idx);
         Listed {
@@ -45,7 +45,7 @@ impl Complexifier {
 
     // `load_mem`, `load_param`, `load_stack`
     pub fn load_from(self, out: &mut [u8], at: usize, dst: u8, loc: Loc) -> Listed
-        ensures { Does (buf out.old at) self (loadFrom dst loc) (buf out.new result.at) result.low }
+        ensures { Does (buf out.old at) self (load_from dst loc) (buf out.new result.at) result.low }
     {
         let x = self.is_real_loc(loc);
         let n = load_lines(out, at, x, dst, loc);
@@ -57,7 +57,7 @@ impl Complexifier {
 
     // `save_mem`, `save_stack`
     pub fn save_to(self, out: &mut [u8], at: usize, src: u8, loc: Loc) -> Listed
-        ensures { Does (buf out.old at) self (saveTo src loc) (buf out.new result.at) result.low }
+        ensures { Does (buf out.old at) self (save_to src loc) (buf out.new result.at) result.low }
     {
         let a = self.ensure_complex(out, at, src);
         let low = a.low;
@@ -71,7 +71,7 @@ impl Complexifier {
 
     // `call_funclet("@complex_root")`
     pub fn call_root(self, out: &mut [u8], at: usize) -> Listed
-        ensures { Does (buf out.old at) self callRoot (buf out.new result.at) result.low }
+        ensures { Does (buf out.old at) self call_root (buf out.new result.at) result.low }
     {
         let n = call(out, at, 1);
         Listed {
@@ -81,7 +81,7 @@ impl Complexifier {
     }
 
     pub fn set_label(self, out: &mut [u8], at: usize, label: u8) -> Listed
-        ensures { Does (buf out.old at) self (setLabel label) (buf out.new result.at) result.low }
+        ensures { Does (buf out.old at) self (set_label label) (buf out.new result.at) result.low }
     {
         let n = push_label(out, at, label);
         Listed { low: self, at: n }
@@ -95,7 +95,7 @@ impl Complexifier {
     }
 
     pub fn branch_if(self, out: &mut [u8], at: usize, cond: u8, label: u8, is_else: bool) -> Listed
-        ensures { Does (buf out.old at) self (branchIf cond label is_else) (buf out.new result.at) result.low }
+        ensures { Does (buf out.old at) self (branch_if cond label is_else) (buf out.new result.at) result.low }
     {
         let c = re(cond);
         let n = push_branch_if(out, at, c, label, is_else);

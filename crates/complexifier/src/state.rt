@@ -1,7 +1,7 @@
 // What lowering carries from one instruction to the next, beside the constants, and what it records.
 ghost use Rattle.std.specs.Prelude.{◌≡◌};
 ghost use Rattle.lowering.specs.Realness as Spec;
-ghost use Rattle.lowering.specs.Complexifier.{savedReal};
+ghost use Rattle.lowering.specs.Complexifier.{saved_realness};
 ghost use Rattle.complexifier.specs.Does.{recorded};
 
 use lowering::realness::Realness;
@@ -22,14 +22,14 @@ pub struct Listed {
 
 impl Complexifier {
     pub fn is_real_reg(self, r: u8) -> bool
-        ensures { result ≡ Spec.isRealReg self.real r }
+        ensures { result ≡ Spec.is_real_reg self.real r }
     {
         let real = self.real;
         real.is_real_reg(r)
     }
 
     pub fn is_real_loc(self, loc: Loc) -> bool
-        ensures { result ≡ Spec.isRealLoc self.real.places loc }
+        ensures { result ≡ Spec.is_real_loc self.real.places loc }
     {
         let real = self.real;
         real.is_real_loc(loc)
@@ -37,7 +37,7 @@ impl Complexifier {
 
     // A register recorded as real, or as complex.
     pub fn set_reg(self, dst: u8, real: bool) -> Complexifier
-        ensures { result ≡ recorded self (Spec.setReg self.real dst real) }
+        ensures { result ≡ recorded self (Spec.set_reg self.real dst real) }
     {
         let before = self.real;
         let after = before.set_reg(dst, real);
@@ -48,7 +48,7 @@ impl Complexifier {
     }
 
     pub fn set_reg_real(self, dst: u8) -> Complexifier
-        ensures { result ≡ recorded self (Spec.setRegReal self.real dst) }
+        ensures { result ≡ recorded self (Spec.set_reg_real self.real dst) }
     {
         let before = self.real;
         let after = before.set_reg_real(dst);
@@ -59,7 +59,7 @@ impl Complexifier {
     }
 
     pub fn set_reg_complex(self, dst: u8) -> Complexifier
-        ensures { result ≡ recorded self (Spec.setRegComplex self.real dst) }
+        ensures { result ≡ recorded self (Spec.set_reg_complex self.real dst) }
     {
         let before = self.real;
         let after = before.set_reg_complex(dst);
@@ -70,7 +70,7 @@ impl Complexifier {
     }
 
     pub fn copy_real(self, dst: u8, s1: u8) -> Complexifier
-        ensures { result ≡ recorded self (Spec.copyReal self.real dst s1) }
+        ensures { result ≡ recorded self (Spec.copy_real self.real dst s1) }
     {
         let before = self.real;
         let after = before.copy_real(dst, s1);
@@ -81,7 +81,7 @@ impl Complexifier {
     }
 
     pub fn promote_real(self, dst: u8, s1: u8, s2: u8) -> Complexifier
-        ensures { result ≡ recorded self (Spec.promoteReal self.real dst s1 s2) }
+        ensures { result ≡ recorded self (Spec.promote_real self.real dst s1 s2) }
     {
         let before = self.real;
         let after = before.promote_real(dst, s1, s2);
@@ -93,7 +93,7 @@ impl Complexifier {
 
     // After a save: only a Stack place is recorded, and so removed.
     pub fn saved(mut self, loc: Loc) -> Complexifier
-        ensures { result ≡ recorded self (savedReal loc self.real) }
+        ensures { result ≡ recorded self (saved_realness loc self.real) }
     {
         match loc {
             Loc::Stack(i) => {

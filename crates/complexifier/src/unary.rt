@@ -1,8 +1,8 @@
 // Methods of one operand.
 ghost use Rattle.mir.specs.Encode.{buf};
 ghost use Rattle.complexifier.specs.Does.{Does};
-ghost use Rattle.lowering.specs.Lines.{eachLines, abs2Lines, timesILines, timesNegILines, realLines, imaginaryLines, conjugateLines, notLines};
-ghost use Rattle.lowering.specs.Complexifier.{byOne, copied, asReal, asComplex, half};
+ghost use Rattle.lowering.specs.Lines.{each_lines, abs2_lines, timesILines, timesNegILines, real_lines, imaginary_lines, conjugate_lines, not_lines};
+ghost use Rattle.lowering.specs.Complexifier.{one_by_one, copied, as_real, as_complex, half};
 
 use super::state::{Complexifier, Listed};
 use lines::unary::{
@@ -15,7 +15,7 @@ use sheet::setup::{Mode, is_minding};
 impl Complexifier {
     // `neg`, `round`, `sign`
     pub fn each(self, out: &mut [u8], at: usize, op: UniOp, dst: u8, s1: u8) -> Listed
-        ensures { Does (buf out.old at) self (byOne (eachLines op) copied dst s1) (buf out.new result.at) result.low }
+        ensures { Does (buf out.old at) self (one_by_one (each_lines op) copied dst s1) (buf out.new result.at) result.low }
     {
         let x = self.is_real_reg(s1);
         let n = each_lines(out, at, op, x, dst, s1);
@@ -26,7 +26,7 @@ impl Complexifier {
     }
 
     pub fn abs2(self, out: &mut [u8], at: usize, dst: u8, s1: u8) -> Listed
-        ensures { Does (buf out.old at) self (byOne abs2Lines copied dst s1) (buf out.new result.at) result.low }
+        ensures { Does (buf out.old at) self (one_by_one abs2_lines copied dst s1) (buf out.new result.at) result.low }
     {
         let x = self.is_real_reg(s1);
         let n = abs2_lines(out, at, x, dst, s1);
@@ -37,7 +37,7 @@ impl Complexifier {
     }
 
     pub fn times_i(self, out: &mut [u8], at: usize, dst: u8, s1: u8) -> Listed
-        ensures { Does (buf out.old at) self (byOne timesILines asComplex dst s1) (buf out.new result.at) result.low }
+        ensures { Does (buf out.old at) self (one_by_one timesILines as_complex dst s1) (buf out.new result.at) result.low }
     {
         let x = self.is_real_reg(s1);
         let n = times_i_lines(out, at, x, dst, s1);
@@ -48,7 +48,7 @@ impl Complexifier {
     }
 
     pub fn times_neg_i(self, out: &mut [u8], at: usize, dst: u8, s1: u8) -> Listed
-        ensures { Does (buf out.old at) self (byOne timesNegILines asComplex dst s1) (buf out.new result.at) result.low }
+        ensures { Does (buf out.old at) self (one_by_one timesNegILines as_complex dst s1) (buf out.new result.at) result.low }
     {
         let x = self.is_real_reg(s1);
         let n = times_neg_i_lines(out, at, x, dst, s1);
@@ -75,7 +75,7 @@ impl Complexifier {
     }
 
     pub fn real(self, out: &mut [u8], at: usize, dst: u8, s1: u8) -> Listed
-        ensures { Does (buf out.old at) self (byOne realLines asReal dst s1) (buf out.new result.at) result.low }
+        ensures { Does (buf out.old at) self (one_by_one real_lines as_real dst s1) (buf out.new result.at) result.low }
     {
         let n = real_lines(out, at, dst, s1);
         Listed {
@@ -85,7 +85,7 @@ impl Complexifier {
     }
 
     pub fn imaginary(self, out: &mut [u8], at: usize, dst: u8, s1: u8) -> Listed
-        ensures { Does (buf out.old at) self (byOne imaginaryLines asReal dst s1) (buf out.new result.at) result.low }
+        ensures { Does (buf out.old at) self (one_by_one imaginary_lines as_real dst s1) (buf out.new result.at) result.low }
     {
         let x = self.is_real_reg(s1);
         let n = imaginary_lines(out, at, x, dst, s1);
@@ -96,7 +96,7 @@ impl Complexifier {
     }
 
     pub fn conjugate(self, out: &mut [u8], at: usize, dst: u8, s1: u8) -> Listed
-        ensures { Does (buf out.old at) self (byOne conjugateLines copied dst s1) (buf out.new result.at) result.low }
+        ensures { Does (buf out.old at) self (one_by_one conjugate_lines copied dst s1) (buf out.new result.at) result.low }
     {
         let x = self.is_real_reg(s1);
         let n = conjugate_lines(out, at, x, dst, s1);
@@ -107,7 +107,7 @@ impl Complexifier {
     }
 
     pub fn not(self, out: &mut [u8], at: usize, dst: u8, s1: u8) -> Listed
-        ensures { Does (buf out.old at) self (byOne notLines asReal dst s1) (buf out.new result.at) result.low }
+        ensures { Does (buf out.old at) self (one_by_one not_lines as_real dst s1) (buf out.new result.at) result.low }
     {
         let n = not_lines(out, at, dst, s1);
         Listed {

@@ -7,25 +7,25 @@ use native.Mathlib.Numerals.{add-one}
 use native.Mathlib.Omega.{arith}
 use lib.ListN.{length, take, drop, replicate, get_or, set, length-append, length-take, take-append-drop}
 use lib.Seq.{sets, sets-eq, length-sets, take_at, drop_at, drop-drop}
-use Rattle.sheet.specs.Setup.{constantAt, constantsFromOn}
+use Rattle.sheet.specs.Setup.{constant_at, constants_from_on}
 use Rattle.complexify.specs.Taken.{Appended}
 
 -- the constants of a sheet, one by one
 module _ (s : List ℕ) where
-  pub nth : (n i k : ℕ) → k < n → get_or (constantsFromOn s n i) k 0 ≡ constantAt s (i + k)
+  pub nth : (n i k : ℕ) → k < n → get_or (constants_from_on s n i) k 0 ≡ constant_at s (i + k)
   nth zero i k h = absurd (omega arith)
-  nth (suc n) i zero h = ap (constantAt s) (sym (add-zero i))
-  nth (suc n) i (suc k) h = nth n (suc i) k (omega arith) ∙ ap (constantAt s) (suc-add i k ∙ sym (add-suc i k))
+  nth (suc n) i zero h = ap (constant_at s) (sym (add-zero i))
+  nth (suc n) i (suc k) h = nth n (suc i) k (omega arith) ∙ ap (constant_at s) (suc-add i k ∙ sym (add-suc i k))
 
 -- one number stored from i up to an end
-pub fill-turn : (l : List ℕ) (v i end : ℕ) → i < end
+pub fill_turn : (l : List ℕ) (v i end : ℕ) → i < end
     → sets l i (replicate (end - i) v) ≡ sets (set l i v) (i + 1) (replicate (end - (i + 1)) v)
-fill-turn l v i end h =
+fill_turn l v i end h =
     let e : end - i ≡ suc (end - (i + 1)) = omega arith in
     ap (λ k. sets l i (replicate k v)) e ∙ rw (add-one i)
 
-pub fill-ended : (l : List ℕ) (v i end : ℕ) → end ≤ i → sets l i (replicate (end - i) v) ≡ l
-fill-ended l v i end h =
+pub fill_ended : (l : List ℕ) (v i end : ℕ) → end ≤ i → sets l i (replicate (end - i) v) ≡ l
+fill_ended l v i end h =
     let e : end - i ≡ 0 = omega arith in
     ap (λ k. sets l i (replicate k v)) e
 
@@ -44,8 +44,8 @@ module _ (l v : List ℕ) (w : ℕ) (fits : w + length v ≤ length l) where
   kept_store = record { more = omega arith; fits = fits; long = length-sets l w v; rest = dropped }
 
 -- nothing stored
-pub kept-none : (l : List ℕ) (n : ℕ) → n ≤ length l → Appended l n l n
-kept-none l n h = record { more = omega arith; fits = h; long = refl; rest = refl }
+pub kept_none : (l : List ℕ) (n : ℕ) → n ≤ length l → Appended l n l n
+kept_none l n h = record { more = omega arith; fits = h; long = refl; rest = refl }
 
 further : (l l' : List ℕ) (n m : ℕ) → n ≤ m → drop n l ≡ drop n l' → drop m l ≡ drop m l'
 further l l' n m h e =
@@ -72,13 +72,13 @@ kept_sets l l' n n' p =
     ∙ sym (sets-eq (take n' l') l 0 f)
 
 -- a run stored from the beginning on
-pub kept-first : (l v : List ℕ) (n : ℕ) → length v ≡ n → n ≤ length l → Appended l 0 (sets l 0 v) n
-kept-first l v n e h =
+pub kept_first : (l v : List ℕ) (n : ℕ) → length v ≡ n → n ≤ length l → Appended l 0 (sets l 0 v) n
+kept_first l v n e h =
     let k = kept_store l v 0 (omega (arith, e, h)) in
     let g : 0 + length v ≡ n = omega (arith, e) in
     record { more = omega arith; fits = h; long = k.long; rest = ap (λ m. drop m (sets l 0 v)) (sym g) ∙ k.rest ∙ ap (λ m. drop m l) g }
 
-pub taken-first : (l v : List ℕ) (n : ℕ) → length v ≡ n → n ≤ length l → take n (sets l 0 v) ≡ v
-taken-first l v n e h =
+pub taken_first : (l v : List ℕ) (n : ℕ) → length v ≡ n → n ≤ length l → take n (sets l 0 v) ≡ v
+taken_first l v n e h =
     let g : 0 + length v ≡ n = omega (arith, e) in
     ap (λ m. take m (sets l 0 v)) (sym g) ∙ taken l v 0 (omega (arith, e, h))

@@ -7,14 +7,14 @@ use Rattle.mir.specs.Read.{Read, got, refused}
 use Rattle.mir.specs.Decode.{Item}
 use Rattle.words.specs.Bytes.{stored}
 use Rattle.sheet.specs.declared.setup.Mode.{Mode}
-use Rattle.sheet.specs.Setup.{isStable}
-use Rattle.sheet.specs.Instruction.{instructionsOn}
+use Rattle.sheet.specs.Setup.{is_stable}
+use Rattle.sheet.specs.Instruction.{instructions_on}
 use Rattle.lowering.specs.Complexifier.{position, MIN_POSITIVE, INFINITY, QUARTER, EXP_MASK_FINITE, FLOOR_FINITE}
 use Rattle.lowering.specs.Rerun.{rerun}
-use Rattle.lowering.specs.Labels.{noneStanding}
-use Rattle.lowering.specs.Lower.{Ended, lowerFrom, barred}
-use Rattle.lowering.specs.Origins.{originsFrom}
-use Rattle.marks.specs.Marks.{drawnOn, filledBy, registers}
+use Rattle.lowering.specs.Labels.{none_standing}
+use Rattle.lowering.specs.Lower.{Ended, lower_from, barred}
+use Rattle.lowering.specs.Origins.{origins_from}
+use Rattle.marks.specs.Marks.{drawn_on, filled_by, registers}
 use Rattle.complexifier.specs.declared.state.Complexifier.{Complexifier}
 use Rattle.complexifier.specs.Does.{state}
 use Rattle.rerun.specs.declared.output.Output.{Output}
@@ -66,8 +66,8 @@ pub record Finished (t : Output) (room : ℕ) (i : Instruction) (next : ℕ) (k 
 
 -- an instruction: 6 refuses it, or it is lowered into the stage
 pub data Staged (mode : Mode) (room : ℕ) (i : Instruction) (next : ℕ) (g k : List ℕ) (count : ℕ) (low : Complexifier) (g' k' : List ℕ) (r : Next) : Type 0 where
-  bars : barred (isStable mode) i low.real ≡ true → r ≡ refusal 6 low → k' ≡ k → Staged mode room i next g k count low g' k' r
-  lowers : (t : Output) → barred (isStable mode) i low.real ≡ false
+  bars : barred (is_stable mode) i low.real ≡ true → r ≡ refusal 6 low → k' ≡ k → Staged mode room i next g k count low g' k' r
+  lowers : (t : Output) → barred (is_stable mode) i low.real ≡ false
       → Ends (buf g 0) low (take count k) (tabled (rerun mode i)) g' t → length t.added.words ≡ 3
       → Finished t room i next k count low k' r → Staged mode room i next g k count low g' k' r
 
@@ -82,15 +82,15 @@ Taken mode room g k count low g' k' r (refused n) = (r ≡ refusal n low) × (k'
 abbrev pub left : Mode → ℕ → ℕ → List ℕ → List ℕ → Cursor → Ended
 left mode room own sheet k p =
     let rest = drop p.at sheet in
-    let d = instructionsOn p.index own rest in
-    lowerFrom mode room d.items d.fault rest noneStanding p.index [] (state p.low (take p.count k))
+    let d = instructions_on p.index own rest in
+    lower_from mode room d.items d.fault rest none_standing p.index [] (state p.low (take p.count k))
 
 -- where the loop stops: at a number, and with what the work ends with
-abbrev pub stoppedAt : ℕ → ℕ → Cursor → Stop
-stoppedAt number written p = record { number = number; index = p.index; written = written; count = p.count; real = p.low.real }
+abbrev pub stopped_at : ℕ → ℕ → Cursor → Stop
+stopped_at number written p = record { number = number; index = p.index; written = written; count = p.count; real = p.low.real }
 
-abbrev pub stopOf : Ended → Stop
-stopOf e =
+abbrev pub stop_of : Ended → Stop
+stop_of e =
     record {
       number = e.number;
       index = e.index;
@@ -100,21 +100,21 @@ stopOf e =
     }
 
 -- a stop's answer, with the marks of records
-abbrev pub withMarks : List Record → Stop → LowerAnswer
-withMarks rs s =
+abbrev pub with_marks : List Record → Stop → LowerAnswer
+with_marks rs s =
     record {
       number = s.number;
       index = s.index;
       written = s.written;
       count = s.count;
       real = s.real;
-      filled = registers (filledBy rs);
-      drawn = registers (drawnOn rs);
+      filled = registers (filled_by rs);
+      drawn = registers (drawn_on rs);
     }
 
 -- the whole loop
 pub record Ran (whole : Ended) (l k : List ℕ) (p : Cursor) (l' k' : List ℕ) (r : Stop) : Type 0 where
-  pub stopped : r ≡ stopOf whole
+  pub stopped : r ≡ stop_of whole
   pub bytes : whole.bytes ≡ take r.written l'
   pub consts : whole.state.consts ≡ take r.count k'
   pub listing : Appended l 0 l' r.written
@@ -123,7 +123,7 @@ pub record Ran (whole : Ended) (l k : List ℕ) (p : Cursor) (l' k' : List ℕ) 
 -- the origins of the constants that the next n instructions append
 abbrev pub comes : Mode → ℕ → List ℕ → List ℕ → Cursor → ℕ → List ℕ
 comes mode own sheet constants p n =
-    originsFrom mode p.index (take n (instructionsOn p.index own (drop p.at sheet)).items) (state p.low (take p.count constants))
+    origins_from mode p.index (take n (instructions_on p.index own (drop p.at sheet)).items) (state p.low (take p.count constants))
 
 -- the origins after the whole loop: those that stood there, then those of the instructions finished since, and every later one as lent
 pub record Dated (whole : Ended) (mode : Mode) (own : ℕ) (sheet constants : List ℕ) (p : Cursor) (o o' : List ℕ) (r : Stop) : Type 0 where

@@ -2,7 +2,7 @@
 ghost use Rattle.std.specs.Prelude.{◌≡◌, ◌+◌, ◌-◌, ◌≤◌, length, replicate};
 ghost use Rattle.std.proofs.lemmas.List.Edits.{sets};
 ghost use Rattle.words.specs.Bytes.{stored};
-ghost use Rattle.sheet.specs.Setup.{constantsOf};
+ghost use Rattle.sheet.specs.Setup.{constants_of};
 
 use sheet::setup::constant_at;
 use words::put_bytes;
@@ -31,7 +31,7 @@ pub(crate) fn put_origins(origins: &mut [u16], start: usize, end: usize, origin:
 // The sheet's first `count` constants.
 pub(crate) fn copy_constants(sheet: &[u8], count: usize, constants: &mut [u64])
     requires { count ≤ length constants.old }
-    ensures { constants.new ≡ sets constants.old 0 (constantsOf sheet.now count) }
+    ensures { constants.new ≡ sets constants.old 0 (constants_of sheet.now count) }
 {
     let mut i: usize = 0;
     while i < count {
@@ -42,7 +42,7 @@ pub(crate) fn copy_constants(sheet: &[u8], count: usize, constants: &mut [u64])
 
 // The sheet's first `count` constants, where all of them have room.
 pub fn put_constants(sheet: &[u8], count: usize, constants: &mut [u64])
-    ensures { constants.new ≡ stored constants.old 0 (constantsOf sheet.now count) }
+    ensures { constants.new ≡ stored constants.old 0 (constants_of sheet.now count) }
 {
     if count <= constants.len() {
         copy_constants(sheet, count, constants);

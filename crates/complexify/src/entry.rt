@@ -1,11 +1,11 @@
 // The lowering entry.
 ghost use Rattle.std.specs.Prelude.{◌≡◌, ◌≤◌, List, length, take, drop, replicate};
 ghost use Rattle.mir.specs.declared.records.Record.{Record};
-ghost use Rattle.mir.specs.Encode.{encodeAll};
-ghost use Rattle.lowering.specs.Labels.{noneStanding};
+ghost use Rattle.mir.specs.Encode.{encode_all};
+ghost use Rattle.lowering.specs.Labels.{none_standing};
 ghost use Rattle.complexify.specs.Entry as Spec;
 ghost use Rattle.refusals.specs.Noted.{Noted};
-ghost use Rattle.complexify.specs.Taken.{Ready, Ran, Dated, left, stoppedAt, withMarks};
+ghost use Rattle.complexify.specs.Taken.{Ready, Ran, Dated, left, stopped_at, with_marks};
 
 use super::copying::{copy_bytes, copy_constants, put_origins};
 use super::turn::{Cursor, one};
@@ -44,7 +44,7 @@ pub struct Stop {
 }
 
 fn stop_at(number: u8, written: usize, p: Cursor) -> Stop
-    ensures { result ≡ stoppedAt number written p }
+    ensures { result ≡ stopped_at number written p }
 {
     let low = p.low;
     let real = low.real;
@@ -59,7 +59,7 @@ fn stop_at(number: u8, written: usize, p: Cursor) -> Stop
 
 // What a wrong setup gives.
 pub fn wrong_setup() -> LowerAnswer
-    ensures { result ≡ Spec.refusedSetup }
+    ensures { result ≡ Spec.refused_setup }
 {
     let places = [0u8; 64];
     LowerAnswer {
@@ -88,7 +88,7 @@ fn run(
     requires ready { Ready (replicate 704 0) constants.old start }
     requires listing_len_bound { length listing.old ≤ 65536 }
     requires origins_len { length origins.old ≡ 256 }
-    requires noted { Noted noneStanding (drop start.at sheet.now) marks.old rows.old }
+    requires noted { Noted none_standing (drop start.at sheet.now) marks.old rows.old }
     ensures { (Ran (left mode (length listing.old) own sheet.now constants.old start) listing.old constants.old start listing.new constants.new result)
         × (Dated (left mode (length listing.old) own sheet.now constants.old start) mode own sheet.now constants.old start origins.old origins.new result) }
 {
@@ -160,7 +160,7 @@ fn run_marked(
 // The answer of a stop, with the marks of what is listed.
 fn marked(stop: Stop, listing: &[u8]) -> LowerAnswer
     requires { stop.written ≤ length listing.now }
-    ensures { (rs : List Record) → take stop.written listing.now ≡ encodeAll rs → result ≡ withMarks rs stop }
+    ensures { (rs : List Record) → take stop.written listing.now ≡ encode_all rs → result ≡ with_marks rs stop }
 {
     let n = stop.written;
     let marks = marks_of(&listing[0..n]);
@@ -185,9 +185,9 @@ pub fn lower(
     origins: &mut [u16],
 ) -> LowerAnswer
     ensures { (result ≡ Spec.answer sheet.now listing.old constants.old origins.old)
-        × (listing.new ≡ Spec.listingAfter sheet.now listing.old constants.old origins.old)
-        × (constants.new ≡ Spec.constantsAfter sheet.now listing.old constants.old origins.old)
-        × (origins.new ≡ Spec.originsAfter sheet.now listing.old constants.old origins.old) }
+        × (listing.new ≡ Spec.listing_after sheet.now listing.old constants.old origins.old)
+        × (constants.new ≡ Spec.constants_after sheet.now listing.old constants.old origins.old)
+        × (origins.new ≡ Spec.origins_after sheet.now listing.old constants.old origins.old) }
 {
     let setup = read_setup(sheet);
     if setup.number != 0 {

@@ -2,7 +2,7 @@
 // of the finished ones. What is refused has changed no constant. Lowering copies what is staged, the shelf figures count it, and `tidy`
 // looks at the instruction.
 ghost use Rattle.std.specs.Prelude.{◌≡◌, ◌≤◌, cond, ltb, length};
-ghost use Rattle.sheet.specs.Instruction.{instructionAt};
+ghost use Rattle.sheet.specs.Instruction.{instruction_at};
 ghost use Rattle.complexify.specs.Taken.{Finished, Staged, Taken, refusal};
 
 use complexifier::state::Complexifier;
@@ -127,7 +127,7 @@ pub fn one(
     stage: &mut [u8],
     constants: &mut [u64],
 ) -> Next
-    ensures { Taken mode room stage.old constants.old count low stage.new constants.new result (instructionAt own sheet.now at) }
+    ensures { Taken mode room stage.old constants.old count low stage.new constants.new result (instruction_at own sheet.now at) }
 {
     match read_instruction(sheet, at, own) {
         NextInstruction::Got(instruction, next) => lower_one(

@@ -10,11 +10,11 @@ use lib.Dec.{ltb, eqb}
 use borrow.Author.Tests.{ltb-false, eqb-true, not-false, le-ltb}
 use Rattle.mir.proofs.Passing.{or_left, or_right}
 use Rattle.sheet.specs.Setup.{setup}
-use Rattle.lowering.specs.Lower.{lowerSheet}
-use Rattle.complexify.specs.Entry.{wrongSetup, refusedSetup, answer}
-use Rattle.complexify.proofs.Copies.{taken-first}
+use Rattle.lowering.specs.Lower.{lower_sheet}
+use Rattle.complexify.specs.Entry.{wrong_setup, refused_setup, answer}
+use Rattle.complexify.proofs.Copies.{taken_first}
 use Rattle.complexify.proofs.Finished.{right_answer}
-use Rattle.leftovers.specs.Leftovers.{sheetOf, Accepted, lowered}
+use Rattle.leftovers.specs.Leftovers.{sheet_of, Accepted, lowered}
 use Rattle.entries.specs.Entries.{left}
 use Rattle.leftovers.proofs.Sheets.{sound, table}
 
@@ -32,7 +32,7 @@ pub record Rightly (sheet listing constants origins : List ℕ) : Type 0 where
   pub words : length constants ≡ 256
   pub names : length origins ≡ 256
 
-pub rightly : (sheet listing constants origins : List ℕ) → wrongSetup sheet listing constants origins ≡ false → Rightly sheet listing constants origins
+pub rightly : (sheet listing constants origins : List ℕ) → wrong_setup sheet listing constants origins ≡ false → Rightly sheet listing constants origins
 rightly sheet listing constants origins w =
     let a = not (eqb (setup sheet).number 0) in
     let b = ltb 65536 (length listing) in
@@ -51,38 +51,38 @@ module _ (sheet listing constants origins : List ℕ) where
   abbrev room : ℕ
   room = length listing
 
-  accepts : (b : Bool) → wrongSetup sheet listing constants origins ≡ b → (cond b refusedSetup (right_answer sheet room)).number ≡ 0
+  accepts : (b : Bool) → wrong_setup sheet listing constants origins ≡ b → (cond b refused_setup (right_answer sheet room)).number ≡ 0
       → Left sheet listing constants origins
   accepts true w e = absurd (omega arith)
   accepts false w e =
       let n = rightly sheet listing constants origins w in
       let a : Accepted sheet room = record { right = n.right; slice = n.slice; number = e } in
-      let o = lowerSheet sheet room in
+      let o = lower_sheet sheet room in
       let c = n.words in
       let s = sound sheet room a in
-      let t = table (sheetOf sheet) s.in-range s.few in
+      let t = table (sheet_of sheet) s.in-range s.few in
       record {
         accepted = a;
         bytes =
-            ap (λ b. take (cond b refusedSetup (right_answer sheet room)).written (cond b listing (sets listing 0 o.bytes))) w
-            ∙ taken-first listing o.bytes _ refl s.within;
+            ap (λ b. take (cond b refused_setup (right_answer sheet room)).written (cond b listing (sets listing 0 o.bytes))) w
+            ∙ taken_first listing o.bytes _ refl s.within;
         words =
-            ap (λ b. take (cond b refusedSetup (right_answer sheet room)).count (cond b constants (sets constants 0 o.state.consts))) w
-            ∙ taken-first constants o.state.consts _ refl (omega (arith, c, t, ap (λ l. length l.constants) s.same));
-        last = ap (λ b. (cond b refusedSetup (right_answer sheet room)).real) w;
+            ap (λ b. take (cond b refused_setup (right_answer sheet room)).count (cond b constants (sets constants 0 o.state.consts))) w
+            ∙ taken_first constants o.state.consts _ refl (omega (arith, c, t, ap (λ l. length l.constants) s.same));
+        last = ap (λ b. (cond b refused_setup (right_answer sheet room)).real) w;
       }
 
 pub entered : (sheet listing constants origins : List ℕ) → (answer sheet listing constants origins).number ≡ 0 → Left sheet listing constants origins
-entered sheet listing constants origins e = accepts sheet listing constants origins (wrongSetup sheet listing constants origins) refl e
+entered sheet listing constants origins e = accepts sheet listing constants origins (wrong_setup sheet listing constants origins) refl e
 
 -- and what lowering accepts, the entry does
-accepts-setup : (n r c o : ℕ) → n ≡ 0 → r ≤ 65536 → c ≡ 256 → o ≡ 256
+accepts_setup : (n r c o : ℕ) → n ≡ 0 → r ≤ 65536 → c ≡ 256 → o ≡ 256
     → (not (eqb n 0) || (ltb 65536 r || (not (eqb c 256) || not (eqb o 256)))) ≡ false
-accepts-setup n r c o e h f g = rw (e, le-ltb 65536 r h, f, g)
+accepts_setup n r c o e h f g = rw (e, le-ltb 65536 r h, f, g)
 
 pub answered : (sheet listing constants origins : List ℕ) → Accepted sheet (length listing) → length constants ≡ 256 → length origins ≡ 256
     → (answer sheet listing constants origins).number ≡ 0
 answered sheet listing constants origins a c o =
-    ap (λ b. (cond b refusedSetup (right_answer sheet (length listing))).number)
-    (accepts-setup (setup sheet).number (length listing) (length constants) (length origins) a.right a.slice c o)
+    ap (λ b. (cond b refused_setup (right_answer sheet (length listing))).number)
+    (accepts_setup (setup sheet).number (length listing) (length constants) (length origins) a.right a.slice c o)
     ∙ a.number

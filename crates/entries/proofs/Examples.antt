@@ -8,10 +8,10 @@ use lib.ListN.{length}
 use lib.Dec.{ltb, eqb}
 use borrow.Author.Tests.{le-ltb}
 use Rattle.player_machine.specs.Machine.{Store}
-use Rattle.complexify.specs.Entry.{answer, wrongSetup}
+use Rattle.complexify.specs.Entry.{answer, wrong_setup}
 use Rattle.leftovers.specs.Leftovers as Leftovers
 use Rattle.leftovers.specs.Leftovers.{Lowered, Accepted, lowered, standing, Mixing, Changes, EndAlike}
-use Rattle.leftovers.specs.Examples.{room, zeros, mixing, stableMixing, mindingMixing, clean, jumping, clearing, touched, marked, compared}
+use Rattle.leftovers.specs.Examples.{room, zeros, mixing, stable_mixing, minding_mixing, clean, jumping, clearing, touched, marked, compared}
 use Rattle.leftovers.proofs.Examples as computed
 use Rattle.entries.specs.Entries.{Given}
 use Rattle.entries.specs.Examples.{bytes, words, names, left_of, Needed, Minded, Met, JumpedOver, Cleared}
@@ -23,9 +23,9 @@ pub accepts : (sheet : List ℕ) → Accepted sheet room → (answer sheet bytes
 unfolding bytes words names
 accepts sheet a = answered sheet bytes words names a refl refl
 
-pub as-left : (sheet : List ℕ) → Accepted sheet room → lowered sheet room ≡ left_of sheet
+pub as_left : (sheet : List ℕ) → Accepted sheet room → lowered sheet room ≡ left_of sheet
 unfolding bytes words names
-as-left sheet a = same sheet bytes words names (entered sheet bytes words names (accepts sheet a))
+as_left sheet a = same sheet bytes words names (entered sheet bytes words names (accepts sheet a))
 
 given : (sheet : List ℕ) (i : ℕ) → Leftovers.Given sheet room zeros i zeros touched → Given sheet bytes words names zeros i zeros touched
 given sheet i g =
@@ -33,7 +33,7 @@ given sheet i g =
       accepted = accepts sheet g.accepted;
       words = g.words;
       upper = g.upper;
-      stands = subst (λ (l : Lowered). standing l 0 zeros i ≡ some zeros) (as-left sheet g.accepted) g.stands;
+      stands = subst (λ (l : Lowered). standing l 0 zeros i ≡ some zeros) (as_left sheet g.accepted) g.stands;
       changed = g.changed;
     }
 
@@ -41,33 +41,33 @@ met_at : (sheet : List ℕ) (i : ℕ) → Leftovers.Given sheet room zeros i zer
 met_at sheet i g n =
     record {
       given = given sheet i g;
-      unmixed = λ m. n (subst (λ (l : Lowered). Mixing l i zeros) (sym (as-left sheet g.accepted)) m);
+      unmixed = λ m. n (subst (λ (l : Lowered). Mixing l i zeros) (sym (as_left sheet g.accepted)) m);
       other = computed.other;
     }
 
-needed-at : (sheet : List ℕ) (i : ℕ) → Leftovers.Given sheet room zeros i zeros touched → (EndAlike (lowered sheet room) i zeros touched → ⊥) → Needed sheet i
-needed-at sheet i g n =
+needed_at : (sheet : List ℕ) (i : ℕ) → Leftovers.Given sheet room zeros i zeros touched → (EndAlike (lowered sheet room) i zeros touched → ⊥) → Needed sheet i
+needed_at sheet i g n =
     record {
       given = given sheet i g;
-      differs = λ e. n (subst (λ (l : Lowered). EndAlike l i zeros touched) (sym (as-left sheet g.accepted)) e);
+      differs = λ e. n (subst (λ (l : Lowered). EndAlike l i zeros touched) (sym (as_left sheet g.accepted)) e);
     }
 
 pub needed : Needed mixing 1
-needed = needed-at mixing 1 computed.mixing-given computed.mixing-differs
+needed = needed_at mixing 1 computed.mixing-given computed.mixing-differs
 
-pub needed-stable : Needed stableMixing 1
-needed-stable = needed-at stableMixing 1 computed.stable-given computed.stable-differs
+pub needed-stable : Needed stable_mixing 1
+needed-stable = needed_at stable_mixing 1 computed.stable-given computed.stable-differs
 
-pub minded : Minded mindingMixing 1 1
+pub minded : Minded minding_mixing 1 1
 minded =
     let g = computed.minding-given in
-    let e = as-left mindingMixing g.accepted in
+    let e = as_left minding_mixing g.accepted in
     record {
-      isHalf = computed.minding-half;
-      fromReal = computed.minding-from;
-      intoComplex = computed.minding-into;
+      is_half = computed.minding-half;
+      from_real = computed.minding-from;
+      into_complex = computed.minding-into;
       reached = subst (λ (l : Lowered). standing l 1 zeros 1 ≡ some zeros) e computed.minding-reached;
-      met = met_at mindingMixing 1 g computed.minding-unmixed;
+      met = met_at minding_mixing 1 g computed.minding-unmixed;
       alike = subst (λ (l : Lowered). EndAlike l 1 zeros touched) e computed.minding-alike;
     }
 
@@ -77,19 +77,19 @@ met = met_at clean 2 computed.clean-given computed.clean-unmixed
 pub jumped-over : JumpedOver jumping 1 2
 jumped-over =
     record {
-      isHalf = computed.jumping-half;
-      fromReal = computed.jumping-from;
-      intoComplex = computed.jumping-into;
+      is_half = computed.jumping-half;
+      from_real = computed.jumping-from;
+      into_complex = computed.jumping-into;
       met = met_at jumping 1 computed.jumping-given computed.jumping-unmixed;
     }
 
 pub cleared : Cleared clearing 1
 cleared =
     record {
-      isEqual = computed.clearing-equal;
-      fromReal = computed.clearing-real;
+      is_equal = computed.clearing-equal;
+      from_real = computed.clearing-real;
       changes =
-          subst (λ (l : Lowered). Changes l 1 marked 1 marked compared) (as-left clearing computed.clearing-accepted) computed.clearing-changes;
+          subst (λ (l : Lowered). Changes l 1 marked 1 marked compared) (as_left clearing computed.clearing-accepted) computed.clearing-changes;
       cleared = computed.clearing-clears;
       written = computed.clearing-writes;
       kept = computed.clearing_keeps;

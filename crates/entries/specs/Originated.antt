@@ -2,23 +2,23 @@
 use Rattle.std.specs.Prelude.{ℕ, suc, ◌≤◌, ◌<◌, ◌≡◌, true, List, [], ◌∷◌, ◌++◌, length, drop, get_or, replicate}
 use Rattle.sheet.specs.Setup.{setup}
 use Rattle.lowering.specs.Complexifier.{appends}
-use Rattle.lowering.specs.Origins.{fromSheet}
-use Rattle.complexify.specs.Entry.{answer, constantsAfter, originsAfter}
-use Rattle.leftovers.specs.Leftovers.{sheetOf, up_to}
+use Rattle.lowering.specs.Origins.{from_sheet}
+use Rattle.complexify.specs.Entry.{answer, constants_after, origins_after}
+use Rattle.leftovers.specs.Leftovers.{sheet_of, up_to}
 use Rattle.entries.specs.Examples.{bytes, words}
 
 -- the constants after a sheet's first n instructions
-abbrev pub constantsAt : List ℕ → ℕ → List ℕ
-constantsAt sheet n = (up_to (sheetOf sheet) n).after.consts
+abbrev pub constants_at : List ℕ → ℕ → List ℕ
+constants_at sheet n = (up_to (sheet_of sheet) n).after.consts
 
 -- of n finished instructions the one with index k first appended the word that stands at position p: before it the word stands nowhere among the
 -- constants, and there are too few of them; after it the word stands there
 pub record FirstAppended (sheet : List ℕ) (n p word k : ℕ) : Type 0 where
   pub finished : k < n
-  pub absent : appends word (constantsAt sheet k) ≡ true
-  pub before : length (constantsAt sheet k) ≤ p
-  pub after : p < length (constantsAt sheet (suc k))
-  pub stands : get_or (constantsAt sheet (suc k)) p 0 ≡ word
+  pub absent : appends word (constants_at sheet k) ≡ true
+  pub before : length (constants_at sheet k) ≤ p
+  pub after : p < length (constants_at sheet (suc k))
+  pub stands : get_or (constants_at sheet (suc k)) p 0 ≡ word
 
 -- "lowering returns, per constant, the instruction that first appended it, or 65,535 for one from the sheet"; "A refused instruction names
 -- none": of every call that is not refused by 8, accepted or not (theorem `originated`)
@@ -26,9 +26,9 @@ abbrev pub Originated : Type 0
 Originated =
     (sheet listing constants origins : List ℕ) → ((answer sheet listing constants origins).number ≡ 8 → ⊥)
     → (p : ℕ) → p < (answer sheet listing constants origins).count
-    → let origin = get_or (originsAfter sheet listing constants origins) p 0 in
-    let word = get_or (constantsAfter sheet listing constants origins) p 0 in
-    (p < (setup sheet).count → origin ≡ fromSheet)
+    → let origin = get_or (origins_after sheet listing constants origins) p 0 in
+    let word = get_or (constants_after sheet listing constants origins) p 0 in
+    (p < (setup sheet).count → origin ≡ from_sheet)
     × ((setup sheet).count ≤ p → FirstAppended sheet (answer sheet listing constants origins).index p word origin)
 
 -- ---- two sheets
@@ -54,11 +54,11 @@ lent = replicate 256 9
 
 -- the number that a call answers, the constants and their origins, and past these what was lent. Abs asks for 0020000000000000,
 -- 7fe0000000000000 and 7ff0000000000000, which the sheet has; Divide for 0010000000000000, 7ff0000000000000 and 3fd0000000000000 (theorems
--- `named`: `finding`, and `namedNone`: `refusing`, whose Divide names none)
+-- `named`: `finding`, and `named_none`: `refusing`, whose Divide names none)
 pub record Named (sheet : List ℕ) (number : ℕ) (k o : List ℕ) : Type 0 where
   pub answered : (answer sheet bytes words lent).number ≡ number
-  pub constants : constantsAfter sheet bytes words lent ≡ k ++ drop (length k) words
-  pub origins : originsAfter sheet bytes words lent ≡ o ++ drop (length o) lent
+  pub constants : constants_after sheet bytes words lent ≡ k ++ drop (length k) words
+  pub origins : origins_after sheet bytes words lent ≡ o ++ drop (length o) lent
 
 abbrev pub Finding : Type 0
 Finding =

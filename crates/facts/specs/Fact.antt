@@ -6,10 +6,10 @@ use Rattle.mir.specs.declared.ops.ArithOp.{ArithOp}
 use Rattle.mir.specs.declared.ops.FusedOp.{FusedOp}
 use Rattle.mir.specs.declared.records.Loc.{Loc}
 use Rattle.mir.specs.declared.records.Work.{Work}
-use Rattle.mir.specs.Operation.{uniNumber, binNumber, arithNumber, fusedNumber}
+use Rattle.mir.specs.Operation.{uni_number, bin_number, arith_number, fused_number}
 use Rattle.player_machine.specs.Machine.{Store, Write, ◌≔◌, writes}
 use Rattle.complexify.specs.declared.entry.LowerAnswer.{LowerAnswer}
-use Rattle.complexify.specs.Entry.{answer, listingAfter, constantsAfter, originsAfter}
+use Rattle.complexify.specs.Entry.{answer, listing_after, constants_after, origins_after}
 
 -- a sheet's bytes, lowered in a listing slice of `room` bytes: "a number (0: accepted), an instruction's index, listing bytes written, a
 -- count of constants and the final record of realness" (the registers recorded as real, the 64 bytes of the places, and the listing's
@@ -36,7 +36,7 @@ pub data Operation : Type 0 where
   bi : BinOp → Operation
   fused : FusedOp → Operation
   ifelse : Operation
-  complexBi : ArithOp → Operation
+  complex_bi : ArithOp → Operation
 
 -- an operation, the words that it reads in the order of its record's fields, and those that it gives
 pub record Computed : Type 0 where
@@ -51,14 +51,14 @@ pub data Fact : Type 0 where
 -- ---- what the definitions give
 
 -- every byte, word and number lent holds these before
-abbrev pub lentByte : ℕ
-lentByte = 0xaa
+abbrev pub lent_byte : ℕ
+lent_byte = 0xaa
 
-abbrev pub lentWord : ℕ
-lentWord = 0xaaaa_aaaa_aaaa_aaaa
+abbrev pub lent_word : ℕ
+lent_word = 0xaaaa_aaaa_aaaa_aaaa
 
-abbrev pub lentNumber : ℕ
-lentNumber = 0xaaaa
+abbrev pub lent_number : ℕ
+lent_number = 0xaaaa
 
 -- what comes of a row: the entry's answer with the three lent slices after it, or words
 pub data Outcome : Type 0 where
@@ -67,17 +67,17 @@ pub data Outcome : Type 0 where
 
 abbrev pub lower : List ℕ → List ℕ → List ℕ → List ℕ → Outcome
 lower sheet listing constants origins =
-    left (answer sheet listing constants origins) (listingAfter sheet listing constants origins) (constantsAfter sheet listing constants origins)
-    (originsAfter sheet listing constants origins)
+    left (answer sheet listing constants origins) (listing_after sheet listing constants origins) (constants_after sheet listing constants origins)
+    (origins_after sheet listing constants origins)
 
 -- an operation's record: its operands are registers 0, 1, 2 and 3, in order, and of IfElse the real word of Stack 0 is the third; what it
 -- gives goes to registers 4 and 5
-abbrev pub asWork : Operation → Work
-asWork (uni op) = Work.Uni op 4 0
-asWork (bi op) = Work.Bi op 4 0 1
-asWork (fused op) = Work.Fused op 4 0 1 2
-asWork ifelse = Work.IfElse 4 0 1 (Loc.Stack 0)
-asWork (complexBi op) = Work.ComplexBi op 4 5 0 1 2 3
+abbrev pub as_work : Operation → Work
+as_work (uni op) = Work.Uni op 4 0
+as_work (bi op) = Work.Bi op 4 0 1
+as_work (fused op) = Work.Fused op 4 0 1 2
+as_work ifelse = Work.IfElse 4 0 1 (Loc.Stack 0)
+as_work (complex_bi op) = Work.ComplexBi op 4 5 0 1 2 3
 
 -- a store that holds the operands: Stack 0 stands behind the 66 registers
 abbrev pub holding : List ℕ → Store
@@ -89,8 +89,8 @@ values [] = []
 values (i ≔ v ∷ ws) = v ∷ values ws
 
 abbrev pub given : Fact → Outcome
-given (lowered x) = lower x.sheet (replicate x.room lentByte) (replicate 256 lentWord) (replicate 256 lentNumber)
-given (computed x) = wrote (values (writes [] (holding x.words) (asWork x.operation)))
+given (lowered x) = lower x.sheet (replicate x.room lent_byte) (replicate 256 lent_word) (replicate 256 lent_number)
+given (computed x) = wrote (values (writes [] (holding x.words) (as_work x.operation)))
 
 -- ---- what the row says
 
@@ -112,20 +112,20 @@ stated (lowered x) =
       filled = flags 66 x.filled;
       drawn = flags 66 x.drawn;
     })
-    (x.bytes ++ replicate (x.room - length x.bytes) lentByte)
-    (x.constants ++ replicate (256 - length x.constants) lentWord)
-    (x.origins ++ replicate (256 - length x.origins) lentNumber)
+    (x.bytes ++ replicate (x.room - length x.bytes) lent_byte)
+    (x.constants ++ replicate (256 - length x.constants) lent_word)
+    (x.origins ++ replicate (256 - length x.origins) lent_number)
 stated (computed x) = wrote x.gives
 
 -- ---- which operations have a row
 
 -- an operation by a number of its own: its record's kind, and its number there
 abbrev pub numbered : Operation → ℕ
-numbered (uni op) = 32 + uniNumber op
-numbered (bi op) = 64 + binNumber op
-numbered (fused op) = 224 + fusedNumber op
+numbered (uni op) = 32 + uni_number op
+numbered (bi op) = 64 + bin_number op
+numbered (fused op) = 224 + fused_number op
 numbered ifelse = 256
-numbered (complexBi op) = 416 + arithNumber op
+numbered (complex_bi op) = 416 + arith_number op
 
 abbrev pub computes : Operation → List Fact → Bool
 computes o [] = false

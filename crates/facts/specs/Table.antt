@@ -7,35 +7,35 @@ use Rattle.mir.specs.declared.ops.BinOp.{BinOp}
 use Rattle.mir.specs.declared.ops.ArithOp.{ArithOp}
 use Rattle.mir.specs.declared.ops.FusedOp.{FusedOp}
 use Rattle.mir.specs.Register.{re, im}
-use Rattle.mir.specs.Operation.{uniOps, binOps, fusedOps}
-use Rattle.mir.specs.Field.{takesKind, placeAt, savePlace}
+use Rattle.mir.specs.Operation.{uni_ops, bin_ops, fused_ops}
+use Rattle.mir.specs.Field.{takes_kind, place_at, save_place}
 use Rattle.mir.specs.Decode.{decoded}
-use Rattle.mir.specs.Encode.{recordOf}
-use Rattle.sheet.specs.Setup.{setup, constantAt}
-use Rattle.sheet.specs.Instruction.{instructionFrom}
-use Rattle.float.specs.Root.{squareRoot}
-use Rattle.float.specs.Fused.{fusedMultiplyAdd}
-use Rattle.float.specs.Integral.{roundToIntegral}
-use Rattle.player_machine.specs.Machine.{uniWord, binWord, fusedWord, complexWords, writes, block}
-use Rattle.lowering.specs.Realness.{withoutLoc}
-use Rattle.lowering.specs.Lines.{eachLines, orderLines}
+use Rattle.mir.specs.Encode.{record_of}
+use Rattle.sheet.specs.Setup.{setup, constant_at}
+use Rattle.sheet.specs.Instruction.{instruction_from}
+use Rattle.float.specs.Root.{square_root}
+use Rattle.float.specs.Fused.{fused_multiply_add}
+use Rattle.float.specs.Integral.{round_to_integral}
+use Rattle.player_machine.specs.Machine.{uni_word, bin_word, fused_word, complex_words, writes, block}
+use Rattle.lowering.specs.Realness.{without_loc}
+use Rattle.lowering.specs.Lines.{each_lines, order_lines}
 use Rattle.lowering.specs.Complexifier as c
-use Rattle.lowering.specs.Rerun.{rerun, rerunUni, rerunBin, complexify}
-use Rattle.lowering.specs.Lower.{lowerSheet, listed}
-use Rattle.lowering.specs.Origins.{originsOf}
+use Rattle.lowering.specs.Rerun.{rerun, rerun_uni, rerun_bin, complexify}
+use Rattle.lowering.specs.Lower.{lower_sheet, listed}
+use Rattle.lowering.specs.Origins.{origins_of}
 use Rattle.marks.specs.Marks.{step, scan}
-use Rattle.facts.specs.Fact.{Fact, lowered, computed, Operation, uni, bi, fused, ifelse, complexBi, given, stated, computes}
+use Rattle.facts.specs.Fact.{Fact, lowered, computed, Operation, uni, bi, fused, ifelse, complex_bi, given, stated, computes}
 
 -- "a header: kind 32, mode byte (0 plain, 1 stable), 64 bytes of realness"; 2 is document 02's n)
 abbrev pub header : ℕ → List ℕ → List ℕ
 header mode places = 69 ∷ 0 ∷ 32 ∷ 0 ∷ mode ∷ places
 
-abbrev pub noPlaces : List ℕ
-noPlaces = replicate 64 0
+abbrev pub no_places : List ℕ
+no_places = replicate 64 0
 
 -- Param 9 alone: bit 1 of byte 1 of "the next 32 bytes"
-abbrev pub paramNine : List ℕ
-paramNine = replicate 33 0 ++ 2 ∷ replicate 30 0
+abbrev pub param_nine : List ℕ
+param_nine = replicate 33 0 ++ 2 ∷ replicate 30 0
 
 -- "constants: kind 33, eight bytes each": 4000000000000000
 abbrev pub two : List ℕ
@@ -45,7 +45,7 @@ two = 12 ∷ 0 ∷ 33 ∷ 0 ∷ 0 ∷ 0 ∷ 0 ∷ 0 ∷ 0 ∷ 0 ∷ 0 ∷ 64 ∷
 -- Mem 4."
 abbrev pub paper : List ℕ
 paper =
-    header 0 noPlaces
+    header 0 no_places
     ++ two
     ++ (7 ∷ 0 ∷ 6 ∷ 0 ∷ 0 ∷ 0 ∷ 0 ∷ [])
     ++ (8 ∷ 0 ∷ 4 ∷ 0 ∷ 1 ∷ 1 ∷ 3 ∷ 0 ∷ [])
@@ -53,8 +53,8 @@ paper =
     ++ (8 ∷ 0 ∷ 5 ∷ 0 ∷ 0 ∷ 1 ∷ 4 ∷ 0 ∷ [])
 
 -- LoadConst G4 0, LoadComplex G6 G7 Mem 3, Times G5 G4 G7, Times G4 G4 G6
-abbrev pub firstFour : List ℕ
-firstFour =
+abbrev pub first_four : List ℕ
+first_four =
     (7 ∷ 0 ∷ 6 ∷ 0 ∷ 4 ∷ 0 ∷ 0 ∷ [])
     ++ (9 ∷ 0 ∷ 11 ∷ 0 ∷ 6 ∷ 7 ∷ 1 ∷ 3 ∷ 0 ∷ [])
     ++ (8 ∷ 0 ∷ 2 ∷ 0 ∷ 2 ∷ 5 ∷ 4 ∷ 7 ∷ [])
@@ -65,8 +65,8 @@ abbrev pub ones : ℕ
 ones = 0xffff_ffff_ffff_ffff
 
 -- 1, 2, 3 and 5
-abbrev pub oneTwoThreeFive : List ℕ
-oneTwoThreeFive = 0x3ff0_0000_0000_0000 ∷ 0x4000_0000_0000_0000 ∷ 0x4008_0000_0000_0000 ∷ 0x4014_0000_0000_0000 ∷ []
+abbrev pub one_two_three_five : List ℕ
+one_two_three_five = 0x3ff0_0000_0000_0000 ∷ 0x4000_0000_0000_0000 ∷ 0x4008_0000_0000_0000 ∷ 0x4014_0000_0000_0000 ∷ []
 
 -- four NaNs: 1 has the sign, and bit 51 is set in none
 abbrev pub nans : List ℕ
@@ -80,8 +80,8 @@ label l = 5 ∷ 0 ∷ 14 ∷ 0 ∷ l ∷ []
 abbrev pub branch : ℕ → List ℕ
 branch l = 5 ∷ 0 ∷ 15 ∷ 0 ∷ l ∷ []
 
-abbrev pub branchIf : ℕ → ℕ → ℕ → List ℕ
-branchIf register l isElse = 7 ∷ 0 ∷ 17 ∷ 0 ∷ register ∷ l ∷ isElse ∷ []
+abbrev pub branch_if : ℕ → ℕ → ℕ → List ℕ
+branch_if register l is_else = 7 ∷ 0 ∷ 17 ∷ 0 ∷ register ∷ l ∷ is_else ∷ []
 
 -- so many Nops
 abbrev pub nops : ℕ → List ℕ
@@ -90,11 +90,11 @@ nops (suc n) = 4 ∷ 0 ∷ 0 ∷ 0 ∷ nops n
 
 -- instructions of a sheet without constants and real places: the number that refuses one, its index, and the bytes of the finished ones,
 -- which leave the record as it is
-abbrev pub turnedAway : List ℕ → ℕ → ℕ → List ℕ → Fact
-turnedAway instructions number index bytes =
+abbrev pub turned_away : List ℕ → ℕ → ℕ → List ℕ → Fact
+turned_away instructions number index bytes =
     lowered
     (record {
-      sheet = header 0 noPlaces ++ instructions;
+      sheet = header 0 no_places ++ instructions;
       room = 64;
       number = number;
       index = index;
@@ -104,14 +104,14 @@ turnedAway instructions number index bytes =
       constants = [];
       origins = [];
       registers = [];
-      places = noPlaces;
+      places = no_places;
       filled = [];
       drawn = [];
     })
 
 -- Branch 3; LoadConst general 0, constant 0, which is real then; Label 3
-abbrev pub unequalRegister : List ℕ
-unequalRegister = header 0 noPlaces ++ two ++ branch 3 ++ (7 ∷ 0 ∷ 6 ∷ 0 ∷ 0 ∷ 0 ∷ 0 ∷ []) ++ label 3
+abbrev pub unequal_register : List ℕ
+unequal_register = header 0 no_places ++ two ++ branch 3 ++ (7 ∷ 0 ∷ 6 ∷ 0 ∷ 0 ∷ 0 ∷ 0 ∷ []) ++ label 3
 
 -- an operation on words, and the words that it gives
 abbrev pub gives : Operation → List ℕ → List ℕ → Fact
@@ -128,12 +128,12 @@ table =
       number = 0;
       index = 4;
       written = 41;
-      bytes = firstFour ++ (9 ∷ 0 ∷ 12 ∷ 0 ∷ 4 ∷ 5 ∷ 1 ∷ 4 ∷ 0 ∷ []);
+      bytes = first_four ++ (9 ∷ 0 ∷ 12 ∷ 0 ∷ 4 ∷ 5 ∷ 1 ∷ 4 ∷ 0 ∷ []);
       count = 1;
       constants = 0x4000_0000_0000_0000 ∷ [];
       origins = 65535 ∷ [];
       registers = [];
-      places = noPlaces;
+      places = no_places;
       filled = 4 ∷ 5 ∷ 6 ∷ 7 ∷ [];
       drawn = [];
     })
@@ -145,19 +145,19 @@ table =
       number = 7;
       index = 3;
       written = 32;
-      bytes = firstFour;
+      bytes = first_four;
       count = 1;
       constants = 0x4000_0000_0000_0000 ∷ [];
       origins = 65535 ∷ [];
       registers = [];
-      places = noPlaces;
+      places = no_places;
       filled = 4 ∷ 5 ∷ 6 ∷ 7 ∷ [];
       drawn = [];
     })
     -- "general 29 becomes 62 and 63": Load general 29, Mem 0 is LoadComplex G62 G63 Mem 0
     ∷ lowered
     (record {
-      sheet = header 0 noPlaces ++ (8 ∷ 0 ∷ 4 ∷ 0 ∷ 29 ∷ 1 ∷ 0 ∷ 0 ∷ []);
+      sheet = header 0 no_places ++ (8 ∷ 0 ∷ 4 ∷ 0 ∷ 29 ∷ 1 ∷ 0 ∷ 0 ∷ []);
       room = 9;
       number = 0;
       index = 1;
@@ -167,14 +167,14 @@ table =
       constants = [];
       origins = [];
       registers = [];
-      places = noPlaces;
+      places = no_places;
       filled = 62 ∷ 63 ∷ [];
       drawn = [];
     })
     -- "Mov of 3 to 3 lists nothing"
     ∷ lowered
     (record {
-      sheet = header 0 noPlaces ++ (6 ∷ 0 ∷ 3 ∷ 0 ∷ 3 ∷ 3 ∷ []);
+      sheet = header 0 no_places ++ (6 ∷ 0 ∷ 3 ∷ 0 ∷ 3 ∷ 3 ∷ []);
       room = 0;
       number = 0;
       index = 1;
@@ -184,14 +184,14 @@ table =
       constants = [];
       origins = [];
       registers = [];
-      places = noPlaces;
+      places = no_places;
       filled = [];
       drawn = [];
     })
     -- "real 0 minus complex 1 into 2 is Minus G8 G4 G6, Neg G9 G7": 0 is real by Load general 0, Param 9, listed as Load G4 Param 9
     ∷ lowered
     (record {
-      sheet = header 0 paramNine ++ (8 ∷ 0 ∷ 4 ∷ 0 ∷ 0 ∷ 2 ∷ 9 ∷ 0 ∷ []) ++ (8 ∷ 0 ∷ 2 ∷ 0 ∷ 1 ∷ 2 ∷ 0 ∷ 1 ∷ []);
+      sheet = header 0 param_nine ++ (8 ∷ 0 ∷ 4 ∷ 0 ∷ 0 ∷ 2 ∷ 9 ∷ 0 ∷ []) ++ (8 ∷ 0 ∷ 2 ∷ 0 ∷ 1 ∷ 2 ∷ 0 ∷ 1 ∷ []);
       room = 30;
       number = 0;
       index = 2;
@@ -201,14 +201,14 @@ table =
       constants = [];
       origins = [];
       registers = 0 ∷ [];
-      places = paramNine;
+      places = param_nine;
       filled = 4 ∷ 8 ∷ 9 ∷ [];
       drawn = 6 ∷ 7 ∷ [];
     })
     -- "Half of real 0 into complex 1 is Half G7 G5, Half G6 G4": 0 is real by LoadConst general 0, constant 0, listed as LoadConst G4 0
     ∷ lowered
     (record {
-      sheet = header 0 noPlaces ++ two ++ (7 ∷ 0 ∷ 6 ∷ 0 ∷ 0 ∷ 0 ∷ 0 ∷ []) ++ (7 ∷ 0 ∷ 1 ∷ 0 ∷ 13 ∷ 1 ∷ 0 ∷ []);
+      sheet = header 0 no_places ++ two ++ (7 ∷ 0 ∷ 6 ∷ 0 ∷ 0 ∷ 0 ∷ 0 ∷ []) ++ (7 ∷ 0 ∷ 1 ∷ 0 ∷ 13 ∷ 1 ∷ 0 ∷ []);
       room = 30;
       number = 0;
       index = 2;
@@ -218,14 +218,14 @@ table =
       constants = 0x4000_0000_0000_0000 ∷ [];
       origins = 65535 ∷ [];
       registers = 0 ∷ [];
-      places = noPlaces;
+      places = no_places;
       filled = 4 ∷ 6 ∷ 7 ∷ [];
       drawn = 5 ∷ [];
     })
     -- "Fused with c Ret gives 6": MulAdd 0, 1, 2, Ret
     ∷ lowered
     (record {
-      sheet = header 0 noPlaces ++ (9 ∷ 0 ∷ 7 ∷ 0 ∷ 0 ∷ 0 ∷ 1 ∷ 2 ∷ 30 ∷ []);
+      sheet = header 0 no_places ++ (9 ∷ 0 ∷ 7 ∷ 0 ∷ 0 ∷ 0 ∷ 1 ∷ 2 ∷ 30 ∷ []);
       room = 30;
       number = 6;
       index = 0;
@@ -235,7 +235,7 @@ table =
       constants = [];
       origins = [];
       registers = [];
-      places = noPlaces;
+      places = no_places;
       filled = [];
       drawn = [];
     })
@@ -243,7 +243,7 @@ table =
     -- complexify.rs's `stable_exponent` and `stable_abs` have it
     ∷ lowered
     (record {
-      sheet = header 1 noPlaces ++ (7 ∷ 0 ∷ 1 ∷ 0 ∷ 2 ∷ 1 ∷ 0 ∷ []);
+      sheet = header 1 no_places ++ (7 ∷ 0 ∷ 1 ∷ 0 ∷ 2 ∷ 1 ∷ 0 ∷ []);
       room = 151;
       number = 0;
       index = 1;
@@ -278,14 +278,14 @@ table =
       constants = 0x0020_0000_0000_0000 ∷ 0x7fe0_0000_0000_0000 ∷ 0x7ff0_0000_0000_0000 ∷ [];
       origins = 0 ∷ 0 ∷ 0 ∷ [];
       registers = [];
-      places = noPlaces;
+      places = no_places;
       filled = 2 ∷ 3 ∷ 6 ∷ 7 ∷ 64 ∷ [];
       drawn = 4 ∷ 5 ∷ [];
     })
     -- "no instructions list nothing"
     ∷ lowered
     (record {
-      sheet = header 0 noPlaces ++ two;
+      sheet = header 0 no_places ++ two;
       room = 4;
       number = 0;
       index = 0;
@@ -295,7 +295,7 @@ table =
       constants = 0x4000_0000_0000_0000 ∷ [];
       origins = 65535 ∷ [];
       registers = [];
-      places = noPlaces;
+      places = no_places;
       filled = [];
       drawn = [];
     })
@@ -303,7 +303,7 @@ table =
     -- Floor of complex 0 into 1, a half at a time: Floor G6 G4, Floor G7 G5
     ∷ lowered
     (record {
-      sheet = header 0 noPlaces ++ (7 ∷ 0 ∷ 1 ∷ 0 ∷ 7 ∷ 1 ∷ 0 ∷ []);
+      sheet = header 0 no_places ++ (7 ∷ 0 ∷ 1 ∷ 0 ∷ 7 ∷ 1 ∷ 0 ∷ []);
       room = 14;
       number = 0;
       index = 1;
@@ -313,7 +313,7 @@ table =
       constants = [];
       origins = [];
       registers = [];
-      places = noPlaces;
+      places = no_places;
       filled = 6 ∷ 7 ∷ [];
       drawn = 4 ∷ 5 ∷ [];
     })
@@ -321,7 +321,7 @@ table =
     -- Equal G6 G4 G0, And G6 G6 G7; 1 is then real
     ∷ lowered
     (record {
-      sheet = header 0 noPlaces ++ (7 ∷ 0 ∷ 1 ∷ 0 ∷ 14 ∷ 1 ∷ 0 ∷ []);
+      sheet = header 0 no_places ++ (7 ∷ 0 ∷ 1 ∷ 0 ∷ 14 ∷ 1 ∷ 0 ∷ []);
       room = 45;
       number = 0;
       index = 1;
@@ -336,7 +336,7 @@ table =
       constants = [];
       origins = [];
       registers = 1 ∷ [];
-      places = noPlaces;
+      places = no_places;
       filled = 0 ∷ 1 ∷ 6 ∷ 7 ∷ [];
       drawn = 4 ∷ 5 ∷ [];
     })
@@ -344,7 +344,7 @@ table =
     -- by Xor G5 G5 G5, then Equal G9 G5 G7, Equal G8 G4 G6, And G8 G8 G9
     ∷ lowered
     (record {
-      sheet = header 0 paramNine ++ (8 ∷ 0 ∷ 4 ∷ 0 ∷ 0 ∷ 2 ∷ 9 ∷ 0 ∷ []) ++ (8 ∷ 0 ∷ 2 ∷ 0 ∷ 8 ∷ 2 ∷ 0 ∷ 1 ∷ []);
+      sheet = header 0 param_nine ++ (8 ∷ 0 ∷ 4 ∷ 0 ∷ 0 ∷ 2 ∷ 9 ∷ 0 ∷ []) ++ (8 ∷ 0 ∷ 2 ∷ 0 ∷ 8 ∷ 2 ∷ 0 ∷ 1 ∷ []);
       room = 46;
       number = 0;
       index = 2;
@@ -359,14 +359,14 @@ table =
       constants = [];
       origins = [];
       registers = 2 ∷ [];
-      places = paramNine;
+      places = param_nine;
       filled = 4 ∷ 5 ∷ 8 ∷ 9 ∷ [];
       drawn = 6 ∷ 7 ∷ [];
     })
     -- LittleThanEqual of complex 0 and 1 into 2, real halves alone: LittleThanEqual G8 G4 G6; 2 is then real
     ∷ lowered
     (record {
-      sheet = header 0 noPlaces ++ (8 ∷ 0 ∷ 2 ∷ 0 ∷ 7 ∷ 2 ∷ 0 ∷ 1 ∷ []);
+      sheet = header 0 no_places ++ (8 ∷ 0 ∷ 2 ∷ 0 ∷ 7 ∷ 2 ∷ 0 ∷ 1 ∷ []);
       room = 8;
       number = 0;
       index = 1;
@@ -376,14 +376,14 @@ table =
       constants = [];
       origins = [];
       registers = 2 ∷ [];
-      places = noPlaces;
+      places = no_places;
       filled = 8 ∷ [];
       drawn = 4 ∷ 6 ∷ [];
     })
     -- AndNot stays out: 2
     ∷ lowered
     (record {
-      sheet = header 0 noPlaces ++ (8 ∷ 0 ∷ 2 ∷ 0 ∷ 11 ∷ 2 ∷ 0 ∷ 1 ∷ []);
+      sheet = header 0 no_places ++ (8 ∷ 0 ∷ 2 ∷ 0 ∷ 11 ∷ 2 ∷ 0 ∷ 1 ∷ []);
       room = 8;
       number = 2;
       index = 0;
@@ -393,15 +393,15 @@ table =
       constants = [];
       origins = [];
       registers = [];
-      places = noPlaces;
+      places = no_places;
       filled = [];
       drawn = [];
     })
-    -- ---- document 02, n: mode 2. "Half lists its imaginary line only for a register recorded as complex, and for either record copies it":
+    -- ---- document 02, n: mode 2. "Half lists its imaginary line only for a register recorded as complex, and for Either record copies it":
     -- Half of real 0 into complex 1 is Half G6 G4, and 1 is then real; 0 is real by LoadConst general 0, constant 0
     ∷ lowered
     (record {
-      sheet = header 2 noPlaces ++ two ++ (7 ∷ 0 ∷ 6 ∷ 0 ∷ 0 ∷ 0 ∷ 0 ∷ []) ++ (7 ∷ 0 ∷ 1 ∷ 0 ∷ 13 ∷ 1 ∷ 0 ∷ []);
+      sheet = header 2 no_places ++ two ++ (7 ∷ 0 ∷ 6 ∷ 0 ∷ 0 ∷ 0 ∷ 0 ∷ []) ++ (7 ∷ 0 ∷ 1 ∷ 0 ∷ 13 ∷ 1 ∷ 0 ∷ []);
       room = 14;
       number = 0;
       index = 2;
@@ -411,14 +411,14 @@ table =
       constants = 0x4000_0000_0000_0000 ∷ [];
       origins = 65535 ∷ [];
       registers = 0 ∷ 1 ∷ [];
-      places = noPlaces;
+      places = no_places;
       filled = 4 ∷ 6 ∷ [];
       drawn = [];
     })
     -- Half of complex 1 into real 0 is Half G5 G7, Half G4 G6, and 0 is then complex
     ∷ lowered
     (record {
-      sheet = header 2 noPlaces ++ two ++ (7 ∷ 0 ∷ 6 ∷ 0 ∷ 0 ∷ 0 ∷ 0 ∷ []) ++ (7 ∷ 0 ∷ 1 ∷ 0 ∷ 13 ∷ 0 ∷ 1 ∷ []);
+      sheet = header 2 no_places ++ two ++ (7 ∷ 0 ∷ 6 ∷ 0 ∷ 0 ∷ 0 ∷ 0 ∷ []) ++ (7 ∷ 0 ∷ 1 ∷ 0 ∷ 13 ∷ 0 ∷ 1 ∷ []);
       room = 21;
       number = 0;
       index = 2;
@@ -428,7 +428,7 @@ table =
       constants = 0x4000_0000_0000_0000 ∷ [];
       origins = 65535 ∷ [];
       registers = [];
-      places = noPlaces;
+      places = no_places;
       filled = 4 ∷ 5 ∷ [];
       drawn = 6 ∷ 7 ∷ [];
     })
@@ -437,7 +437,7 @@ table =
     -- have it
     ∷ lowered
     (record {
-      sheet = header 2 noPlaces ++ two ++ (7 ∷ 0 ∷ 6 ∷ 0 ∷ 30 ∷ 0 ∷ 0 ∷ []) ++ (8 ∷ 0 ∷ 2 ∷ 0 ∷ 3 ∷ 31 ∷ 0 ∷ 1 ∷ []);
+      sheet = header 2 no_places ++ two ++ (7 ∷ 0 ∷ 6 ∷ 0 ∷ 30 ∷ 0 ∷ 0 ∷ []) ++ (8 ∷ 0 ∷ 2 ∷ 0 ∷ 3 ∷ 31 ∷ 0 ∷ 1 ∷ []);
       room = 151;
       number = 0;
       index = 2;
@@ -472,7 +472,7 @@ table =
       constants = 0x4000_0000_0000_0000 ∷ 0x0010_0000_0000_0000 ∷ 0x7ff0_0000_0000_0000 ∷ 0x3fd0_0000_0000_0000 ∷ [];
       origins = 65535 ∷ 1 ∷ 1 ∷ 1 ∷ [];
       registers = [];
-      places = noPlaces;
+      places = no_places;
       filled = 0 ∷ 1 ∷ 2 ∷ 3 ∷ 64 ∷ 65 ∷ [];
       drawn = 4 ∷ 5 ∷ 6 ∷ 7 ∷ [];
     })
@@ -481,7 +481,7 @@ table =
     ∷ lowered
     (record {
       sheet =
-          header 2 noPlaces
+          header 2 no_places
           ++ two
           ++ (7 ∷ 0 ∷ 6 ∷ 0 ∷ 30 ∷ 0 ∷ 0 ∷ [])
           ++ (7 ∷ 0 ∷ 6 ∷ 0 ∷ 1 ∷ 0 ∷ 0 ∷ [])
@@ -499,14 +499,14 @@ table =
       constants = 0x4000_0000_0000_0000 ∷ [];
       origins = 65535 ∷ [];
       registers = 1 ∷ 30 ∷ [];
-      places = noPlaces;
+      places = no_places;
       filled = 0 ∷ 1 ∷ 6 ∷ 64 ∷ [];
       drawn = 4 ∷ 5 ∷ [];
     })
     -- 6 as in mode 1, into Temp too: Divide Temp, Ret, 1
     ∷ lowered
     (record {
-      sheet = header 2 noPlaces ++ (8 ∷ 0 ∷ 2 ∷ 0 ∷ 3 ∷ 31 ∷ 30 ∷ 1 ∷ []);
+      sheet = header 2 no_places ++ (8 ∷ 0 ∷ 2 ∷ 0 ∷ 3 ∷ 31 ∷ 30 ∷ 1 ∷ []);
       room = 200;
       number = 6;
       index = 0;
@@ -516,14 +516,14 @@ table =
       constants = [];
       origins = [];
       registers = [];
-      places = noPlaces;
+      places = no_places;
       filled = [];
       drawn = [];
     })
     -- a mode above 2 is 8
     ∷ lowered
     (record {
-      sheet = header 3 noPlaces;
+      sheet = header 3 no_places;
       room = 30;
       number = 8;
       index = 0;
@@ -533,7 +533,7 @@ table =
       constants = [];
       origins = [];
       registers = [];
-      places = noPlaces;
+      places = no_places;
       filled = [];
       drawn = [];
     })
@@ -543,10 +543,10 @@ table =
     ∷ lowered
     (record {
       sheet =
-          header 0 paramNine
+          header 0 param_nine
           ++ (8 ∷ 0 ∷ 4 ∷ 0 ∷ 0 ∷ 2 ∷ 9 ∷ 0 ∷ [])
-          ++ branchIf 31 3 1
-          ++ branchIf 0 255 0
+          ++ branch_if 31 3 1
+          ++ branch_if 0 255 0
           ++ branch 255
           ++ label 3
           ++ label 255;
@@ -555,24 +555,24 @@ table =
       index = 6;
       written = 37;
       bytes =
-          (8 ∷ 0 ∷ 4 ∷ 0 ∷ 4 ∷ 2 ∷ 9 ∷ 0 ∷ []) ++ branchIf 0 3 1 ++ branchIf 4 255 0 ++ branch 255 ++ label 3 ++ label 255;
+          (8 ∷ 0 ∷ 4 ∷ 0 ∷ 4 ∷ 2 ∷ 9 ∷ 0 ∷ []) ++ branch_if 0 3 1 ++ branch_if 4 255 0 ++ branch 255 ++ label 3 ++ label 255;
       count = 0;
       constants = [];
       origins = [];
       registers = 0 ∷ [];
-      places = paramNine;
+      places = param_nine;
       filled = 4 ∷ [];
       drawn = 0 ∷ [];
     })
     -- "10 at a branch with no such label later or one before it"
-    ∷ turnedAway (branch 3 ++ label 4) 10 0 []
-    ∷ turnedAway (label 3 ++ branch 3 ++ label 3) 10 1 (label 3)
+    ∷ turned_away (branch 3 ++ label 4) 10 0 []
+    ∷ turned_away (label 3 ++ branch 3 ++ label 3) 10 1 (label 3)
     -- "at a label's second standing"; also where its records are unequal, since 11 is tested later: after the first one Load general 0,
     -- Param 9
-    ∷ turnedAway (label 3 ++ label 3) 10 1 (label 3)
+    ∷ turned_away (label 3 ++ label 3) 10 1 (label 3)
     ∷ lowered
     (record {
-      sheet = header 0 paramNine ++ branch 3 ++ label 3 ++ (8 ∷ 0 ∷ 4 ∷ 0 ∷ 0 ∷ 2 ∷ 9 ∷ 0 ∷ []) ++ label 3;
+      sheet = header 0 param_nine ++ branch 3 ++ label 3 ++ (8 ∷ 0 ∷ 4 ∷ 0 ∷ 0 ∷ 2 ∷ 9 ∷ 0 ∷ []) ++ label 3;
       room = 64;
       number = 10;
       index = 3;
@@ -582,31 +582,31 @@ table =
       constants = [];
       origins = [];
       registers = 0 ∷ [];
-      places = paramNine;
+      places = param_nine;
       filled = 4 ∷ [];
       drawn = [];
     })
     -- "for a label outside 3 to 255, or a third byte above 1"
-    ∷ turnedAway (label 2) 10 0 []
-    ∷ turnedAway (branch 2 ++ label 2) 10 0 []
-    ∷ turnedAway (branchIf 0 3 2 ++ label 3) 10 0 []
+    ∷ turned_away (label 2) 10 0 []
+    ∷ turned_away (branch 2 ++ label 2) 10 0 []
+    ∷ turned_away (branch_if 0 3 2 ++ label 3) 10 0 []
     -- "tested after 4", so after 3: BranchIf of register 32
-    ∷ turnedAway (branchIf 32 3 2 ++ label 3) 3 0 []
+    ∷ turned_away (branch_if 32 3 2 ++ label 3) 3 0 []
     -- looking ahead passes what will be refused by another number than 1: Neg 32, 0, and a kind that sheets do not take
-    ∷ turnedAway (branch 3 ++ (7 ∷ 0 ∷ 1 ∷ 0 ∷ 0 ∷ 32 ∷ 0 ∷ []) ++ label 3) 3 1 (branch 3)
-    ∷ turnedAway (branch 3 ++ (5 ∷ 0 ∷ 11 ∷ 0 ∷ 0 ∷ []) ++ label 3) 2 1 (branch 3)
+    ∷ turned_away (branch 3 ++ (7 ∷ 0 ∷ 1 ∷ 0 ∷ 0 ∷ 32 ∷ 0 ∷ []) ++ label 3) 3 1 (branch 3)
+    ∷ turned_away (branch 3 ++ (5 ∷ 0 ∷ 11 ∷ 0 ∷ 0 ∷ []) ++ label 3) 2 1 (branch 3)
     -- "Looking ahead for a label stops at the first torn record": a Nop of five bytes
-    ∷ turnedAway (branch 3 ++ (5 ∷ 0 ∷ 0 ∷ 0 ∷ 0 ∷ []) ++ label 3) 10 0 []
+    ∷ turned_away (branch 3 ++ (5 ∷ 0 ∷ 0 ∷ 0 ∷ 0 ∷ []) ++ label 3) 10 0 []
     -- ---- document 02, h: "The longest of its sheets has 612 instructions. Make that the limit [..], and a Nop counts"
-    ∷ turnedAway (nops 612) 0 612 []
+    ∷ turned_away (nops 612) 0 612 []
     -- "14 for the instruction at index 612, before any other number that record could earn": a single byte, which would be 1
-    ∷ turnedAway (nops 612 ++ 0 ∷ []) 14 612 []
+    ∷ turned_away (nops 612 ++ 0 ∷ []) 14 612 []
     -- "what was finished stays, and d)'s looking ahead goes past it": Label 3 at index 613 is seen
-    ∷ turnedAway (branch 3 ++ nops 612 ++ label 3) 14 612 (branch 3)
+    ∷ turned_away (branch 3 ++ nops 612 ++ label 3) 14 612 (branch 3)
     -- "11 for unequal records, given at the label": those of a register
     ∷ lowered
     (record {
-      sheet = unequalRegister;
+      sheet = unequal_register;
       room = 17;
       number = 11;
       index = 2;
@@ -616,14 +616,14 @@ table =
       constants = 0x4000_0000_0000_0000 ∷ [];
       origins = 65535 ∷ [];
       registers = 0 ∷ [];
-      places = noPlaces;
+      places = no_places;
       filled = 4 ∷ [];
       drawn = [];
     })
     -- before 7: no room for the label
     ∷ lowered
     (record {
-      sheet = unequalRegister;
+      sheet = unequal_register;
       room = 12;
       number = 11;
       index = 2;
@@ -633,7 +633,7 @@ table =
       constants = 0x4000_0000_0000_0000 ∷ [];
       origins = 65535 ∷ [];
       registers = 0 ∷ [];
-      places = noPlaces;
+      places = no_places;
       filled = 4 ∷ [];
       drawn = [];
     })
@@ -641,17 +641,17 @@ table =
     -- Stack 5
     ∷ lowered
     (record {
-      sheet = header 0 (32 ∷ replicate 63 0) ++ branchIf 1 3 0 ++ (8 ∷ 0 ∷ 5 ∷ 0 ∷ 0 ∷ 0 ∷ 5 ∷ 0 ∷ []) ++ label 3;
+      sheet = header 0 (32 ∷ replicate 63 0) ++ branch_if 1 3 0 ++ (8 ∷ 0 ∷ 5 ∷ 0 ∷ 0 ∷ 0 ∷ 5 ∷ 0 ∷ []) ++ label 3;
       room = 64;
       number = 11;
       index = 2;
       written = 16;
-      bytes = branchIf 6 3 0 ++ (9 ∷ 0 ∷ 12 ∷ 0 ∷ 4 ∷ 5 ∷ 0 ∷ 5 ∷ 0 ∷ []);
+      bytes = branch_if 6 3 0 ++ (9 ∷ 0 ∷ 12 ∷ 0 ∷ 4 ∷ 5 ∷ 0 ∷ 5 ∷ 0 ∷ []);
       count = 0;
       constants = [];
       origins = [];
       registers = [];
-      places = noPlaces;
+      places = no_places;
       filled = [];
       drawn = 4 ∷ 5 ∷ 6 ∷ [];
     })
@@ -659,7 +659,7 @@ table =
     -- SaveComplex G4 G5 Mem 1; Label 3
     ∷ lowered
     (record {
-      sheet = header 0 noPlaces ++ branch 3 ++ (8 ∷ 0 ∷ 5 ∷ 0 ∷ 0 ∷ 1 ∷ 1 ∷ 0 ∷ []) ++ label 3;
+      sheet = header 0 no_places ++ branch 3 ++ (8 ∷ 0 ∷ 5 ∷ 0 ∷ 0 ∷ 1 ∷ 1 ∷ 0 ∷ []) ++ label 3;
       room = 19;
       number = 0;
       index = 3;
@@ -669,7 +669,7 @@ table =
       constants = [];
       origins = [];
       registers = [];
-      places = noPlaces;
+      places = no_places;
       filled = [];
       drawn = 4 ∷ 5 ∷ [];
     })
@@ -678,8 +678,8 @@ table =
     ∷ lowered
     (record {
       sheet =
-          header 0 noPlaces
-          ++ branchIf 1 3 0
+          header 0 no_places
+          ++ branch_if 1 3 0
           ++ (8 ∷ 0 ∷ 4 ∷ 0 ∷ 0 ∷ 1 ∷ 1 ∷ 0 ∷ [])
           ++ label 3
           ++ (8 ∷ 0 ∷ 5 ∷ 0 ∷ 0 ∷ 1 ∷ 2 ∷ 0 ∷ []);
@@ -688,12 +688,12 @@ table =
       index = 4;
       written = 30;
       bytes =
-          branchIf 6 3 0 ++ (9 ∷ 0 ∷ 11 ∷ 0 ∷ 4 ∷ 5 ∷ 1 ∷ 1 ∷ 0 ∷ []) ++ label 3 ++ (9 ∷ 0 ∷ 12 ∷ 0 ∷ 4 ∷ 5 ∷ 1 ∷ 2 ∷ 0 ∷ []);
+          branch_if 6 3 0 ++ (9 ∷ 0 ∷ 11 ∷ 0 ∷ 4 ∷ 5 ∷ 1 ∷ 1 ∷ 0 ∷ []) ++ label 3 ++ (9 ∷ 0 ∷ 12 ∷ 0 ∷ 4 ∷ 5 ∷ 1 ∷ 2 ∷ 0 ∷ []);
       count = 0;
       constants = [];
       origins = [];
       registers = [];
-      places = noPlaces;
+      places = no_places;
       filled = [];
       drawn = 4 ∷ 5 ∷ 6 ∷ [];
     })
@@ -762,7 +762,7 @@ table =
     -- -2.5 goes to -2, and -0.5 to -0
     ∷ gives (uni UniOp.Trunc) (0xc004_0000_0000_0000 ∷ []) (0xc000_0000_0000_0000 ∷ [])
     ∷ gives (uni UniOp.Trunc) (0xbfe0_0000_0000_0000 ∷ []) (0x8000_0000_0000_0000 ∷ [])
-    -- "IsZero, where a listing holds it, gives all ones for either zero, else zero": of 2 ^ -1074 and of a NaN zero
+    -- "IsZero, where a listing holds it, gives all ones for Either zero, else zero": of 2 ^ -1074 and of a NaN zero
     ∷ gives (uni UniOp.IsZero) (0x0000_0000_0000_0000 ∷ []) (ones ∷ [])
     ∷ gives (uni UniOp.IsZero) (0x8000_0000_0000_0000 ∷ []) (ones ∷ [])
     ∷ gives (uni UniOp.IsZero) (0x0000_0000_0000_0001 ∷ []) (0 ∷ [])
@@ -841,43 +841,43 @@ table =
     ∷ gives ifelse (0x1111_1111_1111_1111 ∷ 0x2222_2222_2222_2222 ∷ 0x00ff_00ff_00ff_00ff ∷ []) (0x2211_2211_2211_2211 ∷ [])
     -- ---- ComplexBi, of 1 + 2i and 3 + 5i
     -- "Plus and Minus work half by half": 4 + 7i, and -2 - 3i
-    ∷ gives (complexBi ArithOp.Plus) oneTwoThreeFive (0x4010_0000_0000_0000 ∷ 0x401c_0000_0000_0000 ∷ [])
-    ∷ gives (complexBi ArithOp.Minus) oneTwoThreeFive (0xc000_0000_0000_0000 ∷ 0xc008_0000_0000_0000 ∷ [])
+    ∷ gives (complex_bi ArithOp.Plus) one_two_three_five (0x4010_0000_0000_0000 ∷ 0x401c_0000_0000_0000 ∷ [])
+    ∷ gives (complex_bi ArithOp.Minus) one_two_three_five (0xc000_0000_0000_0000 ∷ 0xc008_0000_0000_0000 ∷ [])
     -- "x1 times x2 minus y1 times y2, and y1 times x2 plus x1 times y2": 3 - 10, and 6 + 5
-    ∷ gives (complexBi ArithOp.Times) oneTwoThreeFive (0xc01c_0000_0000_0000 ∷ 0x4026_0000_0000_0000 ∷ [])
+    ∷ gives (complex_bi ArithOp.Times) one_two_three_five (0xc01c_0000_0000_0000 ∷ 0x4026_0000_0000_0000 ∷ [])
     -- "x1 times x2 plus y1 times y2, and y1 times x2 minus x1 times y2, each divided by x2 squared plus y2 squared": 13 by 34, and 1 by 34
-    ∷ gives (complexBi ArithOp.Divide) oneTwoThreeFive (0x3fd8_7878_7878_7878 ∷ 0x3f9e_1e1e_1e1e_1e1e ∷ [])
+    ∷ gives (complex_bi ArithOp.Divide) one_two_three_five (0x3fd8_7878_7878_7878 ∷ 0x3f9e_1e1e_1e1e_1e1e ∷ [])
     -- "rounding each operation": (1 + u) * (1 + u) is rounded to 1 + 2 * u and (1 + u) * (1 + 2 * u) to 1 + 3 * u; the product's halves are
     -- then 1 + 2 * u minus 1 + 2 * u, and 1 + u plus 1 + 3 * u
-    ∷ gives (complexBi ArithOp.Times)
+    ∷ gives (complex_bi ArithOp.Times)
     (0x3ff0_0000_0000_0001 ∷ 0x3ff0_0000_0000_0000 ∷ 0x3ff0_0000_0000_0001 ∷ 0x3ff0_0000_0000_0002 ∷ [])
     (0x0000_0000_0000_0000 ∷ 0x4000_0000_0000_0002 ∷ [])
     -- likewise 0 by 2 + 6 * u, and 2 + 4 * u by 2 + 6 * u, which lies just above 1 - u
-    ∷ gives (complexBi ArithOp.Divide)
+    ∷ gives (complex_bi ArithOp.Divide)
     (0x3ff0_0000_0000_0001 ∷ 0x3ff0_0000_0000_0000 ∷ 0x3ff0_0000_0000_0001 ∷ 0xbff0_0000_0000_0002 ∷ [])
     (0x0000_0000_0000_0000 ∷ 0x3fef_ffff_ffff_fffe ∷ [])
     -- document 02, c: "For a ComplexBi this holds in each of its single operations, operands as document 01 writes them". Of NaNs 1, 2, 3
     -- and 4 x1 times x2 leaves 1, y1 times y2 and y1 times x2 leave 2, x1 times y2 leaves 1, and the denominator 3
-    ∷ gives (complexBi ArithOp.Minus) nans (0xfff8_0000_0000_0001 ∷ 0x7ff8_0000_0000_0002 ∷ [])
-    ∷ gives (complexBi ArithOp.Times) nans (0xfff8_0000_0000_0001 ∷ 0x7ff8_0000_0000_0002 ∷ [])
-    ∷ gives (complexBi ArithOp.Divide) nans (0xfff8_0000_0000_0001 ∷ 0x7ff8_0000_0000_0002 ∷ [])
+    ∷ gives (complex_bi ArithOp.Minus) nans (0xfff8_0000_0000_0001 ∷ 0x7ff8_0000_0000_0002 ∷ [])
+    ∷ gives (complex_bi ArithOp.Times) nans (0xfff8_0000_0000_0001 ∷ 0x7ff8_0000_0000_0002 ∷ [])
+    ∷ gives (complex_bi ArithOp.Divide) nans (0xfff8_0000_0000_0001 ∷ 0x7ff8_0000_0000_0002 ∷ [])
     -- infinity + NaN 2 i times 0 + 1i: infinity times 0 is 7ff8000000000000, and the first operand of Minus; NaN 2 times 0 is that of Plus
-    ∷ gives (complexBi ArithOp.Times)
+    ∷ gives (complex_bi ArithOp.Times)
     (0x7ff0_0000_0000_0000 ∷ 0x7ff0_0000_0000_0002 ∷ 0x0000_0000_0000_0000 ∷ 0x3ff0_0000_0000_0000 ∷ [])
     (0x7ff8_0000_0000_0000 ∷ 0x7ff8_0000_0000_0002 ∷ [])
     -- NaN 1 + 2i by 1 + NaN 4 i: NaN 1 in both numerators, NaN 4 in the denominator
-    ∷ gives (complexBi ArithOp.Divide)
+    ∷ gives (complex_bi ArithOp.Divide)
     (0xfff0_0000_0000_0001 ∷ 0x4000_0000_0000_0000 ∷ 0x3ff0_0000_0000_0000 ∷ 0x7ff0_0000_0000_0004 ∷ [])
     (0xfff8_0000_0000_0001 ∷ 0xfff8_0000_0000_0001 ∷ [])
     -- 1 + 2i by NaN 3 + NaN 4 i: 3 in y1 times x2 comes before 4 in x1 times y2
-    ∷ gives (complexBi ArithOp.Divide)
+    ∷ gives (complex_bi ArithOp.Divide)
     (0x3ff0_0000_0000_0000 ∷ 0x4000_0000_0000_0000 ∷ 0x7ff0_0000_0000_0003 ∷ 0x7ff0_0000_0000_0004 ∷ [])
     (0x7ff8_0000_0000_0003 ∷ 0x7ff8_0000_0000_0003 ∷ [])
     ∷ []
 
 -- in each row what the definitions give is what the row says
 pub facts : map given table ≡ map stated table
-unfolding lowerSheet originsOf listed complexify block step scan setup constantAt decoded instructionFrom takesKind placeAt savePlace uniOps binOps fusedOps rerun rerunUni rerunBin withoutLoc c.unlisted c.directed c.loadConst c.loadFrom c.saveTo c.times c.minus c.half c.divide c.abs c.byOne c.byTwo c.bits c.compare eachLines orderLines re im recordOf writes uniWord binWord fusedWord complexWords of_bits to_bits is_nan add sub mul div lt le eq ne squareRoot fusedMultiplyAdd roundToIntegral
+unfolding lower_sheet origins_of listed complexify block step scan setup constant_at decoded instruction_from takes_kind place_at save_place uni_ops bin_ops fused_ops rerun rerun_uni rerun_bin without_loc c.unlisted c.directed c.load_const c.load_from c.save_to c.times c.minus c.half c.divide c.abs c.one_by_one c.by_two c.bits c.compare each_lines order_lines re im record_of writes uni_word bin_word fused_word complex_words of_bits to_bits is_nan add sub mul div lt le eq ne square_root fused_multiply_add round_to_integral
 facts = refl
 
 -- what a listing's records compute with (document 01, Sheet): "Uni Neg, Not, Abs, Root, Recip, Round, Half, Sign; Bi Plus, Minus, Times,
@@ -910,10 +910,10 @@ operations =
     ∷ bi BinOp.And
     ∷ bi BinOp.Or
     ∷ bi BinOp.Xor
-    ∷ complexBi ArithOp.Plus
-    ∷ complexBi ArithOp.Minus
-    ∷ complexBi ArithOp.Times
-    ∷ complexBi ArithOp.Divide
+    ∷ complex_bi ArithOp.Plus
+    ∷ complex_bi ArithOp.Minus
+    ∷ complex_bi ArithOp.Times
+    ∷ complex_bi ArithOp.Divide
     ∷ fused FusedOp.MulAdd
     ∷ ifelse
     ∷ []

@@ -9,21 +9,21 @@ use borrow.Author.Tests.{lt-ltb, ne_eqb}
 use lib.ListN.{length, length-append, length-map}
 use Rattle.mir.specs.declared.records.Work.{Work}
 use Rattle.mir.specs.declared.records.Record.{Record}
-use Rattle.player_machine.specs.Machine.{Store, End, ticks, Way, going, seeking, play, exec, execs, isLabel, block}
+use Rattle.player_machine.specs.Machine.{Store, End, ticks, Way, going, seeking, play, exec, execs, is_label, block}
 use Rattle.player_machine.specs.Jumps.{tally, has}
-use Rattle.player_machine.specs.Count.{is_call, blockRecords, most}
+use Rattle.player_machine.specs.Count.{is_call, block_records, most}
 use Rattle.mir.specs.declared.records.Instruction.{Instruction}
 use Rattle.lowering.specs.Complexifier as c
-use Rattle.lowering.specs.Complexifier.{State, then, unlisted, aroundBlock}
+use Rattle.lowering.specs.Complexifier.{State, then, unlisted, around_block}
 use Rattle.lowering.specs.Rerun.{rerun, complexify}
 use Rattle.lowering.specs.Labels.{role}
 use Rattle.leftovers.proofs.Instructions.{AllIn}
-use Rattle.leftovers.proofs.Listing.{AllOutside, Plain, plain, seek-plain, block-of, Shape, unrooted, rooted, shape}
-use Rattle.leftovers.proofs.Branches.{AllTame, works-tame, View, working-one, label-one, branch_one, branch-if-one, view}
-use Rattle.figures.specs.Shelf.{blockIn, branchOf}
-use Rattle.figures.specs.Told.{branchesIn}
+use Rattle.leftovers.proofs.Listing.{AllOutside, Plain, plain, seek_plain, block-of, Shape, unrooted, rooted, shape}
+use Rattle.leftovers.proofs.Branches.{AllTame, works_tame, View, working-one, label-one, branch_one, branch-if-one, view}
+use Rattle.figures.specs.Shelf.{block_in, branch_of}
+use Rattle.figures.specs.Told.{branches_in}
 use Rattle.sheet.specs.declared.setup.Mode.{Mode}
-use Rattle.sheet.specs.Setup.{isStable}
+use Rattle.sheet.specs.Setup.{is_stable}
 
 -- no branch of the sheet's own
 abbrev Free : Record → Type 0
@@ -56,53 +56,53 @@ plain-run k b (Record.Call l ∷ rs) rest n p f h σ =
 plain-run k b (Record.BranchIf c l e ∷ rs) rest n p f h σ = absurd f.0
 
 -- among records that are put together
-free-first : (rs rs' : List Record) → AllFree (rs ++ rs') → AllFree rs
-free-first [] rs' f = tt
-free-first (r ∷ rs) rs' f = (f.0, free-first rs rs' f.1)
+free_first : (rs rs' : List Record) → AllFree (rs ++ rs') → AllFree rs
+free_first [] rs' f = tt
+free_first (r ∷ rs) rs' f = (f.0, free_first rs rs' f.1)
 
-free-last : (rs rs' : List Record) → AllFree (rs ++ rs') → AllFree rs'
-free-last [] rs' f = f
-free-last (r ∷ rs) rs' f = free-last rs rs' f.1
+free_last : (rs rs' : List Record) → AllFree (rs ++ rs') → AllFree rs'
+free_last [] rs' f = f
+free_last (r ∷ rs) rs' f = free_last rs rs' f.1
 
-free-append : (rs rs' : List Record) → AllFree rs → AllFree rs' → AllFree (rs ++ rs')
-free-append [] rs' p q = q
-free-append (r ∷ rs) rs' p q = (p.0, free-append rs rs' p.1 q)
+free_append : (rs rs' : List Record) → AllFree rs → AllFree rs' → AllFree (rs ++ rs')
+free_append [] rs' p q = q
+free_append (r ∷ rs) rs' p q = (p.0, free_append rs rs' p.1 q)
 
-tame-free : (rs : List Record) → AllTame rs → AllFree rs
-tame-free [] p = tt
-tame-free (Record.Work w ∷ rs) p = (tt, tame-free rs p.1)
-tame-free (Record.Label l ∷ rs) p = (tt, tame-free rs p.1)
-tame-free (Record.Branch l ∷ rs) p = (p.0, tame-free rs p.1)
-tame-free (Record.Call l ∷ rs) p = (tt, tame-free rs p.1)
-tame-free (Record.BranchIf c l e ∷ rs) p = absurd p.0
+tame_free : (rs : List Record) → AllTame rs → AllFree rs
+tame_free [] p = tt
+tame_free (Record.Work w ∷ rs) p = (tt, tame_free rs p.1)
+tame_free (Record.Label l ∷ rs) p = (tt, tame_free rs p.1)
+tame_free (Record.Branch l ∷ rs) p = (p.0, tame_free rs p.1)
+tame_free (Record.Call l ∷ rs) p = (tt, tame_free rs p.1)
+tame_free (Record.BranchIf c l e ∷ rs) p = absurd p.0
 
-free-listed : (m : Mode) (is : List Instruction) (s : State) → branchesIn is ≡ 0 → AllFree (complexify m is s).records
+free_listed : (m : Mode) (is : List Instruction) (s : State) → branches_in is ≡ 0 → AllFree (complexify m is s).records
 unfolding complexify then unlisted
-free-listed m [] s e = tt
-free-listed m (i ∷ is) s e =
-    free-append (rerun m i s).records (complexify m is (rerun m i s).after).records (go (view i) (omega (arith, e)))
-    (free-listed m is (rerun m i s).after (omega (arith, e)))
+free_listed m [] s e = tt
+free_listed m (i ∷ is) s e =
+    free_append (rerun m i s).records (complexify m is (rerun m i s).after).records (go (view i) (omega (arith, e)))
+    (free_listed m is (rerun m i s).after (omega (arith, e)))
   where
-    go : {i : Instruction} → View i → branchOf (role i) ≡ 0 → AllFree (rerun m i s).records
-    go (working-one {i} z) e = tame-free (rerun m i s).records (works-tame m i s z)
+    go : {i : Instruction} → View i → branch_of (role i) ≡ 0 → AllFree (rerun m i s).records
+    go (working-one {i} z) e = tame_free (rerun m i s).records (works_tame m i s z)
     go (label-one l) e = unfold rerun c.directed in (tt, tt)
     go (branch_one l) e = let h : ◌≡◌ {A = ℕ} 1 0 = unfold role in e in absurd (omega (arith, h))
     go (branch-if-one r l x) e = let h : ◌≡◌ {A = ℕ} 1 0 = unfold role in e in absurd (omega (arith, h))
 
 -- a jump to Label 2 passes over working records
-past-works : (k : List ℕ) (b : List Work) (l : List Work) (rest : List Record) (σ : Store)
+past_works : (k : List ℕ) (b : List Work) (l : List Work) (rest : List Record) (σ : Store)
     → play k b (seeking 2) (map Record.Work l ++ rest) σ ≡ play k b (seeking 2) rest σ
 unfolding play
-past-works k b [] rest σ = refl
-past-works k b (w ∷ l) rest σ = past-works k b l rest σ
+past_works k b [] rest σ = refl
+past_works k b (w ∷ l) rest σ = past_works k b l rest σ
 
 -- the block is jumped over: the Branch and its Label are run
 around-run : (k : List ℕ) (b t : List Work) (rest : List Record) (n : ℕ) → ((σ : Store) → (play k b going rest σ).played ≡ n)
-    → (σ : Store) → (play k b going (aroundBlock t ++ rest) σ).played ≡ 2 + n
+    → (σ : Store) → (play k b going (around_block t ++ rest) σ).played ≡ 2 + n
 unfolding play ticks
 around-run k b t rest n h σ =
     let e = append_assoc (map Record.Work t) (Record.Branch 0 ∷ Record.Label 2 ∷ []) rest in
-    let p = past-works k b t (Record.Branch 0 ∷ Record.Label 2 ∷ rest) σ in
+    let p = past_works k b t (Record.Branch 0 ∷ Record.Label 2 ∷ rest) σ in
     rw (e, p, h σ) (omega arith)
 
 -- ---- calls and blocks among records
@@ -115,55 +115,55 @@ tally-append p (r ∷ rs) rs' =
     omega (arith, i)
 
 -- working records are no Calls and no Labels
-no-works : (p : Record → Bool) → ((w : Work) → p (Record.Work w) ≡ false) → (l : List Work) → tally p (map Record.Work l) ≡ 0
+no_works : (p : Record → Bool) → ((w : Work) → p (Record.Work w) ≡ false) → (l : List Work) → tally p (map Record.Work l) ≡ 0
 unfolding tally
-no-works p n [] = refl
-no-works p n (w ∷ l) = let i = no-works p n l in rw (n w) (omega (arith, i))
+no_works p n [] = refl
+no_works p n (w ∷ l) = let i = no_works p n l in rw (n w) (omega (arith, i))
 
-around-calls : (t : List Work) → tally is_call (aroundBlock t) ≡ 0
+around_calls : (t : List Work) → tally is_call (around_block t) ≡ 0
 unfolding tally
-around-calls t =
+around_calls t =
     let a = tally-append is_call (map Record.Work t) (Record.Branch 0 ∷ Record.Label 2 ∷ []) in
-    let b = no-works is_call (λ w. refl) t in
+    let b = no_works is_call (λ w. refl) t in
     omega (arith, a, b)
 
-plain-labels : (rs : List Record) → Plain rs → tally (isLabel 1) rs ≡ 0
-unfolding tally isLabel
-plain-labels [] p = refl
-plain-labels (Record.Work w ∷ rs) p = let i = plain-labels rs p.1 in omega (arith, i)
-plain-labels (Record.Label l ∷ rs) p =
-    let i = plain-labels rs p.1 in
+plain_labels : (rs : List Record) → Plain rs → tally (is_label 1) rs ≡ 0
+unfolding tally is_label
+plain_labels [] p = refl
+plain_labels (Record.Work w ∷ rs) p = let i = plain_labels rs p.1 in omega (arith, i)
+plain_labels (Record.Label l ∷ rs) p =
+    let i = plain_labels rs p.1 in
     rw (ne_eqb l 1 (λ e. let h = p.0 in omega (arith, e, h))) (omega (arith, i))
-plain-labels (Record.Branch l ∷ rs) p = let i = plain-labels rs p.1 in omega (arith, i)
-plain-labels (Record.Call l ∷ rs) p = let i = plain-labels rs p.1 in omega (arith, i)
-plain-labels (Record.BranchIf c l e ∷ rs) p = let i = plain-labels rs p.1 in omega (arith, i)
+plain_labels (Record.Branch l ∷ rs) p = let i = plain_labels rs p.1 in omega (arith, i)
+plain_labels (Record.Call l ∷ rs) p = let i = plain_labels rs p.1 in omega (arith, i)
+plain_labels (Record.BranchIf c l e ∷ rs) p = let i = plain_labels rs p.1 in omega (arith, i)
 
 -- no block stands among plain records
-pub plain-block : (rs : List Record) → Plain rs → blockIn rs ≡ 0
-unfolding blockIn
-plain-block rs p = rw (plain-labels rs p) refl
+pub plain_block : (rs : List Record) → Plain rs → block_in rs ≡ 0
+unfolding block_in
+plain_block rs p = rw (plain_labels rs p) refl
 
 -- plain records, the block, plain records: the block's records, from Label 1 to Branch 0
-pub around-block : (first last : List Record) (t : List Work) → Plain first → blockIn (first ++ (aroundBlock t ++ last)) ≡ 2 + length t
-unfolding blockIn
+pub around-block : (first last : List Record) (t : List Work) → Plain first → block_in (first ++ (around_block t ++ last)) ≡ 2 + length t
+unfolding block_in
 around-block first last t p = rw (found, block-of first last t p) refl
   where
-    found : has (isLabel 1) (first ++ (aroundBlock t ++ last)) ≡ true
+    found : has (is_label 1) (first ++ (around_block t ++ last)) ≡ true
     found =
-        unfold tally isLabel in
-        let a = tally-append (isLabel 1) first (aroundBlock t ++ last) in
+        unfold tally is_label in
+        let a = tally-append (is_label 1) first (around_block t ++ last) in
         let e = append_assoc (map Record.Work t) (Record.Branch 0 ∷ Record.Label 2 ∷ []) last in
-        lt-ltb 0 (tally (isLabel 1) (first ++ (aroundBlock t ++ last))) (omega (arith, a))
+        lt-ltb 0 (tally (is_label 1) (first ++ (around_block t ++ last))) (omega (arith, a))
 
 -- plain records before others add no block
-pub plain-before : (rs rest : List Record) → Plain rs → blockIn (rs ++ rest) ≡ blockIn rest
-unfolding blockIn block
-plain-before rs rest p =
-    rw (tally-append (isLabel 1) rs rest, plain-labels rs p, seek-plain rs rest p, zero-add (tally (isLabel 1) rest)) refl
+pub plain_before : (rs rest : List Record) → Plain rs → block_in (rs ++ rest) ≡ block_in rest
+unfolding block_in block
+plain_before rs rest p =
+    rw (tally-append (is_label 1) rs rest, plain_labels rs p, seek_plain rs rest p, zero-add (tally (is_label 1) rest)) refl
 
 -- the records that a play of such a listing runs
 abbrev pub runs : List Record → ℕ
-runs rs = length rs - blockIn rs + tally is_call rs * blockIn rs
+runs rs = length rs - block_in rs + tally is_call rs * block_in rs
 
 nothing_left : (k : List ℕ) (b : List Work) (σ : Store) → (play k b going [] σ).played ≡ 0
 unfolding play
@@ -180,50 +180,50 @@ uncalled (Record.Call l ∷ rs) p = absurd p.0
 uncalled (Record.BranchIf c l e ∷ rs) p = let i = uncalled rs p.1 in omega (arith, i)
 
 -- records without a Call
-uncalled-runs : (k : List ℕ) (rs : List Record) → AllOutside true false rs → AllFree rs → (σ : Store)
+uncalled_runs : (k : List ℕ) (rs : List Record) → AllOutside true false rs → AllFree rs → (σ : Store)
     → (play k (block rs) going rs σ).played ≡ runs rs
-uncalled-runs k rs q f σ =
+uncalled_runs k rs q f σ =
     let p = plain-run k (block rs) rs [] 0 (plain true false rs q) f (nothing_left k (block rs)) σ in
-    let b = plain-block rs (plain true false rs q) in
+    let b = plain_block rs (plain true false rs q) in
     let c = uncalled rs q in
     ap (λ x. (play k (block rs) going x σ).played) (sym (append-nil rs)) ∙ p ∙ rw (b, c) (omega arith)
 
 -- plain records, the block and plain records
 block_runs : (k : List ℕ) (first last : List Record) (t : List Work) → Plain first → Plain last → AllFree first → AllFree last → (σ : Store)
-    → let rs = first ++ (aroundBlock t ++ last) in (play k (block rs) going rs σ).played ≡ runs rs
+    → let rs = first ++ (around_block t ++ last) in (play k (block rs) going rs σ).played ≡ runs rs
 block_runs k first last t p q f f' σ =
-    let rs = first ++ (aroundBlock t ++ last) in
+    let rs = first ++ (around_block t ++ last) in
     let tail : (σ : Store) → (play k t going last σ).played ≡ length last + (tally is_call last * (2 + length t) + 0) =
     λ σ. ap (λ x. (play k t going x σ).played) (sym (append-nil last)) ∙ plain-run k t last [] 0 q f' (nothing_left k t) σ in
     let mid = around-run k t t last (length last + (tally is_call last * (2 + length t) + 0)) tail in
-    let all = plain-run k t first (aroundBlock t ++ last) (2 + (length last + (tally is_call last * (2 + length t) + 0))) p f mid σ in
-    let c = tally-append is_call first (aroundBlock t ++ last) in
-    let d = tally-append is_call (aroundBlock t) last in
-    let n = length-append first (aroundBlock t ++ last) in
-    let m = length-append (aroundBlock t) last in
+    let all = plain-run k t first (around_block t ++ last) (2 + (length last + (tally is_call last * (2 + length t) + 0))) p f mid σ in
+    let c = tally-append is_call first (around_block t ++ last) in
+    let d = tally-append is_call (around_block t) last in
+    let n = length-append first (around_block t ++ last) in
+    let m = length-append (around_block t) last in
     let a = length-append (map Record.Work t) (Record.Branch 0 ∷ Record.Label 2 ∷ []) in
     let w : length (map Record.Work t) ≡ length t = length-map t Record.Work in
     ap (λ b. (play k b going rs σ).played) (block-of first last t p) ∙ all
-    ∙ rw (around-block first last t p, c, d, around-calls t) (omega (arith, n, m, a, w))
+    ∙ rw (around-block first last t p, c, d, around_calls t) (omega (arith, n, m, a, w))
 
-module _ (mode : Mode) (count : ℕ) (is : List Instruction) (s : State) (v : AllIn count is) (e : s.rootDefined ≡ false) where
+module _ (mode : Mode) (count : ℕ) (is : List Instruction) (s : State) (v : AllIn count is) (e : s.is_root_defined ≡ false) where
   -- every lowered listing of a sheet that does not branch, on any store
-  pub lowered-runs : branchesIn is ≡ 0 → (k : List ℕ) (σ : Store)
+  pub lowered-runs : branches_in is ≡ 0 → (k : List ℕ) (σ : Store)
       → let rs = (complexify mode is s).records in (play k (block rs) going rs σ).played ≡ runs rs
-  lowered-runs n k σ = go (shape mode count is s v e) (free-listed mode is s n)
+  lowered-runs n k σ = go (shape mode count is s v e) (free_listed mode is s n)
     where
-      go : Shape (isStable mode) (complexify mode is s) → AllFree (complexify mode is s).records
+      go : Shape (is_stable mode) (complexify mode is s) → AllFree (complexify mode is s).records
           → let rs = (complexify mode is s).records in (play k (block rs) going rs σ).played ≡ runs rs
-      go (unrooted r q) f = uncalled-runs k (complexify mode is s).records q f σ
+      go (unrooted r q) f = uncalled_runs k (complexify mode is s).records q f σ
       go (rooted r first p t b last q g) f =
           let h = rw g at f in
-          rw g (block_runs k first last t p q (free-first first (aroundBlock t ++ last) h)
-          (free-last (aroundBlock t) last (free-last first (aroundBlock t ++ last) h)) σ)
+          rw g (block_runs k first last t p q (free_first first (around_block t ++ last) h)
+          (free_last (around_block t) last (free_last first (around_block t ++ last) h)) σ)
 
   -- the bound of any lowered listing, by the block that is listed
-  pub lowered-most : let rs = (complexify mode is s).records in length rs + tally is_call rs * blockIn rs ≡ most rs
+  pub lowered-most : let rs = (complexify mode is s).records in length rs + tally is_call rs * block_in rs ≡ most rs
   lowered-most = go (shape mode count is s v e)
     where
-      go : Shape (isStable mode) (complexify mode is s) → let rs = (complexify mode is s).records in length rs + tally is_call rs * blockIn rs ≡ most rs
+      go : Shape (is_stable mode) (complexify mode is s) → let rs = (complexify mode is s).records in length rs + tally is_call rs * block_in rs ≡ most rs
       go (unrooted r q) = rw (uncalled (complexify mode is s).records q) (omega arith)
       go (rooted r first p t b last q g) = rw (g, around-block first last t p, block-of first last t p) refl

@@ -8,28 +8,28 @@ use lib.ListN.{length, length-append}
 use lib.Dec.{eqb}
 use borrow.Author.Tests.{ne_eqb}
 use Rattle.mir.specs.declared.records.Instruction.{Instruction}
-use Rattle.mir.specs.Encode.{encodeAll}
+use Rattle.mir.specs.Encode.{encode_all}
 use Rattle.lowering.specs.Complexifier.{State, Out}
 use Rattle.lowering.specs.Rerun.{rerun}
 use Rattle.lowering.specs.Labels.{role, Standing, passed}
-use Rattle.lowering.specs.Lower.{tests, byFirst, Ended, ended, past, lowerFrom}
+use Rattle.lowering.specs.Lower.{tests, by_first, Ended, ended, past, lower_from}
 use Rattle.lowering.proofs.Tests.{by_tests}
 use Rattle.figures.specs.declared.counting.Count.{Count}
 use Rattle.figures.specs.declared.entry.Figures.{Figures}
-use Rattle.figures.specs.Shelf.{refusal, counted, run, shelfFrom}
+use Rattle.figures.specs.Shelf.{refusal, counted, run, shelf_from}
 use Rattle.figures.proofs.Totals.{total}
 use Rattle.sheet.specs.declared.setup.Mode.{Mode}
 
 -- the figures of where lowering ends, with this count of its records
-abbrev pub figuresOf : Ended → Count → Figures
-figuresOf e c =
+abbrev pub figures_of : Ended → Count → Figures
+figures_of e c =
     cond (eqb e.number 0) (record { number = 0; index = e.index; bytes = length e.bytes; constants = length e.state.consts; records = run c })
     (refusal e.number e.index)
 
 pub same : (m : Mode) (is : List Instruction) (fault : ℕ) (rest : List ℕ) (b : Standing) (index : ℕ) (bytes : List ℕ) (c : Count) (s : State)
     → c.bytes ≡ length bytes
-    → shelfFrom m is fault rest b index c s ≡ figuresOf (lowerFrom m 65536 is fault rest b index bytes s) (total m is c s)
-unfolding shelfFrom lowerFrom
+    → shelf_from m is fault rest b index c s ≡ figures_of (lower_from m 65536 is fault rest b index bytes s) (total m is c s)
+unfolding shelf_from lower_from
 same m [] fault rest b index bytes c s h = go (eqb fault 0) refl
   where
     go : (x : Bool) → eqb fault 0 ≡ x
@@ -38,9 +38,9 @@ same m [] fault rest b index bytes c s h = go (eqb fault 0) refl
     go true e = λ i. record { number = 0; index = index; bytes = h i; constants = length s.consts; records = run c }
     go false e = refl
 same m (i ∷ is) fault rest b index bytes c s h =
-    ap (λ written. byFirst (tests m 65536 i b (past rest) written s) (λ number. refusal number index) on) h
+    ap (λ written. by_first (tests m 65536 i b (past rest) written s) (λ number. refusal number index) on) h
     ∙ by_tests m 65536 i b (past rest) (length bytes) s
-    (λ by. by Figures (λ number. refusal number index) on ≡ figuresOf (by Ended (λ number. ended number index bytes s) lowered) (total m is next o.after))
+    (λ by. by Figures (λ number. refusal number index) on ≡ figures_of (by Ended (λ number. ended number index bytes s) lowered) (total m is next o.after))
     (λ n z. rw (ne_eqb n 0 z) refl)
     (λ a. same m is fault (past rest) after (suc index) (bytes ++ new) next o.after (omega (arith, h, length-append bytes new)))
   where
@@ -48,7 +48,7 @@ same m (i ∷ is) fault rest b index bytes c s h =
     o = rerun m i s
 
     new : List ℕ
-    new = encodeAll o.records
+    new = encode_all o.records
 
     after : Standing
     after = passed (role i) s.real b
@@ -57,7 +57,7 @@ same m (i ∷ is) fault rest b index bytes c s h =
     next = counted c (role i) o.records
 
     on : Figures
-    on = shelfFrom m is fault (past rest) after (suc index) next o.after
+    on = shelf_from m is fault (past rest) after (suc index) next o.after
 
     lowered : Ended
-    lowered = lowerFrom m 65536 is fault (past rest) after (suc index) (bytes ++ new) o.after
+    lowered = lower_from m 65536 is fault (past rest) after (suc index) (bytes ++ new) o.after

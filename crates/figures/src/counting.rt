@@ -1,8 +1,8 @@
 // What the records in the stage take, counted by a walk over their lengths and kinds.
 ghost use Rattle.std.specs.Prelude.{◌≡◌, ◌≤◌};
 ghost use Rattle.lowering.specs.Labels.{role};
-ghost use Rattle.figures.specs.Shelf.{branchOf};
-ghost use Rattle.figures.specs.Walk.{calls_of, blockStep, StagedBytes, CountWithin, Counts};
+ghost use Rattle.figures.specs.Shelf.{branch_of};
+ghost use Rattle.figures.specs.Walk.{calls_of, block_step, StagedBytes, CountWithin, Counts};
 
 use mir::fields::byte;
 use mir::records::Instruction;
@@ -39,7 +39,7 @@ pub struct BlockStep {
 
 // 1 for a Branch or BranchIf of the sheet.
 pub(crate) fn branch_of(instruction: Instruction) -> usize
-    ensures { result ≡ branchOf (role instruction) }
+    ensures { result ≡ branch_of (role instruction) }
 {
     match instruction {
         Instruction::Nop => 0,
@@ -76,7 +76,7 @@ fn calls_of(kind: u8) -> usize
 
 // What a record adds to the block's, and where the next one stands: Label 1 opens the block and stands for the Branch 0 that ends it, too.
 fn block_step(part: BlockPart, kind: u8, label: u8) -> BlockStep
-    ensures { result ≡ blockStep part kind label }
+    ensures { result ≡ block_step part kind label }
 {
     match part {
         BlockPart::Before => {

@@ -1,11 +1,11 @@
 // The figures of a sheet. No listing is made: the records of one instruction stand in the stage at a time.
 ghost use Rattle.std.specs.Prelude.{◌≡◌, ◌≤◌, length, drop, replicate};
-ghost use Rattle.lowering.specs.Labels.{noneStanding};
+ghost use Rattle.lowering.specs.Labels.{none_standing};
 ghost use Rattle.refusals.specs.Noted.{Noted};
 ghost use Rattle.figures.specs.Shelf as Spec;
 ghost use Rattle.figures.specs.Walk.{CountWithin};
 ghost use Rattle.complexify.specs.Taken.{Ready};
-ghost use Rattle.figures.specs.Taken.{left, figuresAt};
+ghost use Rattle.figures.specs.Taken.{left, figures_at};
 
 use super::counting::{Count, branch_of, count_records};
 use complexifier::state::Complexifier;
@@ -60,7 +60,7 @@ fn records_run(taken: Count) -> usize
 // The figures where the work ends with a number.
 fn figures_at(number: u8, taken: Count, p: Cursor) -> Figures
     requires { CountWithin taken }
-    ensures { result ≡ figuresAt number taken p }
+    ensures { result ≡ figures_at number taken p }
 {
     if number != 0 {
         return refusal(number, p.index);
@@ -98,7 +98,7 @@ fn run(
     constants: &mut [u64],
 ) -> Figures
     requires ready { Ready (replicate 704 0) constants.old start }
-    requires noted { Noted noneStanding (drop start.at sheet.now) marks.old rows.old }
+    requires noted { Noted none_standing (drop start.at sheet.now) marks.old rows.old }
     ensures { result ≡ left mode own sheet.now constants.old start }
 {
     let mut stage = [0u8; 704];

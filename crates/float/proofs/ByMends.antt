@@ -13,7 +13,7 @@ use lib.Pow.{shl_lt, pow_pos, pow_mono}
 use lib.IntN.{ℤ}
 use lib.Ieee.{binary64, nearest, is_nan}
 use lib.Ieee.Bits.{is_false}
-use Rattle.float.specs.Root.{squareRoot}
+use Rattle.float.specs.Root.{square_root}
 use Rattle.float.specs.Word.{value, root}
 use Rattle.float.specs.Unpacked.{Unpacked}
 use Rattle.float.specs.Biased.{biased}
@@ -29,9 +29,9 @@ pub widened : (m o : ℕ) → 2 ^ 52 ≤ m → m < 2 ^ 53 → o ≤ 1 → (2 ^ 5
 widened m o lo hi h = (omega (arith, mul-le-mul_left m (pow_pos o)), lt_of_lt_of_le (shl_lt 53 o hi) (pow_mono {i = 53 + o} {j = 54} (omega arith)))
 
 -- rounding by the rest r
-pub rounded-is : (m q r : ℕ) → q ≡ (mended m).value → q * q + r ≡ m * 2 ^ 52 → cond (leb r q) q (q + 1) ≡ rounded m
+pub rounded_is : (m q r : ℕ) → q ≡ (mended m).value → q * q + r ≡ m * 2 ^ 52 → cond (leb r q) q (q + 1) ≡ rounded m
 unfolding rounded
-rounded-is m q r e is = go (leb r q) (leb→le r q) (nleb→lt r q) ∙ ap (λ (x : ℕ). cond (leb (m * 2 ^ 52) (x * x + x)) x (x + 1)) e
+rounded_is m q r e is = go (leb r q) (leb→le r q) (nleb→lt r q) ∙ ap (λ (x : ℕ). cond (leb (m * 2 ^ 52) (x * x + x)) x (x + 1)) e
   where
     go : (b : Bool) → (T b → r ≤ q) → (T (not b) → q < r) → cond b q (q + 1) ≡ cond (leb (m * 2 ^ 52) (q * q + q)) q (q + 1)
     go true y x = let l = y tt in sym (ap (λ (b : Bool). cond b q (q + 1)) (le-leb (m * 2 ^ 52) (q * q + q) (omega (arith, is, l))))
@@ -68,12 +68,12 @@ module _ (a m : ℕ) (e : ℤ) (u : Unpacked a false m e) where
 
   by : (o : Ordering) → Cmp o (4 * (q * q + r)) ((2 * q + 1) * (2 * q + 1)) → nearest q o ≤ 2 ^ 53 → 2 ^ 52 ≤ nearest q o → root a ≡ field * 2 ^ 52 + nearest q o
   by o h top bot =
-      sym (number_word (a ∷ []) (squareRoot binary64 (value a))
+      sym (number_word (a ∷ []) (square_root binary64 (value a))
       (ap is_nan (root-units m e M q r u.small u.lo u.hi refl is rest (value a) u.value o h) ∙ units_number false (nearest q o) field))
       ∙ root-word m e M q r u.small u.lo u.hi refl is rest (value a) u.value o h top bot
 
   pub by-mends : root a ≡ field * 2 ^ 52 + rounded M
-  by-mends = go (leb r q) (leb→le r q) (nleb→lt r q) ∙ ap (λ (x : ℕ). field * 2 ^ 52 + x) (rounded-is M q r refl is)
+  by-mends = go (leb r q) (leb→le r q) (nleb→lt r q) ∙ ap (λ (x : ℕ). field * 2 ^ 52 + x) (rounded_is M q r refl is)
     where
       lo : 2 ^ 52 ≤ q
       lo = q-lo m e M q r u.small u.lo u.hi refl is rest

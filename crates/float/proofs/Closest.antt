@@ -25,35 +25,35 @@ cmp a b = go (compare a b) (leb→le a b) (nleb→lt a b) (eqb→eq a b) (λ (e 
     go Ordering.gt h k e n = k tt
 
 -- there is one way to compare two numbers
-cmp-one : (o p : Ordering) (a b : ℕ) → Cmp o a b → Cmp p a b → o ≡ p
-cmp-one Ordering.lt Ordering.lt a b x y = refl
-cmp-one Ordering.lt Ordering.eq a b x y = absurd (omega (arith, x, y))
-cmp-one Ordering.lt Ordering.gt a b x y = absurd (omega (arith, x, y))
-cmp-one Ordering.eq Ordering.lt a b x y = absurd (omega (arith, x, y))
-cmp-one Ordering.eq Ordering.eq a b x y = refl
-cmp-one Ordering.eq Ordering.gt a b x y = absurd (omega (arith, x, y))
-cmp-one Ordering.gt Ordering.lt a b x y = absurd (omega (arith, x, y))
-cmp-one Ordering.gt Ordering.eq a b x y = absurd (omega (arith, x, y))
-cmp-one Ordering.gt Ordering.gt a b x y = refl
+cmp_one : (o p : Ordering) (a b : ℕ) → Cmp o a b → Cmp p a b → o ≡ p
+cmp_one Ordering.lt Ordering.lt a b x y = refl
+cmp_one Ordering.lt Ordering.eq a b x y = absurd (omega (arith, x, y))
+cmp_one Ordering.lt Ordering.gt a b x y = absurd (omega (arith, x, y))
+cmp_one Ordering.eq Ordering.lt a b x y = absurd (omega (arith, x, y))
+cmp_one Ordering.eq Ordering.eq a b x y = refl
+cmp_one Ordering.eq Ordering.gt a b x y = absurd (omega (arith, x, y))
+cmp_one Ordering.gt Ordering.lt a b x y = absurd (omega (arith, x, y))
+cmp_one Ordering.gt Ordering.eq a b x y = absurd (omega (arith, x, y))
+cmp_one Ordering.gt Ordering.gt a b x y = refl
 
-pub cmp-is : (o : Ordering) (a b : ℕ) → Cmp o a b → compare a b ≡ o
-cmp-is o a b h = cmp-one (compare a b) o a b (cmp a b) h
+pub cmp_is : (o : Ordering) (a b : ℕ) → Cmp o a b → compare a b ≡ o
+cmp_is o a b h = cmp_one (compare a b) o a b (cmp a b) h
 
 -- two numbers that stand to each other as two others do
-pub cmp-as : (o : Ordering) (a b c d : ℕ) → (a < b → c < d) → (a ≡ b → c ≡ d) → (b < a → d < c) → Cmp o a b → Cmp o c d
-cmp-as Ordering.lt a b c d f g h x = f x
-cmp-as Ordering.eq a b c d f g h x = g x
-cmp-as Ordering.gt a b c d f g h x = h x
+pub cmp_as : (o : Ordering) (a b c d : ℕ) → (a < b → c < d) → (a ≡ b → c ≡ d) → (b < a → d < c) → Cmp o a b → Cmp o c d
+cmp_as Ordering.lt a b c d f g h x = f x
+cmp_as Ordering.eq a b c d f g h x = g x
+cmp_as Ordering.gt a b c d f g h x = h x
 
-pub closest-by : (o : Ordering) (a b : ℕ) → Cmp o (a % b * 2) b → closest a b ≡ nearest (a / b) o
-closest-by o a b h = ap (nearest (a / b)) (cmp-is o (a % b * 2) b h)
+pub closest_by : (o : Ordering) (a b : ℕ) → Cmp o (a % b * 2) b → closest a b ≡ nearest (a / b) o
+closest_by o a b h = ap (nearest (a / b)) (cmp_is o (a % b * 2) b h)
 
-pub closest-exact : (n c : ℕ) → 0 < c → closest (n * c) c ≡ n
-closest-exact n c C = closest-by Ordering.lt (n * c) c (omega (arith, mul-mod_left n c)) ∙ mul-div_cancel n C
+pub closest_exact : (n c : ℕ) → 0 < c → closest (n * c) c ≡ n
+closest_exact n c C = closest_by Ordering.lt (n * c) c (omega (arith, mul-mod_left n c)) ∙ mul-div_cancel n C
 
 -- a number of 63 digits, 64 or more of which stand below the point
-pub closest-none : (w t : ℕ) → w < 2 ^ 63 → 64 ≤ t → closest w (2 ^ t) ≡ 0
-closest-none w t hi h =
+pub closest_none : (w t : ℕ) → w < 2 ^ 63 → 64 ≤ t → closest w (2 ^ t) ≡ 0
+closest_none w t hi h =
     let big : 2 ^ 64 ≤ 2 ^ t = pow_mono h in
     let w-lt : w < 2 ^ t = lt_of_lt_of_le hi (le_trans (lit≤ tt) big) in
-    closest-by Ordering.lt w (2 ^ t) (subst (λ (x : ℕ). x * 2 < 2 ^ t) (sym (mod-eq_of_lt w-lt)) (lt_of_lt_of_le (omega arith) big)) ∙ div-eq_of_lt w-lt
+    closest_by Ordering.lt w (2 ^ t) (subst (λ (x : ℕ). x * 2 < 2 ^ t) (sym (mod-eq_of_lt w-lt)) (lt_of_lt_of_le (omega arith) big)) ∙ div-eq_of_lt w-lt

@@ -12,19 +12,19 @@ use lib.Ieee.{Float, nan, inf, fin, binary64, up, down, odd, of_fields, of_bits}
 use lib.Ieee.Bits.{cond_no}
 use lib.Ieee.Exact.{HasValue, odd_sign}
 use Rattle.float.specs.Unpacked.{Unpacked}
-use Rattle.float.proofs.Signed.{Is, is_pos, is-sub, is-shift, is-mag, is-pow, is-bias}
+use Rattle.float.proofs.Signed.{Is, is_pos, is_sub, is_shift, is_mag, is_pow, is_bias}
 
 of-fields : (a : ℕ) → of_bits binary64 a ≡ of_fields binary64 (leb (2 ^ 63) a) (a / 2 ^ 52 % 2 ^ 11) (a % 2 ^ 52)
 unfolding of_bits
 of-fields a = ap (λ (x : ℕ). of_fields binary64 (leb (2 ^ 63) a) x (a % 2 ^ 52)) (field a 11 52)
 
-pub of-sub : (a : ℕ) → a / 2 ^ 52 % 2 ^ 11 ≡ 0 → of_bits binary64 a ≡ odd 53 (leb (2 ^ 63) a) (a % 2 ^ 52) 0 1074
+pub of_sub : (a : ℕ) → a / 2 ^ 52 % 2 ^ 11 ≡ 0 → of_bits binary64 a ≡ odd 53 (leb (2 ^ 63) a) (a % 2 ^ 52) 0 1074
 unfolding of_fields
-of-sub a e = of-fields a ∙ ap (λ (x : ℕ). of_fields binary64 (leb (2 ^ 63) a) x (a % 2 ^ 52)) e
+of_sub a e = of-fields a ∙ ap (λ (x : ℕ). of_fields binary64 (leb (2 ^ 63) a) x (a % 2 ^ 52)) e
 
-pub of-normal : (a x : ℕ) → a / 2 ^ 52 % 2 ^ 11 ≡ suc x → suc x < 2047 → of_bits binary64 a ≡ odd 53 (leb (2 ^ 63) a) (2 ^ 52 + a % 2 ^ 52) x 1074
+pub of_normal : (a x : ℕ) → a / 2 ^ 52 % 2 ^ 11 ≡ suc x → suc x < 2047 → of_bits binary64 a ≡ odd 53 (leb (2 ^ 63) a) (2 ^ 52 + a % 2 ^ 52) x 1074
 unfolding of_fields
-of-normal a x e h =
+of_normal a x e h =
     let s = leb (2 ^ 63) a in
     let t = a % 2 ^ 52 in
     of-fields a
@@ -49,18 +49,18 @@ rescale (fin t m e) s w l num den p h v = (
 )
 
 -- a subnormal, moved up z digits
-pub unpacked-sub : (a z : ℕ) (e : ℤ) → a / 2 ^ 52 % 2 ^ 11 ≡ 0 → z ≤ 52 → 2 ^ 52 ≤ a % 2 ^ 52 * 2 ^ z → a % 2 ^ 52 * 2 ^ z < 2 ^ 53 → Is e 0 (1074 + z)
+pub unpacked_sub : (a z : ℕ) (e : ℤ) → a / 2 ^ 52 % 2 ^ 11 ≡ 0 → z ≤ 52 → 2 ^ 52 ≤ a % 2 ^ 52 * 2 ^ z → a % 2 ^ 52 * 2 ^ z < 2 ^ 53 → Is e 0 (1074 + z)
     → Unpacked a (leb (2 ^ 63) a) (a % 2 ^ 52 * 2 ^ z) e
-unpacked-sub a z e f zl lo hi i = record {
+unpacked_sub a z e f zl lo hi i = record {
   sign = refl;
   value =
       rescale (of_bits binary64 a) (leb (2 ^ 63) a) (t * 2 ^ 0) (2 ^ 1074) (t * 2 ^ z * up e) (down e) (pow_pos 1074)
-      (shape t (2 ^ z) (up e) (2 ^ 1074) (2 ^ (1074 + z)) (down e) (pow-add 2 1074 z) (is-pow e 0 (1074 + z) i))
-      (subst (λ (x : Float). HasValue x (leb (2 ^ 63) a) (t * 2 ^ 0) (2 ^ 1074)) (sym (of-sub a f)) (odd_sign 53 (leb (2 ^ 63) a) t 0 1074));
+      (shape t (2 ^ z) (up e) (2 ^ 1074) (2 ^ (1074 + z)) (down e) (pow-add 2 1074 z) (is_pow e 0 (1074 + z) i))
+      (subst (λ (x : Float). HasValue x (leb (2 ^ 63) a) (t * 2 ^ 0) (2 ^ 1074)) (sym (of_sub a f)) (odd_sign 53 (leb (2 ^ 63) a) t 0 1074));
   lo = lo;
   hi = hi;
-  small = is-mag e 0 (1074 + z) 1200 i (omega arith) (omega arith);
-  place = omega (arith, is-bias e 0 (1074 + z) i (omega arith));
+  small = is_mag e 0 (1074 + z) 1200 i (omega arith) (omega arith);
+  place = omega (arith, is_bias e 0 (1074 + z) i (omega arith));
 }
   where
     t : ℕ
@@ -72,20 +72,20 @@ unpacked-sub a z e f zl lo hi i = record {
         regroup : t * p * u * l ≡ t * (u * (l * p))
         regroup = omega arith
 
-pub unpacked-normal : (a x : ℕ) (e : ℤ) → a / 2 ^ 52 % 2 ^ 11 ≡ suc x → suc x < 2047 → Is e (suc x) 1075 → Unpacked a (leb (2 ^ 63) a) (a % 2 ^ 52 + 2 ^ 52) e
-unpacked-normal a x e f small i = record {
+pub unpacked_normal : (a x : ℕ) (e : ℤ) → a / 2 ^ 52 % 2 ^ 11 ≡ suc x → suc x < 2047 → Is e (suc x) 1075 → Unpacked a (leb (2 ^ 63) a) (a % 2 ^ 52 + 2 ^ 52) e
+unpacked_normal a x e f small i = record {
   sign = refl;
   value =
       rescale (of_bits binary64 a) (leb (2 ^ 63) a) ((2 ^ 52 + t) * 2 ^ x) (2 ^ 1074) ((t + 2 ^ 52) * up e) (down e) (pow_pos 1074)
       (mul_assoc (t + 2 ^ 52) (up e) (2 ^ 1074)
-      ∙ ap (λ (y : ℕ). (t + 2 ^ 52) * y) (is-pow e x 1074 (is-shift e (suc x) 1075 x 1074 i (omega arith)))
+      ∙ ap (λ (y : ℕ). (t + 2 ^ 52) * y) (is_pow e x 1074 (is_shift e (suc x) 1075 x 1074 i (omega arith)))
       ∙ sym (mul_assoc (t + 2 ^ 52) (2 ^ x) (down e))
       ∙ ap (λ (y : ℕ). y * 2 ^ x * down e) (add_comm t (2 ^ 52)))
-      (subst (λ (y : Float). HasValue y (leb (2 ^ 63) a) ((2 ^ 52 + t) * 2 ^ x) (2 ^ 1074)) (sym (of-normal a x f small)) (odd_sign 53 (leb (2 ^ 63) a) (2 ^ 52 + t) x 1074));
+      (subst (λ (y : Float). HasValue y (leb (2 ^ 63) a) ((2 ^ 52 + t) * 2 ^ x) (2 ^ 1074)) (sym (of_normal a x f small)) (odd_sign 53 (leb (2 ^ 63) a) (2 ^ 52 + t) x 1074));
   lo = omega arith;
   hi = omega (arith, mod-lt a {m = 2 ^ 52} (lit< tt));
-  small = is-mag e (suc x) 1075 1200 i (omega arith) (omega arith);
-  place = omega (arith, is-bias e (suc x) 1075 i (omega arith), field a 11 52, f);
+  small = is_mag e (suc x) 1075 1200 i (omega arith) (omega arith);
+  place = omega (arith, is_bias e (suc x) 1075 i (omega arith), field a 11 52, f);
 }
   where
     t : ℕ
@@ -109,33 +109,33 @@ lifted w t W p h =
 pub together : (a : ℕ) → a % 2 ^ 63 ≡ (a / 2 ^ 52 % 2 ^ 11) * 2 ^ 52 + a % 2 ^ 52
 together a = mod-pow-add a 11 52
 
-pub word-zero : (a : ℕ) → a % 2 ^ 63 ≡ 0 → of_bits binary64 a ≡ fin (leb (2 ^ 63) a) 0 (pos 0)
+pub word_zero : (a : ℕ) → a % 2 ^ 63 ≡ 0 → of_bits binary64 a ≡ fin (leb (2 ^ 63) a) 0 (pos 0)
 unfolding odd
-word-zero a e =
+word_zero a e =
     let h = together a in
-    of-sub a (omega (arith, h)) ∙ ap (λ (t : ℕ). odd 53 (leb (2 ^ 63) a) t 0 1074) {x = a % 2 ^ 52} {y = 0} (omega (arith, h))
+    of_sub a (omega (arith, h)) ∙ ap (λ (t : ℕ). odd 53 (leb (2 ^ 63) a) t 0 1074) {x = a % 2 ^ 52} {y = 0} (omega (arith, h))
 
-pub word-infinite : (a : ℕ) → a % 2 ^ 63 ≡ 2047 * 2 ^ 52 → of_bits binary64 a ≡ inf (leb (2 ^ 63) a)
+pub word_infinite : (a : ℕ) → a % 2 ^ 63 ≡ 2047 * 2 ^ 52 → of_bits binary64 a ≡ inf (leb (2 ^ 63) a)
 unfolding of_fields
-word-infinite a e =
+word_infinite a e =
     let h = together a in
     let l = mod-lt a {m = 2 ^ 52} (lit< tt) in
     of-fields a
     ∙ ap (λ (x : ℕ). of_fields binary64 (leb (2 ^ 63) a) x (a % 2 ^ 52)) {x = a / 2 ^ 52 % 2 ^ 11} {y = 2047} (omega (arith, h, l))
     ∙ ap (λ (t : ℕ). of_fields binary64 (leb (2 ^ 63) a) 2047 t) {x = a % 2 ^ 52} {y = 0} (omega (arith, h, l))
 
-pub word-finite : (a : ℕ) → 0 < a % 2 ^ 63 → a % 2 ^ 63 < 2047 * 2 ^ 52 → (p : ℕ) × (0 < p) × HasValue (of_bits binary64 a) (leb (2 ^ 63) a) p (2 ^ 1074)
-word-finite a pos-a fine = go (a / 2 ^ 52 % 2 ^ 11) refl
+pub word_finite : (a : ℕ) → 0 < a % 2 ^ 63 → a % 2 ^ 63 < 2047 * 2 ^ 52 → (p : ℕ) × (0 < p) × HasValue (of_bits binary64 a) (leb (2 ^ 63) a) p (2 ^ 1074)
+word_finite a pos-a fine = go (a / 2 ^ 52 % 2 ^ 11) refl
   where
     go : (x : ℕ) → a / 2 ^ 52 % 2 ^ 11 ≡ x → (p : ℕ) × (0 < p) × HasValue (of_bits binary64 a) (leb (2 ^ 63) a) p (2 ^ 1074)
     go zero e =
         let h = together a in
-        (a % 2 ^ 52 * 2 ^ 0, omega (arith, h, e), subst (λ (x : Float). HasValue x (leb (2 ^ 63) a) (a % 2 ^ 52 * 2 ^ 0) (2 ^ 1074)) (sym (of-sub a e)) (odd_sign 53 (leb (2 ^ 63) a) (a % 2 ^ 52) 0 1074))
+        (a % 2 ^ 52 * 2 ^ 0, omega (arith, h, e), subst (λ (x : Float). HasValue x (leb (2 ^ 63) a) (a % 2 ^ 52 * 2 ^ 0) (2 ^ 1074)) (sym (of_sub a e)) (odd_sign 53 (leb (2 ^ 63) a) (a % 2 ^ 52) 0 1074))
     go (suc x) e =
         let h = together a in (
           (2 ^ 52 + a % 2 ^ 52) * 2 ^ x,
           native.Mathlib.Nat.mul-pos (omega arith) (pow_pos x),
-          subst (λ (y : Float). HasValue y (leb (2 ^ 63) a) ((2 ^ 52 + a % 2 ^ 52) * 2 ^ x) (2 ^ 1074)) (sym (of-normal a x e (omega (arith, h, e)))) (odd_sign 53 (leb (2 ^ 63) a) (2 ^ 52 + a % 2 ^ 52) x 1074),
+          subst (λ (y : Float). HasValue y (leb (2 ^ 63) a) ((2 ^ 52 + a % 2 ^ 52) * 2 ^ x) (2 ^ 1074)) (sym (of_normal a x e (omega (arith, h, e)))) (odd_sign 53 (leb (2 ^ 63) a) (2 ^ 52 + a % 2 ^ 52) x 1074),
         )
 
 -- every finite word but zero is a significand of 53 digits and an exponent
@@ -146,7 +146,7 @@ unpacked a pos-a fine = go (a / 2 ^ 52 % 2 ^ 11) refl
     go zero f =
         let l = lifted 52 (a % 2 ^ 52) (lit< tt) (omega (arith, together a, f)) (omega (arith, mod-lt a {m = 2 ^ 52} (lit< tt))) in
         let z = l.0 in
-        (a % 2 ^ 52 * 2 ^ z, negsuc (1073 + z), unpacked-sub a z (negsuc (1073 + z)) f l.2 l.3 l.4 (omega arith))
+        (a % 2 ^ 52 * 2 ^ z, negsuc (1073 + z), unpacked_sub a z (negsuc (1073 + z)) f l.2 l.3 l.4 (omega arith))
     go (suc x) f =
         let e = pos (suc x) -ℤ pos 1075 in
-        (a % 2 ^ 52 + 2 ^ 52, e, unpacked-normal a x e f (omega (arith, together a, f)) (is-shift e (suc x + 0) (0 + 1075) (suc x) 1075 (is-sub (pos (suc x)) (pos 1075) (suc x) 0 1075 0 (is_pos (suc x)) (is_pos 1075)) (omega arith)))
+        (a % 2 ^ 52 + 2 ^ 52, e, unpacked_normal a x e f (omega (arith, together a, f)) (is_shift e (suc x + 0) (0 + 1075) (suc x) 1075 (is_sub (pos (suc x)) (pos 1075) (suc x) 0 1075 0 (is_pos (suc x)) (is_pos 1075)) (omega arith)))

@@ -1,5 +1,5 @@
 -- The fused sum: `sum` sees only the values of its fractions (`sum_same`) and not their order (`sum_comm`); a sticky number may stand for one of them (`sticky-sum`);
--- and `fusedMultiplyAdd` of three finite values is such a sum (`fused_at`). Assumes nothing.
+-- and `fused_multiply_add` of three finite values is such a sum (`fused_at`). Assumes nothing.
 use mathlib.Core.Path.{◌≡◌, refl, sym, ap, ap₂, ◌∙◌, subst}
 use mathlib.Core.Logic.{◌⊎◌, inl, inr}
 use mathlib.Core.Bool.{Bool, true, false, not, beq}
@@ -13,9 +13,9 @@ use lib.Ieee.Fits.{down_pos}
 use lib.Ieee.Exact.{HasValue}
 use lib.Ieee.Scale.{round_same}
 use Rattle.float.specs.Near.{Near}
-use Rattle.float.specs.Fused.{product, plusProduct, fusedMultiplyAdd}
+use Rattle.float.specs.Fused.{product, plus_product, fused_multiply_add}
 use Rattle.float.proofs.Sums.{sum_like, sum_less, sum_more, sum-none}
-use Rattle.float.proofs.Sticky.{near-more, near-less, sticky-round}
+use Rattle.float.proofs.Sticky.{near_more, near_less, sticky_round}
 
 -- the ways in which two signed magnitudes meet
 data Meet (s t : Bool) (a b : ℕ) : Type 0 where
@@ -60,12 +60,12 @@ module _ (s t : Bool) (a b c a' b' c' : ℕ) (C : 0 < c) (C' : 0 < c') (A : a * 
           ∙ round_same binary64 false 0 c 0 c' C C' (native.Mathlib.Nat.zero-mul c' ∙ sym (native.Mathlib.Nat.zero-mul c))
           ∙ sym (sum-none s t a' b' c' e (eq_of_mul-eq-mul_right c C a' b' (sym A ∙ ap (λ (x : ℕ). x * c') h ∙ B)))
 
--- ---- either order
-beq-swap : (s t x : Bool) → beq s t ≡ x → beq t s ≡ x
-beq-swap true true x e = e
-beq-swap true false x e = e
-beq-swap false true x e = e
-beq-swap false false x e = e
+-- ---- Either order
+beq_swap : (s t x : Bool) → beq s t ≡ x → beq t s ≡ x
+beq_swap true true x e = e
+beq_swap true false x e = e
+beq_swap false true x e = e
+beq_swap false false x e = e
 
 beq_same : (s t : Bool) → beq s t ≡ true → s ≡ t
 beq_same true true e = refl
@@ -77,16 +77,16 @@ pub sum_comm : (s t : Bool) (a b c : ℕ) → sum binary64 s a t b c ≡ sum bin
 sum_comm s t a b c = go (meet s t a b)
   where
     go : Meet s t a b → sum binary64 s a t b c ≡ sum binary64 t b s a c
-    go (alike e) = sum_like s t a b c e ∙ ap₂ (λ (x : Bool) (n : ℕ). round binary64 x n c) (beq_same s t e) (add_comm a b) ∙ sym (sum_like t s b a c (beq-swap s t true e))
-    go (less e l) = sum_less s t a b c e l ∙ sym (sum_more t s b a c (beq-swap s t false e) l)
-    go (more e l) = sum_more s t a b c e l ∙ sym (sum_less t s b a c (beq-swap s t false e) l)
-    go (level e h) = sum-none s t a b c e h ∙ sym (sum-none t s b a c (beq-swap s t false e) (sym h))
+    go (alike e) = sum_like s t a b c e ∙ ap₂ (λ (x : Bool) (n : ℕ). round binary64 x n c) (beq_same s t e) (add_comm a b) ∙ sym (sum_like t s b a c (beq_swap s t true e))
+    go (less e l) = sum_less s t a b c e l ∙ sym (sum_more t s b a c (beq_swap s t false e) l)
+    go (more e l) = sum_more s t a b c e l ∙ sym (sum_less t s b a c (beq_swap s t false e) l)
+    go (level e h) = sum-none s t a b c e h ∙ sym (sum-none t s b a c (beq_swap s t false e) (sym h))
 
 -- ---- a sticky number for the smaller one: 2 * k units and x, where w units stand for x
-pub sticky-sum : (s t : Bool) (k x w a b : ℕ) → Near x w (2 ^ a) → (x ≡ w * 2 ^ a) ⊎ (w + 2 ^ 62 ≤ 2 * k)
+pub sticky_sum : (s t : Bool) (k x w a b : ℕ) → Near x w (2 ^ a) → (x ≡ w * 2 ^ a) ⊎ (w + 2 ^ 62 ≤ 2 * k)
     → sum binary64 s (2 * k * 2 ^ a) t x (2 ^ b) ≡ sum binary64 s (2 * k * 2 ^ a) t (w * 2 ^ a) (2 ^ b)
-sticky-sum s t k x w a b n (inl e) = ap (λ (y : ℕ). sum binary64 s (2 * k * 2 ^ a) t y (2 ^ b)) e
-sticky-sum s t k x w a b n (inr big) = go (beq s t) refl
+sticky_sum s t k x w a b n (inl e) = ap (λ (y : ℕ). sum binary64 s (2 * k * 2 ^ a) t y (2 ^ b)) e
+sticky_sum s t k x w a b n (inr big) = go (beq s t) refl
   where
     u : ℕ
     u = 2 ^ a
@@ -107,12 +107,12 @@ sticky-sum s t k x w a b n (inr big) = go (beq s t) refl
     go : (x' : Bool) → beq s t ≡ x' → sum binary64 s (2 * k * 2 ^ a) t x (2 ^ b) ≡ sum binary64 s (2 * k * 2 ^ a) t (w * 2 ^ a) (2 ^ b)
     go true e =
         sum_like s t (2 * k * 2 ^ a) x (2 ^ b) e
-        ∙ sticky-round s (2 * k * 2 ^ a + x) (2 * k + w) a b (near-more x w (2 ^ a) k n) (omega (arith, big))
+        ∙ sticky_round s (2 * k * 2 ^ a + x) (2 * k + w) a b (near_more x w (2 ^ a) k n) (omega (arith, big))
         ∙ ap (λ (z : ℕ). round binary64 s z (2 ^ b)) (add-mul (2 * k) w (2 ^ a))
         ∙ sym (sum_like s t (2 * k * 2 ^ a) (w * 2 ^ a) (2 ^ b) e)
     go false e =
         sum_more s t (2 * k * 2 ^ a) x (2 ^ b) e (under n)
-        ∙ sticky-round s (2 * k * 2 ^ a - x) (2 * k - w) a b (near-less x w (2 ^ a) k n (omega (arith, big)) (native.Mathlib.Nat.le_of_lt (under n))) (omega (arith, big))
+        ∙ sticky_round s (2 * k * 2 ^ a - x) (2 * k - w) a b (near_less x w (2 ^ a) k n (omega (arith, big)) (native.Mathlib.Nat.le_of_lt (under n))) (omega (arith, big))
         ∙ ap (λ (z : ℕ). round binary64 s z (2 ^ b)) (sub_out ((2 * k - w) * 2 ^ a) (w * 2 ^ a) (2 * k * 2 ^ a) split)
         ∙ sym (sum_more s t (2 * k * 2 ^ a) (w * 2 ^ a) (2 ^ b) e (omega (arith, top, strict, pow_pos a)))
       where
@@ -129,14 +129,14 @@ crossed a y x c d q e = one ∙ ap (λ (i : ℕ). i * (y * c)) e ∙ two
     two : q * x * (y * c) ≡ q * c * (y * x)
     two = omega arith
 
--- ---- `fusedMultiplyAdd` of finite values
+-- ---- `fused_multiply_add` of finite values
 abbrev Finite : Float → Type 0
 Finite nan = ⊥
 Finite (inf s) = ⊥
 Finite (fin s m e) = Unit
 
 pub fused_at : (x y z : Float) (r s t : Bool) (p q n c d g : ℕ) → 0 < c → 0 < d → 0 < g → HasValue x r p c → HasValue y s q d → HasValue z t n g
-    → fusedMultiplyAdd binary64 x y z ≡ sum binary64 (unlike r s) (p * q * g) t (n * (c * d)) (c * d * g)
+    → fused_multiply_add binary64 x y z ≡ sum binary64 (unlike r s) (p * q * g) t (n * (c * d)) (c * d * g)
 fused_at nan y z r s t p q n c d g C D G X Y Z = absurd X
 fused_at (inf u) y z r s t p q n c d g C D G X Y Z = absurd X
 fused_at (fin u m e) nan z r s t p q n c d g C D G X Y Z = absurd Y
@@ -150,8 +150,8 @@ fused_at (fin u m e) (fin v k f) (fin w l h) r s t p q n c d g C D G X Y Z =
     (mul-pos (mul-pos (down_pos e) (down_pos f)) (down_pos h)) (mul-pos (mul-pos C D) G)
     (left (m * up e) (k * up f) (down h) (down e) (down f) X.1 Y.1) (crossed (l * up h) (down e * down f) (down h) (c * d) g n Z.1)
   where
-    is : (u v w : Bool) → fusedMultiplyAdd binary64 (fin u m e) (fin v k f) (fin w l h) ≡ sum binary64 (unlike u v) (m * up e * (k * up f) * down h) w (l * up h * (down e * down f)) (down e * down f * down h)
-    is u v w = unfold fusedMultiplyAdd product plusProduct in refl
+    is : (u v w : Bool) → fused_multiply_add binary64 (fin u m e) (fin v k f) (fin w l h) ≡ sum binary64 (unlike u v) (m * up e * (k * up f) * down h) w (l * up h * (down e * down f)) (down e * down f * down h)
+    is u v w = unfold fused_multiply_add product plus_product in refl
 
     left : (a b x y z : ℕ) → a * c ≡ p * y → b * d ≡ q * z → a * b * x * (c * d * g) ≡ p * q * g * (y * z * x)
     left a b x y z α β = one ∙ ap₂ (λ (i j : ℕ). i * j * (x * g)) α β ∙ two

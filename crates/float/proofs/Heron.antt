@@ -88,8 +88,8 @@ module _ (m : ℕ) (lo : 2 ^ 52 ≤ m) (hi : m < 2 ^ 54) where
 abbrev pub long : ℕ → ℕ → ℕ
 long m w = (w + m / w) * 2 ^ 25 + m % w * 2 ^ 25 / w
 
-pub long-is : (m w : ℕ) → 0 < w → long m w ≡ middle (m * 2 ^ 52) (w * 2 ^ 26)
-long-is m w p = go (m / w) (m % w) (m % w * 2 ^ 25 / w) (m % w * 2 ^ 25 % w) (div-add-mod' m w) (div-add-mod' (m % w * 2 ^ 25) w) (mod-lt (m % w * 2 ^ 25) p)
+pub long_is : (m w : ℕ) → 0 < w → long m w ≡ middle (m * 2 ^ 52) (w * 2 ^ 26)
+long_is m w p = go (m / w) (m % w) (m % w * 2 ^ 25 / w) (m % w * 2 ^ 25 % w) (div-add-mod' m w) (div-add-mod' (m % w * 2 ^ 25) w) (mod-lt (m % w * 2 ^ 25) p)
   where
     pos : 0 < w * 2 ^ 26
     pos = omega (arith, p)
@@ -140,8 +140,8 @@ close m w t p off f = go (m / w) (m % w) (m % w * 2 ^ 25 / w) (m % w * 2 ^ 25 % 
 
 -- ---- the last mend
 -- the test of the code is that of the definition
-pub above-is : (n q under over : ℕ) → q * q + under ≡ n + over → cond (leb over under) 0 1 ≡ above n q
-above-is n q under over is = go (leb over under) (leb→le over under) (nleb→lt over under)
+pub above_is : (n q under over : ℕ) → q * q + under ≡ n + over → cond (leb over under) 0 1 ≡ above n q
+above_is n q under over is = go (leb over under) (leb→le over under) (nleb→lt over under)
   where
     go : (b : Bool) → (T b → over ≤ under) → (T (not b) → under < over) → cond b 0 1 ≡ above n q
     go true y x = let l = y tt in sym (ap (λ (b : Bool). cond b 0 1) (le-leb (q * q) n (omega (arith, is, l))))
@@ -164,7 +164,7 @@ lowered n q under over near big = go (leb (q * q) n) (leb→le (q * q) n) (nleb�
 
 -- ---- "in a proved eight steps at most"
 lengthened : (m w : ℕ) → m < 2 ^ 54 → Near m w 2 → IsWholeRoot (m * 2 ^ 52) (middle (m * 2 ^ 52) (w * 2 ^ 26) - above (m * 2 ^ 52) (middle (m * 2 ^ 52) (w * 2 ^ 26)))
-lengthened m w hi near = subst (λ (q : ℕ). IsWholeRoot (m * 2 ^ 52) (q - above (m * 2 ^ 52) q)) (long-is m w positive) (by (leb (w * 2 ^ 26) (long m w)) (leb→le (w * 2 ^ 26) (long m w)) (nleb→lt (w * 2 ^ 26) (long m w)))
+lengthened m w hi near = subst (λ (q : ℕ). IsWholeRoot (m * 2 ^ 52) (q - above (m * 2 ^ 52) q)) (long_is m w positive) (by (leb (w * 2 ^ 26) (long m w)) (leb→le (w * 2 ^ 26) (long m w)) (nleb→lt (w * 2 ^ 26) (long m w)))
   where
     positive : 0 < w
     positive = omega (arith, near.1)

@@ -11,7 +11,7 @@ use lib.Ieee.{Float, nan, inf, fin, binary64, size, nearest, odd, units, round, 
 use lib.Ieee.Bits.{is_false, nan_bits_is, nan_bits_above, of_bits-to_bits}
 use lib.Ieee.Fits.{round_is}
 use Rattle.float.specs.Word.{value, mark, word, flag}
-use Rattle.float.proofs.Nan.{only_nan, not-nan}
+use Rattle.float.proofs.Nan.{only_nan, not_nan}
 
 -- ---- numbers
 pub number_word : (ws : List ℕ) (x : Float) → is_nan x ≡ false → to_bits binary64 x ≡ word ws x
@@ -22,7 +22,7 @@ number_word ws (fin s m d) e = refl
 
 -- a word that is no NaN's
 pub number : (a : ℕ) → a % 2 ^ 63 ≤ 2047 * 2 ^ 52 → is_nan (value a) ≡ false
-number a h = is_false (is_nan (value a)) (not-nan a h)
+number a h = is_false (is_nan (value a)) (not_nan a h)
 
 -- a value that was rounded, or is a sum of two finite ones
 odd_number : (d : ℕ) (s : Bool) (q k l : ℕ) → is_nan (odd d s q k l) ≡ false
@@ -52,8 +52,8 @@ sum_number s a t b c =
     (either_number (ltb a b) (round binary64 t (b - a) c) (round binary64 (s && ltb b a) (a - b) c) (round_number t (b - a) c) (round_number (s && ltb b a) (a - b) c))
 
 -- ---- NaNs
-pub nan-word : (ws : List ℕ) (x : Float) → is_nan x ≡ true → mark ws ≡ word ws x
-nan-word ws x e = ap (word ws) (sym (only_nan x e))
+pub nan_word : (ws : List ℕ) (x : Float) → is_nan x ≡ true → mark ws ≡ word ws x
+nan_word ws x e = ap (word ws) (sym (only_nan x e))
 
 -- the first operand, where it is a NaN, and where it is none
 pub marked : (a : ℕ) (ws : List ℕ) → is_nan (value a) ≡ true → bit_or a (2 ^ 51) ≡ mark (a ∷ ws)
@@ -77,8 +77,8 @@ pub compared : (test : Float → Float → Bool) {x y u v : Float} {r : ℕ} →
 compared test e p q = e ∙ ap₂ (λ (x y : Float). flag (test x y)) p q
 
 -- a NaN's pattern with bit 51 set is one
-still-nan : (a : ℕ) → is_nan (value a) ≡ true → is_nan (value (bit_or a (2 ^ 51))) ≡ true
-still-nan a e =
+still_nan : (a : ℕ) → is_nan (value a) ≡ true → is_nan (value (bit_or a (2 ^ 51))) ≡ true
+still_nan a e =
     let above = ltb-true (2047 * 2 ^ 52) (a % 2 ^ 63) (sym (nan_bits_above binary64 a) ∙ nan_bits_is binary64 a ∙ e) in
     let r = a % 2 ^ 63 in
     sym (nan_bits_is binary64 (bit_or a (2 ^ 51)))
@@ -86,16 +86,16 @@ still-nan a e =
     ∙ ap (ltb (2047 * 2 ^ 52)) (or_mod a (2 ^ 51) 63)
     ∙ lt-ltb (2047 * 2 ^ 52) (bit_or r (2 ^ 51)) (omega (arith, above, or_add_and r (2 ^ 51), and_le_r r (2 ^ 51)))
 
-mark-nan : (ws : List ℕ) → is_nan (value (mark ws)) ≡ true
-mark-nan [] = unfold of_bits is_nan in refl
-mark-nan (a ∷ ws) = go (is_nan (value a)) refl (mark-nan ws)
+mark_nan : (ws : List ℕ) → is_nan (value (mark ws)) ≡ true
+mark_nan [] = unfold of_bits is_nan in refl
+mark_nan (a ∷ ws) = go (is_nan (value a)) refl (mark_nan ws)
   where
     go : (b : Bool) → is_nan (value a) ≡ b → is_nan (value (mark ws)) ≡ true → is_nan (value (cond b (bit_or a (2 ^ 51)) (mark ws))) ≡ true
-    go true e ih = still-nan a e
+    go true e ih = still_nan a e
     go false e ih = ih
 
 -- a result's value is read back from its word, whatever its operands
-pub value-word : (ws : List ℕ) (x : Float) → T (fits binary64 x) → value (word ws x) ≡ x
-value-word ws nan h = only_nan (value (mark ws)) (mark-nan ws)
-value-word ws (inf s) h = of_bits-to_bits binary64 (inf s) h
-value-word ws (fin s m e) h = of_bits-to_bits binary64 (fin s m e) h
+pub value_word : (ws : List ℕ) (x : Float) → T (fits binary64 x) → value (word ws x) ≡ x
+value_word ws nan h = only_nan (value (mark ws)) (mark_nan ws)
+value_word ws (inf s) h = of_bits-to_bits binary64 (inf s) h
+value_word ws (fin s m e) h = of_bits-to_bits binary64 (fin s m e) h

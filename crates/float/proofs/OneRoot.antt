@@ -51,8 +51,8 @@ one_unit n m k l N M e = go (compare k l) (cmp k l)
     go Ordering.gt h = absurd (larger-unit m n (4 ^ l) (4 ^ k) M.1 N.0 (four-pos l) (next l k h) (sym e))
 
 -- and of one number there is one nearest root
-no-larger : (n r s : ℕ) → (2 * r - 1) * (2 * r - 1) < 4 * n → 4 * n < (2 * s + 1) * (2 * s + 1) → r ≤ s
-no-larger n r s R S =
+no_larger : (n r s : ℕ) → (2 * r - 1) * (2 * r - 1) < 4 * n → 4 * n < (2 * s + 1) * (2 * s + 1) → r ≤ s
+no_larger n r s R S =
     le_of_suc-le-suc (lt_of_not-le (λ (h : suc s ≤ r).
     let square : (2 * s + 1) * (2 * s + 1) ≤ (2 * r - 1) * (2 * r - 1) = mul-le-mul (omega (arith, h)) (omega (arith, h)) in
     lt_irrefl (4 * n) (lt_of_lt_of_le S (le_trans square (omega (arith, R))))))
@@ -64,8 +64,8 @@ one-root x y z a b =
     let n : a.n ≡ b.n =
     eq_of_mul-eq-mul_right (4 ^ b.k) (one-le-pow b.k 4 (omega arith)) a.n b.n (ap (λ (j : ℕ). a.n * 4 ^ j) (sym k) ∙ same) in
     let r : a.r ≡ b.r =
-    le_antisymm (no-larger b.n a.r b.r (subst (λ (m : ℕ). (2 * a.r - 1) * (2 * a.r - 1) < 4 * m) n a.nearest.0) b.nearest.1)
-    (no-larger a.n b.r a.r (subst (λ (m : ℕ). (2 * b.r - 1) * (2 * b.r - 1) < 4 * m) (sym n) b.nearest.0) a.nearest.1) in
+    le_antisymm (no_larger b.n a.r b.r (subst (λ (m : ℕ). (2 * a.r - 1) * (2 * a.r - 1) < 4 * m) n a.nearest.0) b.nearest.1)
+    (no_larger a.n b.r a.r (subst (λ (m : ℕ). (2 * b.r - 1) * (2 * b.r - 1) < 4 * m) (sym n) b.nearest.0) a.nearest.1) in
     one_word y (a.r * 2 ^ a.k) a.result
     ∙ ap (λ (s : ℕ). word_of (s * 2 ^ a.k)) r
     ∙ ap (λ (j : ℕ). word_of (b.r * 2 ^ j)) k

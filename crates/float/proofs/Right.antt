@@ -16,11 +16,11 @@ use lib.Ieee.{Float, binary64, up, down, nearest, unlike, round, sum}
 use lib.Ieee.Bits.{is_false}
 use lib.Ieee.Exact.{HasValue, units_val}
 use lib.Ieee.Fits.{down_pos}
-use Rattle.float.specs.Laws.{IsWholeRoot, NearestRoot, RootLaw, signed, roundSigned, MulAddLaw, bit, IfElseLaw}
+use Rattle.float.specs.Laws.{IsWholeRoot, NearestRoot, RootLaw, signed, round_signed, MulAddLaw, bit, IfElseLaw}
 use Rattle.float.specs.Biased.{biased}
-use Rattle.float.specs.Root.{wholeRoot, squareRoot}
-use Rattle.float.specs.Fused.{fusedMultiplyAdd}
-use Rattle.float.specs.Word.{value, ifElse}
+use Rattle.float.specs.Root.{whole_root, square_root}
+use Rattle.float.specs.Fused.{fused_multiply_add}
+use Rattle.float.specs.Word.{value, if_else}
 use Rattle.float.proofs.Closest.{Cmp, cmp}
 use Rattle.float.proofs.Fields.{rescale, unpacked}
 use Rattle.float.proofs.SquareRoot as SquareRoot
@@ -28,7 +28,7 @@ use Rattle.float.proofs.FusedSum.{fused_at}
 use Rattle.float.proofs.Sums.{sum_like, sum_less, sum_more, sum-none}
 
 -- ---- Root
-pub whole-root : (n : ℕ) → IsWholeRoot n (wholeRoot n)
+pub whole-root : (n : ℕ) → IsWholeRoot n (whole_root n)
 whole-root n = SquareRoot.whole-root n
 
 -- the radicand n = q * q + r, scaled to 105 or 106 digits
@@ -37,7 +37,7 @@ module _ (x : Float) (m : ℕ) (e : ℤ) (small : mag e < 1200) (lo : 2 ^ 52 ≤
   M = m * 2 ^ (biased e % 2)
 
   abbrev q : ℕ
-  q = wholeRoot (M * 2 ^ 52)
+  q = whole_root (M * 2 ^ 52)
 
   abbrev r : ℕ
   r = M * 2 ^ 52 - q * q
@@ -69,7 +69,7 @@ module _ (x : Float) (m : ℕ) (e : ℤ) (small : mag e < 1200) (lo : 2 ^ 52 ≤
       lt_of_lt_of_le (shl_lt 54 k (omega arith)) (pow_mono {i = 54 + k} {j = 2098} (omega (arith, l)))
 
   by : (o : Ordering) → Cmp o (4 * (q * q + r)) ((2 * q + 1) * (2 * q + 1)) → (2 ^ 52 ≤ nearest q o) × (nearest q o ≤ 2 ^ 53)
-      → ((2 * nearest q o - 1) * (2 * nearest q o - 1) < 4 * (q * q + r)) × (4 * (q * q + r) < (2 * nearest q o + 1) * (2 * nearest q o + 1)) → NearestRoot x (squareRoot binary64 x)
+      → ((2 * nearest q o - 1) * (2 * nearest q o - 1) < 4 * (q * q + r)) × (4 * (q * q + r) < (2 * nearest q o + 1) * (2 * nearest q o + 1)) → NearestRoot x (square_root binary64 x)
   by o h digits near = record {
     n = q * q + r;
     r = nearest q o;
@@ -84,7 +84,7 @@ module _ (x : Float) (m : ℕ) (e : ℤ) (small : mag e < 1200) (lo : 2 ^ 52 ≤
     nearest = near;
   }
 
-  pub nearest-root : NearestRoot x (squareRoot binary64 x)
+  pub nearest-root : NearestRoot x (square_root binary64 x)
   nearest-root = go (compare r (suc q)) (cmp r (suc q))
     where
       below : (q r : ℕ) → 0 < q → (2 * q - 1) * (2 * q - 1) < 4 * (q * q + r)
@@ -93,115 +93,115 @@ module _ (x : Float) (m : ℕ) (e : ℤ) (small : mag e < 1200) (lo : 2 ^ 52 ≤
           below_suc : (j q r : ℕ) → q ≡ j + 1 → (2 * q - 1) * (2 * q - 1) < 4 * (q * q + r)
           below_suc j q r e = subst (λ (x : ℕ). (2 * x - 1) * (2 * x - 1) < 4 * (x * x + r)) (sym e) (subst (λ (x : ℕ). x * x < 4 * ((j + 1) * (j + 1) + r)) {x = 2 * j + 1} {y = 2 * (j + 1) - 1} (omega arith) (omega arith))
 
-      at_most : r ≤ q → NearestRoot x (squareRoot binary64 x)
+      at_most : r ≤ q → NearestRoot x (square_root binary64 x)
       at_most h = by Ordering.lt (omega arith) (q-lo, omega (arith, q-hi)) (below q r (omega (arith, q-lo)), omega arith)
 
-      above : q < r → NearestRoot x (squareRoot binary64 x)
+      above : q < r → NearestRoot x (square_root binary64 x)
       above h = by Ordering.gt (omega arith) (omega (arith, q-lo), omega (arith, q-hi)) (next q r h, omega (arith, rest))
         where
           next : (q r : ℕ) → q < r → (2 * suc q - 1) * (2 * suc q - 1) < 4 * (q * q + r)
           next q r h = subst (λ (x : ℕ). x * x < 4 * (q * q + r)) {x = 2 * q + 1} {y = 2 * suc q - 1} (omega arith) (omega arith)
 
-      go : (o : Ordering) → Cmp o r (suc q) → NearestRoot x (squareRoot binary64 x)
+      go : (o : Ordering) → Cmp o r (suc q) → NearestRoot x (square_root binary64 x)
       go Ordering.lt h = at_most (omega arith)
       go Ordering.eq h = above (omega arith)
       go Ordering.gt h = above (omega arith)
 
-pub root-nearest : RootLaw (squareRoot binary64)
-root-nearest a p h =
+pub root_nearest : RootLaw (square_root binary64)
+root_nearest a p h =
     let u = unpacked a (omega arith) (omega arith) in
     let t = u.2 in
     nearest-root (value a) u.0 u.1 t.small t.lo t.hi
     (subst (λ (s : Bool). HasValue (value a) s (u.0 * up u.1) (down u.1)) (is_false (leb (2 ^ 63) a) (lt→nleb (2 ^ 63) a (omega arith))) t.value)
 
 -- ---- MulAdd
-minus-nothing : (n : ℕ) → n ≡ 0 → neg_ℤ (pos n) ≡ pos n
-minus-nothing n e = subst (λ (x : ℕ). neg_ℤ (pos x) ≡ pos x) (sym e) refl
+minus_nothing : (n : ℕ) → n ≡ 0 → neg_ℤ (pos n) ≡ pos n
+minus_nothing n e = subst (λ (x : ℕ). neg_ℤ (pos x) ≡ pos x) (sym e) refl
 
-signed-times : (s t : Bool) (a b : ℕ) → signed s a *ℤ signed t b ≡ signed (unlike s t) (a * b)
-signed-times false false a b = refl
-signed-times false true a zero = sym (minus-nothing (a * 0) (mul-zero a))
-signed-times false true a (suc b) = refl
-signed-times true false zero b = sym (minus-nothing (0 * b) (zero-mul b))
-signed-times true false (suc a) b = refl
-signed-times true true zero zero = refl
-signed-times true true zero (suc b) = minus-nothing (0 * suc b) (zero-mul (suc b))
-signed-times true true (suc a) zero = minus-nothing (suc a * 0) (mul-zero (suc a))
-signed-times true true (suc a) (suc b) = refl
+signed_times : (s t : Bool) (a b : ℕ) → signed s a *ℤ signed t b ≡ signed (unlike s t) (a * b)
+signed_times false false a b = refl
+signed_times false true a zero = sym (minus_nothing (a * 0) (mul-zero a))
+signed_times false true a (suc b) = refl
+signed_times true false zero b = sym (minus_nothing (0 * b) (zero-mul b))
+signed_times true false (suc a) b = refl
+signed_times true true zero zero = refl
+signed_times true true zero (suc b) = minus_nothing (0 * suc b) (zero-mul (suc b))
+signed_times true true (suc a) zero = minus_nothing (suc a * 0) (mul-zero (suc a))
+signed_times true true (suc a) (suc b) = refl
 
-signed-scaled : (s : Bool) (a b : ℕ) → signed s a *ℤ pos b ≡ signed s (a * b)
-signed-scaled true a b = signed-times true false a b
-signed-scaled false a b = signed-times false false a b
+signed_scaled : (s : Bool) (a b : ℕ) → signed s a *ℤ pos b ≡ signed s (a * b)
+signed_scaled true a b = signed_times true false a b
+signed_scaled false a b = signed_times false false a b
 
 -- a whole number that is not zero does not look at the zero's sign
-round-plus : (s : Bool) (n d : ℕ) → 0 < n → roundSigned s (pos n) d ≡ round binary64 false n d
-round-plus s zero d h = absurd (lt_irrefl 0 h)
-round-plus s (suc n) d h = refl
+round_plus : (s : Bool) (n d : ℕ) → 0 < n → round_signed s (pos n) d ≡ round binary64 false n d
+round_plus s zero d h = absurd (lt_irrefl 0 h)
+round_plus s (suc n) d h = refl
 
 -- a - b, by which is larger
 module _ (z : Bool) (a b d : ℕ) where
-  difference-less : a < b → roundSigned z (sub_ℕ a b) d ≡ round binary64 true (b - a) d
+  difference-less : a < b → round_signed z (sub_ℕ a b) d ≡ round binary64 true (b - a) d
   difference-less h =
-      ap (λ (x : Bool). roundSigned z (cond x (negsuc (b - suc a)) (pos (a - b))) d) (lt-ltb a b h)
+      ap (λ (x : Bool). round_signed z (cond x (negsuc (b - suc a)) (pos (a - b))) d) (lt-ltb a b h)
       ∙ ap (λ (n : ℕ). round binary64 true n d) {x = suc (b - suc a)} {y = b - a} (omega arith)
 
-  difference-rest : b ≤ a → roundSigned z (sub_ℕ a b) d ≡ roundSigned z (pos (a - b)) d
-  difference-rest h = ap (λ (x : Bool). roundSigned z (cond x (negsuc (b - suc a)) (pos (a - b))) d) (le-ltb a b h)
+  difference-rest : b ≤ a → round_signed z (sub_ℕ a b) d ≡ round_signed z (pos (a - b)) d
+  difference-rest h = ap (λ (x : Bool). round_signed z (cond x (negsuc (b - suc a)) (pos (a - b))) d) (le-ltb a b h)
 
-  difference-more : b < a → roundSigned z (sub_ℕ a b) d ≡ round binary64 false (a - b) d
-  difference-more h = difference-rest (omega arith) ∙ round-plus z (a - b) d (omega arith)
+  difference-more : b < a → round_signed z (sub_ℕ a b) d ≡ round binary64 false (a - b) d
+  difference-more h = difference-rest (omega arith) ∙ round_plus z (a - b) d (omega arith)
 
-  difference-none : a ≡ b → roundSigned z (sub_ℕ a b) d ≡ round binary64 z 0 d
-  difference-none h = difference-rest (omega arith) ∙ ap (λ (n : ℕ). roundSigned z (pos n) d) {x = a - b} {y = 0} (omega arith)
+  difference-none : a ≡ b → round_signed z (sub_ℕ a b) d ≡ round binary64 z 0 d
+  difference-none h = difference-rest (omega arith) ∙ ap (λ (n : ℕ). round_signed z (pos n) d) {x = a - b} {y = 0} (omega arith)
 
-plus-minus : (a b : ℕ) → pos a +ℤ neg_ℤ (pos b) ≡ sub_ℕ a b
-plus-minus a zero = sym (ap (λ (x : Bool). cond x (negsuc (0 - suc a)) (pos (a - 0))) (le-ltb a 0 (omega arith)) ∙ ap pos {x = a - 0} {y = a + 0} (omega arith))
-plus-minus a (suc b) = refl
+plus_minus : (a b : ℕ) → pos a +ℤ neg_ℤ (pos b) ≡ sub_ℕ a b
+plus_minus a zero = sym (ap (λ (x : Bool). cond x (negsuc (0 - suc a)) (pos (a - 0))) (le-ltb a 0 (omega arith)) ∙ ap pos {x = a - 0} {y = a + 0} (omega arith))
+plus_minus a (suc b) = refl
 
 minus_minus : (a b : ℕ) → neg_ℤ (pos a) +ℤ neg_ℤ (pos b) ≡ neg_ℤ (pos (a + b))
 minus_minus a b = sym (neg_ℤ-+ℤ (pos a) (pos b))
 
-round-minus : (n d : ℕ) → roundSigned true (neg_ℤ (pos n)) d ≡ round binary64 true n d
-round-minus zero d = refl
-round-minus (suc n) d = refl
+round_minus : (n d : ℕ) → round_signed true (neg_ℤ (pos n)) d ≡ round binary64 true n d
+round_minus zero d = refl
+round_minus (suc n) d = refl
 
-round-plus-any : (n d : ℕ) → roundSigned false (pos n) d ≡ round binary64 false n d
-round-plus-any zero d = refl
-round-plus-any (suc n) d = refl
+round_plus_any : (n d : ℕ) → round_signed false (pos n) d ≡ round binary64 false n d
+round_plus_any zero d = refl
+round_plus_any (suc n) d = refl
 
-sum-signed : (s t : Bool) (a b d : ℕ) → sum binary64 s a t b d ≡ roundSigned (s && t) (signed s a +ℤ signed t b) d
-sum-signed false false a b d = sum_like false false a b d refl ∙ sym (round-plus-any (a + b) d)
-sum-signed true true a b d = sum_like true true a b d refl ∙ sym (ap (λ (x : ℤ). roundSigned true x d) (minus_minus a b) ∙ round-minus (a + b) d)
-sum-signed false true a b d = go (compare a b) (cmp a b) ∙ sym (ap (λ (x : ℤ). roundSigned false x d) (plus-minus a b))
+sum-signed : (s t : Bool) (a b d : ℕ) → sum binary64 s a t b d ≡ round_signed (s && t) (signed s a +ℤ signed t b) d
+sum-signed false false a b d = sum_like false false a b d refl ∙ sym (round_plus_any (a + b) d)
+sum-signed true true a b d = sum_like true true a b d refl ∙ sym (ap (λ (x : ℤ). round_signed true x d) (minus_minus a b) ∙ round_minus (a + b) d)
+sum-signed false true a b d = go (compare a b) (cmp a b) ∙ sym (ap (λ (x : ℤ). round_signed false x d) (plus_minus a b))
   where
-    go : (o : Ordering) → Cmp o a b → sum binary64 false a true b d ≡ roundSigned false (sub_ℕ a b) d
+    go : (o : Ordering) → Cmp o a b → sum binary64 false a true b d ≡ round_signed false (sub_ℕ a b) d
     go Ordering.lt h = sum_less false true a b d refl h ∙ sym (difference-less false a b d h)
     go Ordering.eq h = sum-none false true a b d refl h ∙ sym (difference-none false a b d h)
     go Ordering.gt h = sum_more false true a b d refl h ∙ sym (difference-more false a b d h)
-sum-signed true false a b d = go (compare a b) (cmp a b) ∙ sym (ap (λ (x : ℤ). roundSigned false x d) (+ℤ_comm (neg_ℤ (pos a)) (pos b) ∙ plus-minus b a))
+sum-signed true false a b d = go (compare a b) (cmp a b) ∙ sym (ap (λ (x : ℤ). round_signed false x d) (+ℤ_comm (neg_ℤ (pos a)) (pos b) ∙ plus_minus b a))
   where
-    go : (o : Ordering) → Cmp o a b → sum binary64 true a false b d ≡ roundSigned false (sub_ℕ b a) d
+    go : (o : Ordering) → Cmp o a b → sum binary64 true a false b d ≡ round_signed false (sub_ℕ b a) d
     go Ordering.lt h = sum_less true false a b d refl h ∙ sym (difference-more false b a d h)
     go Ordering.eq h = sum-none true false a b d refl h ∙ sym (difference-none false b a d (sym h))
     go Ordering.gt h = sum_more true false a b d refl h ∙ sym (difference-less false b a d h)
 
-pub mul-add-exact : MulAddLaw (fusedMultiplyAdd binary64)
-mul-add-exact x y z r s t p q n c d g C D G X Y Z =
+pub mul-add_exact : MulAddLaw (fused_multiply_add binary64)
+mul-add_exact x y z r s t p q n c d g C D G X Y Z =
     fused_at x y z r s t p q n c d g C D G X Y Z
     ∙ sum-signed (unlike r s) t (p * q * g) (n * (c * d)) (c * d * g)
-    ∙ ap₂ (λ (i j : ℤ). roundSigned (unlike r s && t) (i +ℤ j) (c * d * g))
-    (sym (ap (λ (i : ℤ). i *ℤ pos g) (signed-times r s p q) ∙ signed-scaled (unlike r s) (p * q) g)) (sym (signed-scaled t n (c * d)))
+    ∙ ap₂ (λ (i j : ℤ). round_signed (unlike r s && t) (i +ℤ j) (c * d * g))
+    (sym (ap (λ (i : ℤ). i *ℤ pos g) (signed_times r s p q) ∙ signed_scaled (unlike r s) (p * q) g)) (sym (signed_scaled t n (c * d)))
 
 -- ---- IfElse
 -- the lowest bit of a conjunction, a disjunction
 and_low : (a b : ℕ) → bit_and a b % 2 ≡ min (a % 2) (b % 2)
 and_low a b = omega (arith, and_step a b)
 
-or-low : (a b : ℕ) → bit_or a b % 2 ≡ max (a % 2) (b % 2)
-or-low a b = omega (arith, or_step a b)
+or_low : (a b : ℕ) → bit_or a b % 2 ≡ max (a % 2) (b % 2)
+or_low a b = omega (arith, or_step a b)
 
-not-bit : (i c : ℕ) → i < 64 → c < 2 ^ 64 → bit i (2 ^ 64 - 1 - c) ≡ 1 - bit i c
-not-bit i c h l = go (c / 2 ^ i) (c % 2 ^ i) (2 ^ i) (2 ^ (63 - i)) (div-add-mod' c (2 ^ i)) (mod-lt c (pow_pos i)) whole
+not_bit : (i c : ℕ) → i < 64 → c < 2 ^ 64 → bit i (2 ^ 64 - 1 - c) ≡ 1 - bit i c
+not_bit i c h l = go (c / 2 ^ i) (c % 2 ^ i) (2 ^ i) (2 ^ (63 - i)) (div-add-mod' c (2 ^ i)) (mod-lt c (pow_pos i)) whole
   where
     whole : 2 * 2 ^ (63 - i) * 2 ^ i ≡ 2 ^ 64
     whole = mul_assoc 2 (2 ^ (63 - i)) (2 ^ i) ∙ ap (λ (x : ℕ). 2 * x) (sym (pow-add 2 (63 - i) i) ∙ ap (λ (x : ℕ). 2 ^ x) {x = 63 - i + i} {y = 63} (omega arith))
@@ -221,12 +221,12 @@ not-bit i c h l = go (c / 2 ^ i) (c % 2 ^ i) (2 ^ i) (2 ^ (63 - i)) (div-add-mod
         over : (w : ℕ) → w * u + q * u + u ≡ 2 ^ 64 → 2 ^ 64 - 1 - c < (w + 1) * u
         over w h = omega arith
 
-pub if-else-bit : IfElseLaw ifElse
-if-else-bit i c t f i_lt c_lt =
+pub if_else_bit : IfElseLaw if_else
+if_else_bit i c t f i_lt c_lt =
     ap (λ (x : ℕ). x % 2) (or_shr (bit_and c t) (bit_and (2 ^ 64 - 1 - c) f) i)
-    ∙ or-low (bit_and c t / 2 ^ i) (bit_and (2 ^ 64 - 1 - c) f / 2 ^ i)
+    ∙ or_low (bit_and c t / 2 ^ i) (bit_and (2 ^ 64 - 1 - c) f / 2 ^ i)
     ∙ ap₂ max (ap (λ (x : ℕ). x % 2) (and_shr c t i) ∙ and_low (c / 2 ^ i) (t / 2 ^ i))
-    (ap (λ (x : ℕ). x % 2) (and_shr (2 ^ 64 - 1 - c) f i) ∙ and_low ((2 ^ 64 - 1 - c) / 2 ^ i) (f / 2 ^ i) ∙ ap (λ (x : ℕ). min x (bit i f)) (not-bit i c i_lt c_lt))
+    (ap (λ (x : ℕ). x % 2) (and_shr (2 ^ 64 - 1 - c) f i) ∙ and_low ((2 ^ 64 - 1 - c) / 2 ^ i) (f / 2 ^ i) ∙ ap (λ (x : ℕ). min x (bit i f)) (not_bit i c i_lt c_lt))
     ∙ go (bit i c) (bit i t) (bit i f) (mod-lt (c / 2 ^ i) {m = 2} (lit< tt)) (mod-lt (t / 2 ^ i) {m = 2} (lit< tt)) (mod-lt (f / 2 ^ i) {m = 2} (lit< tt))
   where
     go : (x y z : ℕ) → x < 2 → y < 2 → z < 2 → max (min x y) (min (1 - x) z) ≡ cond (eqb x 1) y z

@@ -34,11 +34,11 @@ infinite = 2047 * 2 ^ 52
 abbrev pub saturated : ℕ → ℕ
 saturated n = cond (ltb n (2 ^ 2098)) (magnitude n) infinite
 
-pub value-bits : (x : Float) (s : Bool) (n : ℕ) → HasValue x s n (2 ^ 1074) → to_bits binary64 x ≡ signed s (magnitude n)
+pub value_bits : (x : Float) (s : Bool) (n : ℕ) → HasValue x s n (2 ^ 1074) → to_bits binary64 x ≡ signed s (magnitude n)
 unfolding to_bits
-value-bits nan s n v = absurd v
-value-bits (inf t) s n v = absurd v
-value-bits (fin t m e) s n v =
+value_bits nan s n v = absurd v
+value_bits (inf t) s n v = absurd v
+value_bits (fin t m e) s n v =
     let at : m * up e * 2 ^ 1074 / down e ≡ n = div-eq_of_eq-mul_left (down_pos e) v.1 in
     ap (λ (k : ℕ). cond t (2 ^ 63) 0 + (size k - 53) * 2 ^ 52 + k / 2 ^ (size k - 53)) at
     ∙ ap (λ (b : Bool). cond b (2 ^ 63) 0 + (size n - 53) * 2 ^ 52 + n / 2 ^ (size n - 53)) v.0
@@ -48,12 +48,12 @@ inf_bits : (s : Bool) → to_bits binary64 (inf s) ≡ signed s infinite
 unfolding to_bits
 inf_bits s = refl
 
-units-saturated : (s : Bool) (q k : ℕ) → to_bits binary64 (units binary64 s q k) ≡ signed s (saturated (q * 2 ^ k))
+units_saturated : (s : Bool) (q k : ℕ) → to_bits binary64 (units binary64 s q k) ≡ signed s (saturated (q * 2 ^ k))
 unfolding units
-units-saturated s q k = go (ltb (q * 2 ^ k) (2 ^ 2098))
+units_saturated s q k = go (ltb (q * 2 ^ k) (2 ^ 2098))
   where
     go : (b : Bool) → to_bits binary64 (cond b (odd 54 s q k 1074) (inf s)) ≡ signed s (cond b (magnitude (q * 2 ^ k)) infinite)
-    go true = value-bits (odd 54 s q k 1074) s (q * 2 ^ k) (odd_sign 54 s q k 1074)
+    go true = value_bits (odd 54 s q k 1074) s (q * 2 ^ k) (odd_sign 54 s q k 1074)
     go false = inf_bits s
 
 -- ---- q has its leading digit, or nothing was dropped
@@ -72,8 +72,8 @@ drop-is q k h (inr l) =
     between : (z k : ℕ) → z ≤ 53 + k → 52 + k < z → z - 53 ≡ k
     between z k a b = omega arith
 
-magnitude-is : (q k : ℕ) → q < 2 ^ 53 → Leads q k → magnitude (q * 2 ^ k) ≡ k * 2 ^ 52 + q
-magnitude-is q k h l =
+magnitude_is : (q k : ℕ) → q < 2 ^ 53 → Leads q k → magnitude (q * 2 ^ k) ≡ k * 2 ^ 52 + q
+magnitude_is q k h l =
     ap (λ (j : ℕ). j * 2 ^ 52 + q * 2 ^ k / 2 ^ j) (drop-is q k h l) ∙ ap (λ (x : ℕ). k * 2 ^ 52 + x) (mul-div_cancel q (pow_pos k))
 
 under : (q k : ℕ) → q < 2 ^ 53 → Leads q k → k * 2 ^ 52 + q < infinite → q * 2 ^ k < 2 ^ 2098
@@ -96,13 +96,13 @@ over q k h l u = go l
         none e m = omega arith
     go (inr g) = le_trans (pow_mono {i = 2098} {j = 52 + k} (omega (arith, many))) (le_trans (le_of_eq (pow-add 2 52 k)) (mul-le-mul_right (2 ^ k) g))
 
-saturated-is : (q k : ℕ) → q < 2 ^ 53 → Leads q k → saturated (q * 2 ^ k) ≡ min (k * 2 ^ 52 + q) infinite
-saturated-is q k h l = go (ltb (q * 2 ^ k) (2 ^ 2098)) (ltb→lt (q * 2 ^ k) (2 ^ 2098)) (nltb→le (q * 2 ^ k) (2 ^ 2098))
+saturated_is : (q k : ℕ) → q < 2 ^ 53 → Leads q k → saturated (q * 2 ^ k) ≡ min (k * 2 ^ 52 + q) infinite
+saturated_is q k h l = go (ltb (q * 2 ^ k) (2 ^ 2098)) (ltb→lt (q * 2 ^ k) (2 ^ 2098)) (nltb→le (q * 2 ^ k) (2 ^ 2098))
   where
     go : (b : Bool) → (T b → q * 2 ^ k < 2 ^ 2098) → (T (not b) → 2 ^ 2098 ≤ q * 2 ^ k) → cond b (magnitude (q * 2 ^ k)) infinite ≡ min (k * 2 ^ 52 + q) infinite
     go true y n =
         let below : k * 2 ^ 52 + q < infinite = lt_of_not-le (λ (g : infinite ≤ k * 2 ^ 52 + q). not-le_of_lt (y tt) (over q k h l g)) in
-        magnitude-is q k h l ∙ least (k * 2 ^ 52 + q) infinite below
+        magnitude_is q k h l ∙ least (k * 2 ^ 52 + q) infinite below
       where
         least : (a b : ℕ) → a < b → a ≡ min a b
         least a b h = omega arith
@@ -117,19 +117,19 @@ saturated-is q k h l = go (ltb (q * 2 ^ k) (2 ^ 2098)) (ltb→lt (q * 2 ^ k) (2 
         le-of-not {a} {b} f = native.Mathlib.Nat.le_of_suc-le-suc (lt_of_not-le f)
 
 -- q may be 2 ^ 53: that is 2 ^ 52 with one more digit dropped
-pub units-bits : (s : Bool) (q k : ℕ) → q ≤ 2 ^ 53 → Leads q k → to_bits binary64 (units binary64 s q k) ≡ signed s (min (k * 2 ^ 52 + q) infinite)
-units-bits s q k h l = units-saturated s q k ∙ ap (signed s) (go (eq-or-lt_of_le h))
+pub units_bits : (s : Bool) (q k : ℕ) → q ≤ 2 ^ 53 → Leads q k → to_bits binary64 (units binary64 s q k) ≡ signed s (min (k * 2 ^ 52 + q) infinite)
+units_bits s q k h l = units_saturated s q k ∙ ap (signed s) (go (eq-or-lt_of_le h))
   where
     go : (q ≡ 2 ^ 53) ⊎ (q < 2 ^ 53) → saturated (q * 2 ^ k) ≡ min (k * 2 ^ 52 + q) infinite
     go (inl e) =
         ap (λ (x : ℕ). saturated (x * 2 ^ k)) e
         ∙ ap saturated (mul_assoc (2 ^ 52) 2 (2 ^ k) ∙ ap (λ (x : ℕ). 2 ^ 52 * x) (sym (pow-succ' 2 k)))
-        ∙ saturated-is (2 ^ 52) (suc k) (omega arith) (inr (omega arith))
+        ∙ saturated_is (2 ^ 52) (suc k) (omega arith) (inr (omega arith))
         ∙ moved q k e
       where
         moved : (q k : ℕ) → q ≡ 2 ^ 53 → min (suc k * 2 ^ 52 + 2 ^ 52) infinite ≡ min (k * 2 ^ 52 + q) infinite
         moved q k e = ap (λ (x : ℕ). min x infinite) (omega arith)
-    go (inr g) = saturated-is q k g l
+    go (inr g) = saturated_is q k g l
 
 -- ---- rounding
 abbrev pub dropped : ℕ → ℕ → ℕ
@@ -141,8 +141,8 @@ kept-le n den =
     let u = den * 2 ^ k in
     le_trans (nearest-le (n / u) (compare (n % u * 2) u)) (subst (λ (x : ℕ). x < 2 ^ 53) (div-div-eq-div-mul n den (2 ^ k)) (kept-lt 53 (n / den)))
 
-kept-leads : (n den : ℕ) → Leads (closest n (den * 2 ^ dropped n den)) (dropped n den)
-kept-leads n den = elim (eq-zero-or-pos (dropped n den)) [
+kept_leads : (n den : ℕ) → Leads (closest n (den * 2 ^ dropped n den)) (dropped n den)
+kept_leads n den = elim (eq-zero-or-pos (dropped n den)) [
   | inl z ↦ inl z
   | inr p ↦
       let k = dropped n den in
@@ -155,9 +155,9 @@ kept-leads n den = elim (eq-zero-or-pos (dropped n den)) [
     in_use : (z : ℕ) → 0 < z - 53 → 52 + (z - 53) < z
     in_use z h = omega arith
 
-pub round-bits : (s : Bool) (num den : ℕ) → let n = num * 2 ^ 1074 in let k = dropped n den in
+pub round_bits : (s : Bool) (num den : ℕ) → let n = num * 2 ^ 1074 in let k = dropped n den in
     to_bits binary64 (round binary64 s num den) ≡ signed s (min (k * 2 ^ 52 + closest n (den * 2 ^ k)) infinite)
-round-bits s num den =
+round_bits s num den =
     let n = num * 2 ^ 1074 in
     let k = dropped n den in
-    ap (to_bits binary64) (round_is binary64 s num den) ∙ units-bits s (closest n (den * 2 ^ k)) k (kept-le n den) (kept-leads n den)
+    ap (to_bits binary64) (round_is binary64 s num den) ∙ units_bits s (closest n (den * 2 ^ k)) k (kept-le n den) (kept_leads n den)

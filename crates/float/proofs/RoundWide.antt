@@ -13,12 +13,12 @@ use lib.Signed.{mag}
 use lib.Ieee.{binary64, up, down, round}
 use Rattle.float.specs.Near.{Near, both}
 use Rattle.float.specs.Biased.{biased}
-use Rattle.float.proofs.Signed.{is-biased}
-use Rattle.float.proofs.RoundWord.{round-pow}
-use Rattle.float.proofs.Sticky.{near-scale, near-lt, one_more, sticky-round}
+use Rattle.float.proofs.Signed.{is_biased}
+use Rattle.float.proofs.RoundWord.{round_pow}
+use Rattle.float.proofs.Sticky.{near_scale, near_lt, one_more, sticky_round}
 
-pub near-range : (x w u : ℕ) → 0 < u → 2 ^ 62 * u ≤ x → x < 2 ^ 63 * u → Near x w u → (2 ^ 62 ≤ w) × (w < 2 ^ 63)
-near-range x w u U lo hi n = (low n, near-lt x w u (2 ^ 62) U hi n)
+pub near_range : (x w u : ℕ) → 0 < u → 2 ^ 62 * u ≤ x → x < 2 ^ 63 * u → Near x w u → (2 ^ 62 ≤ w) × (w < 2 ^ 63)
+near_range x w u U lo hi n = (low n, near_lt x w u (2 ^ 62) U hi n)
   where
     low : Near x w u → 2 ^ 62 ≤ w
     low (inl e) = native.Mathlib.Nat.le_of_mul-le-mul_right (le_trans lo (le_of_eq e)) U
@@ -55,7 +55,7 @@ module _ (hi lo : ℕ) (p : 0 < hi) (h : hi < 2 ^ 64) (l : lo < 2 ^ 64) where
 
   module _ (rh rl : ℕ) (n : Near (both hi lo) (both rh rl) (2 ^ down_by)) where
     bounds : (2 ^ 62 ≤ both rh rl) × (both rh rl < 2 ^ 63)
-    bounds = near-range (both hi lo) (both rh rl) (2 ^ down_by) (pow_pos down_by) range.0 range.1 n
+    bounds = near_range (both hi lo) (both rh rl) (2 ^ down_by) (pow_pos down_by) range.0 range.1 n
 
     pub one_word : both rh rl ≡ rl
     one_word = let b = bounds in omega (arith, b.1)
@@ -70,18 +70,18 @@ module _ (hi lo : ℕ) (p : 0 < hi) (h : hi < 2 ^ 64) (l : lo < 2 ^ 64) where
         → round binary64 s (rl * up f) (down f) ≡ round binary64 s (both hi lo * up e) (down e)
     upper-rounded s e f E F is =
         let a = biased e in
-        round-pow s rl f (biased f) 8192 (is-biased f F)
+        round_pow s rl f (biased f) 8192 (is_biased f F)
         ∙ ap (λ (z : ℕ). round binary64 s (rl * 2 ^ z) (2 ^ 8192)) (is ∙ add_comm a down_by)
-        ∙ sym (sticky-round s (both hi lo * 2 ^ a) rl (down_by + a) 8192 (near-scale (both hi lo) rl down_by a (subst (λ (w : ℕ). Near (both hi lo) w (2 ^ down_by)) one_word n)) word-lo)
-        ∙ sym (round-pow s (both hi lo) e a 8192 (is-biased e E))
+        ∙ sym (sticky_round s (both hi lo * 2 ^ a) rl (down_by + a) 8192 (near_scale (both hi lo) rl down_by a (subst (λ (w : ℕ). Near (both hi lo) w (2 ^ down_by)) one_word n)) word-lo)
+        ∙ sym (round_pow s (both hi lo) e a 8192 (is_biased e E))
 
 -- a number of one word, moved up by a word
 pub moved_up : (s : Bool) (hi lo : ℕ) (e f : ℤ) → hi ≡ 0 → mag e < 8192 → mag f < 8192 → biased f + 64 ≡ biased e
     → round binary64 s (both lo 0 * up f) (down f) ≡ round binary64 s (both hi lo * up e) (down e)
 moved_up s hi lo e f z E F is =
-    round-pow s (both lo 0) f (biased f) 8192 (is-biased f F)
+    round_pow s (both lo 0) f (biased f) 8192 (is_biased f F)
     ∙ ap (λ (x : ℕ). round binary64 s x (2 ^ 8192)) powers
-    ∙ sym (round-pow s (both hi lo) e (biased e) 8192 (is-biased e E))
+    ∙ sym (round_pow s (both hi lo) e (biased e) 8192 (is_biased e E))
   where
     plain : both lo 0 ≡ both hi lo * 2 ^ 64
     plain = native.Mathlib.Nat.add-zero (lo * 2 ^ 64) ∙ ap (λ (x : ℕ). x * 2 ^ 64) {x = lo} {y = both hi lo} (omega arith)

@@ -12,9 +12,9 @@ use lib.Ieee.Digits.{size-le}
 use lib.Ieee.Fits.{down_pos, nearest-le}
 use lib.Ieee.Nearest.{closest, closest_same, nearest-ge}
 use lib.Ieee.Scale.{round_same}
-use Rattle.float.proofs.RoundBits.{size-gt, signed, infinite, dropped, round-bits}
-use Rattle.float.proofs.Closest.{closest-none}
-use Rattle.float.proofs.Signed.{Is, is-pow}
+use Rattle.float.proofs.RoundBits.{size-gt, signed, infinite, dropped, round_bits}
+use Rattle.float.proofs.Closest.{closest_none}
+use Rattle.float.proofs.Signed.{Is, is_pow}
 
 pub shifts : (w i j : ℕ) → w * 2 ^ i * 2 ^ j ≡ w * 2 ^ (i + j)
 shifts w i j = mul_assoc w (2 ^ i) (2 ^ j) ∙ ap (λ (x : ℕ). w * x) (sym (pow-add 2 i j))
@@ -66,15 +66,15 @@ module _ (w a b : ℕ) (lo : 2 ^ 62 ≤ w) (hi : w < 2 ^ 63) where
       ≡ signed s (min ((a + 1084 - b) * 2 ^ 52 + closest w (2 ^ (10 + (b - (a + 1084))))) infinite)
   round-word s =
       let n = w * 2 ^ a * 2 ^ 1074 in
-      round-bits s (w * 2 ^ a) (2 ^ b)
+      round_bits s (w * 2 ^ a) (2 ^ b)
       ∙ ap (λ (k : ℕ). signed s (min (k * 2 ^ 52 + closest n (2 ^ b * 2 ^ k)) infinite)) drop-is
       ∙ ap (λ (q : ℕ). signed s (min ((a + 1084 - b) * 2 ^ 52 + q) infinite)) kept-is
 
 -- 2 ^ z by its two numbers
-pub round-pow : (s : Bool) (w : ℕ) (z : ℤ) (a b : ℕ) → Is z a b → round binary64 s (w * up z) (down z) ≡ round binary64 s (w * 2 ^ a) (2 ^ b)
-round-pow s w z a b h =
+pub round_pow : (s : Bool) (w : ℕ) (z : ℤ) (a b : ℕ) → Is z a b → round binary64 s (w * up z) (down z) ≡ round binary64 s (w * 2 ^ a) (2 ^ b)
+round_pow s w z a b h =
     round_same binary64 s (w * up z) (down z) (w * 2 ^ a) (2 ^ b) (down_pos z) (pow_pos b)
-    (mul_assoc w (up z) (2 ^ b) ∙ ap (λ (x : ℕ). w * x) (is-pow z a b h) ∙ sym (mul_assoc w (2 ^ a) (down z)))
+    (mul_assoc w (up z) (2 ^ b) ∙ ap (λ (x : ℕ). w * x) (is_pow z a b h) ∙ sym (mul_assoc w (2 ^ a) (down z)))
 
 -- ---- what `pack` computes, by cases of a: e is a - 8192
 module _ (w a : ℕ) (lo : 2 ^ 62 ≤ w) (hi : w < 2 ^ 63) where
@@ -92,7 +92,7 @@ module _ (w a : ℕ) (lo : 2 ^ 62 ≤ w) (hi : w < 2 ^ 63) where
 
   pub too_small : a < 7055 → min ((a + 1084 - 8192) * 2 ^ 52 + closest w (2 ^ (10 + (8192 - (a + 1084))))) infinite ≡ 0
   too_small h =
-      ap (λ (x : ℕ). min ((a + 1084 - 8192) * 2 ^ 52 + x) infinite) (closest-none w (10 + (8192 - (a + 1084))) hi (omega arith)) ∙ none a h
+      ap (λ (x : ℕ). min ((a + 1084 - 8192) * 2 ^ 52 + x) infinite) (closest_none w (10 + (8192 - (a + 1084))) hi (omega arith)) ∙ none a h
     where
       none : (a : ℕ) → a < 7055 → min ((a + 1084 - 8192) * 2 ^ 52 + 0) infinite ≡ 0
       none a h = omega arith

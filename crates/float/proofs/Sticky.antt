@@ -14,14 +14,14 @@ use lib.Ieee.Digits.{size-lt, size-le}
 use lib.Ieee.Fits.{round_is}
 use lib.Ieee.Nearest.{closest}
 use Rattle.float.specs.Near.{Near}
-use Rattle.float.proofs.Closest.{cmp, cmp-is, cmp-as}
+use Rattle.float.proofs.Closest.{cmp, cmp_is, cmp_as}
 
 -- x and y are on the same side of m
 abbrev Sides : ℕ → ℕ → ℕ → Type 0
 Sides x y m = ((m < x) × (m < y)) ⊎ (((x < m) × (y < m)) ⊎ ((x ≡ m) × (y ≡ m)))
 
-same-sides : (x m : ℕ) → Sides x x m
-same-sides x m = go (leb m x) (leb→le m x) (nleb→lt m x) (leb x m) (leb→le x m) (nleb→lt x m)
+same_sides : (x m : ℕ) → Sides x x m
+same_sides x m = go (leb m x) (leb→le m x) (nleb→lt m x) (leb x m) (leb→le x m) (nleb→lt x m)
   where
     go : (s : Bool) → (T s → m ≤ x) → (T (not s) → x < m) → (t : Bool) → (T t → x ≤ m) → (T (not t) → m < x) → Sides x x m
     go true a b true c d = inr (inr (le_antisymm (c tt) (a tt), le_antisymm (c tt) (a tt)))
@@ -29,9 +29,9 @@ same-sides x m = go (leb m x) (leb→le m x) (nleb→lt m x) (leb x m) (leb→le
     go false a b t c d = inr (inl (b tt, b tt))
 
 -- i even numbers of units
-near-sides : (x w u i : ℕ) → Near x w u → Sides x (w * u) (2 * i * u)
-near-sides x w u i (inl e) = subst (λ (y : ℕ). Sides y (w * u) (2 * i * u)) (sym e) (same-sides (w * u) (2 * i * u))
-near-sides x w u i (inr n) = go (leb w (2 * i)) (leb→le w (2 * i)) (nleb→lt w (2 * i))
+near_sides : (x w u i : ℕ) → Near x w u → Sides x (w * u) (2 * i * u)
+near_sides x w u i (inl e) = subst (λ (y : ℕ). Sides y (w * u) (2 * i * u)) (sym e) (same_sides (w * u) (2 * i * u))
+near_sides x w u i (inr n) = go (leb w (2 * i)) (leb→le w (2 * i)) (nleb→lt w (2 * i))
   where
     go : (t : Bool) → (T t → w ≤ 2 * i) → (T (not t) → 2 * i < w) → Sides x (w * u) (2 * i * u)
     go true a b =
@@ -46,11 +46,11 @@ near-sides x w u i (inr n) = go (leb w (2 * i)) (leb→le w (2 * i)) (nleb→lt 
         inl (omega (arith, n.1, m), omega (arith, n.1, n.2, m))
 
 -- a unit of 2 ^ p, and a larger power of two
-pow-sides : (x w p j m : ℕ) → Near x w (2 ^ p) → p < j → Sides x (w * 2 ^ p) (m * 2 ^ j)
-pow-sides x w p j m n h =
+pow_sides : (x w p j m : ℕ) → Near x w (2 ^ p) → p < j → Sides x (w * 2 ^ p) (m * 2 ^ j)
+pow_sides x w p j m n h =
     subst (Sides x (w * 2 ^ p))
     (sym (ap (λ (z : ℕ). m * 2 ^ z) {x = j} {y = j - suc p + suc p} (omega arith) ∙ ap (λ (z : ℕ). m * z) (pow-add 2 (j - suc p) (suc p)) ∙ shape m (2 ^ (j - suc p)) p))
-    (near-sides x w (2 ^ p) (m * 2 ^ (j - suc p)) n)
+    (near_sides x w (2 ^ p) (m * 2 ^ (j - suc p)) n)
   where
     shape : (m a p : ℕ) → m * (a * 2 ^ suc p) ≡ 2 * (m * a) * 2 ^ p
     shape m a p = ap (λ (z : ℕ). m * (a * z)) (native.Mathlib.Nat.pow-succ' 2 p) ∙ omega arith
@@ -81,8 +81,8 @@ flip x y m (inl s) = inl (s.1, s.0)
 flip x y m (inr (inl s)) = inr (inl (s.1, s.0))
 flip x y m (inr (inr s)) = inr (inr (s.1, s.0))
 
-atleast-of : (x y m : ℕ) → Sides x y m → m ≤ x → m ≤ y
-atleast-of x y m s h = le_of_suc-le-suc (lt_of_not-le (λ (g : suc y ≤ m). not-le_of_lt (below_of y x m (flip x y m s) g) h))
+atleast_of : (x y m : ℕ) → Sides x y m → m ≤ x → m ≤ y
+atleast_of x y m s h = le_of_suc-le-suc (lt_of_not-le (λ (g : suc y ≤ m). not-le_of_lt (below_of y x m (flip x y m s) g) h))
 
 -- ---- numbers on the same sides of every half unit have the same nearest whole number
 module _ (x y h : ℕ) (H : 0 < h) (sides : (j : ℕ) → Sides x y (j * h)) where
@@ -94,7 +94,7 @@ module _ (x y h : ℕ) (H : 0 < h) (sides : (j : ℕ) → Sides x y (j * h)) whe
       let lo : q * u ≤ y = (le-div_iff_mul-le U).0 (native.Mathlib.Nat.le_refl q) in
       let hi : y < (q + 1) * u = (div-lt_iff_lt-mul U).0 (omega arith) in
       div-eq_of_lt-le u
-      (atleast-of y x (q * u) (flip x y (q * u) (subst (Sides x y) (two q h) (sides (2 * q)))) lo)
+      (atleast_of y x (q * u) (flip x y (q * u) (subst (Sides x y) (two q h) (sides (2 * q)))) lo)
       (below_of y x ((q + 1) * u) (flip x y ((q + 1) * u) (subst (Sides x y) (two (q + 1) h) (sides (2 * (q + 1))))) hi)
     where
       two : (q h : ℕ) → 2 * q * h ≡ q * (2 * h)
@@ -108,7 +108,7 @@ module _ (x y h : ℕ) (H : 0 < h) (sides : (j : ℕ) → Sides x y (j * h)) whe
       let ey : q * u + y % u ≡ y = div-add-mod' y u in
       let s : Sides x y (q * u + h) = subst (Sides x y) (mid q h) (sides (2 * q + 1)) in
       ap₂ nearest whole
-      (sym (cmp-is (compare (x % u * 2) u) (y % u * 2) u (cmp-as (compare (x % u * 2) u) (x % u * 2) u (y % u * 2) u
+      (sym (cmp_is (compare (x % u * 2) u) (y % u * 2) u (cmp_as (compare (x % u * 2) u) (x % u * 2) u (y % u * 2) u
       (λ (l : x % u * 2 < u). let m : y < q * u + h = below_of x y (q * u + h) s (omega (arith, ex, l)) in omega (arith, ey, m))
       (λ (l : x % u * 2 ≡ u). let m : y ≡ q * u + h = equal_of x y (q * u + h) s (omega (arith, ex, l)) in omega (arith, ey, m))
       (λ (l : u < x % u * 2). let m : q * u + h < y = above_of x y (q * u + h) s (omega (arith, ex, l)) in omega (arith, ey, m))
@@ -141,8 +141,8 @@ module _ (x w p b : ℕ) (n : Near x w (2 ^ p)) (big : 2 ^ 62 ≤ w) where
       go : (t : Bool) → (T t → j + b ≤ p) → (T (not t) → p < j + b) → (2 ^ j * 2 ^ b ≤ x → 2 ^ j * 2 ^ b ≤ w * 2 ^ p) × (2 ^ j * 2 ^ b ≤ w * 2 ^ p → 2 ^ j * 2 ^ b ≤ x)
       go true a c = ((λ _. le_trans (low (a tt)) reaches.1), (λ _. le_trans (low (a tt)) reaches.0))
       go false a c =
-          let s : Sides x (w * 2 ^ p) (2 ^ j * 2 ^ b) = subst (Sides x (w * 2 ^ p)) (native.Mathlib.Nat.one-mul (2 ^ (j + b)) ∙ pow-add 2 j b) (pow-sides x w p (j + b) 1 n (c tt)) in
-          (atleast-of x (w * 2 ^ p) (2 ^ j * 2 ^ b) s, atleast-of (w * 2 ^ p) x (2 ^ j * 2 ^ b) (flip x (w * 2 ^ p) (2 ^ j * 2 ^ b) s))
+          let s : Sides x (w * 2 ^ p) (2 ^ j * 2 ^ b) = subst (Sides x (w * 2 ^ p)) (native.Mathlib.Nat.one-mul (2 ^ (j + b)) ∙ pow-add 2 j b) (pow_sides x w p (j + b) 1 n (c tt)) in
+          (atleast_of x (w * 2 ^ p) (2 ^ j * 2 ^ b) s, atleast_of (w * 2 ^ p) x (2 ^ j * 2 ^ b) (flip x (w * 2 ^ p) (2 ^ j * 2 ^ b) s))
 
   sizes : size (x / 2 ^ b) ≡ size (w * 2 ^ p / 2 ^ b)
   sizes = le_antisymm (size_mono x (w * 2 ^ p) (2 ^ b) (pow_pos b) (λ j. (pow-agree j).0)) (size_mono (w * 2 ^ p) x (2 ^ b) (pow_pos b) (λ j. (pow-agree j).1))
@@ -160,7 +160,7 @@ module _ (x w p b : ℕ) (n : Near x w (2 ^ p)) (big : 2 ^ 62 ≤ w) where
   kept k r =
       let h = 2 ^ (b + k - 1) in
       let u : 2 ^ b * 2 ^ k ≡ 2 * h = sym (pow-add 2 b k) ∙ ap (λ (z : ℕ). 2 ^ z) {x = b + k} {y = suc (b + k - 1)} (omega arith) ∙ native.Mathlib.Nat.pow-succ' 2 (b + k - 1) in
-      ap (closest x) u ∙ closest-sides x (w * 2 ^ p) h (pow_pos (b + k - 1)) (λ j. pow-sides x w p (b + k - 1) j n (omega arith)) ∙ sym (ap (closest (w * 2 ^ p)) u)
+      ap (closest x) u ∙ closest-sides x (w * 2 ^ p) h (pow_pos (b + k - 1)) (λ j. pow_sides x w p (b + k - 1) j n (omega arith)) ∙ sym (ap (closest (w * 2 ^ p)) u)
 
   pub same_kept : (s : Bool) → units binary64 s (closest x (2 ^ b * 2 ^ (size (x / 2 ^ b) - 53))) (size (x / 2 ^ b) - 53)
       ≡ units binary64 s (closest (w * 2 ^ p) (2 ^ b * 2 ^ (size (w * 2 ^ p / 2 ^ b) - 53))) (size (w * 2 ^ p / 2 ^ b) - 53)
@@ -168,27 +168,27 @@ module _ (x w p b : ℕ) (n : Near x w (2 ^ p)) (big : 2 ^ 62 ≤ w) where
       ap (λ (z : ℕ). units binary64 s (closest x (2 ^ b * 2 ^ (z - 53))) (z - 53)) sizes
       ∙ ap (λ (q : ℕ). units binary64 s q (size (w * 2 ^ p / 2 ^ b) - 53)) (kept (size (w * 2 ^ p / 2 ^ b) - 53) room)
 
-pub near-scale : (x w a l : ℕ) → Near x w (2 ^ a) → Near (x * 2 ^ l) w (2 ^ (a + l))
-near-scale x w a l (inl e) = inl (ap (λ (z : ℕ). z * 2 ^ l) e ∙ mul_assoc w (2 ^ a) (2 ^ l) ∙ ap (λ (z : ℕ). w * z) (sym (pow-add 2 a l)))
-near-scale x w a l (inr n) =
+pub near_scale : (x w a l : ℕ) → Near x w (2 ^ a) → Near (x * 2 ^ l) w (2 ^ (a + l))
+near_scale x w a l (inl e) = inl (ap (λ (z : ℕ). z * 2 ^ l) e ∙ mul_assoc w (2 ^ a) (2 ^ l) ∙ ap (λ (z : ℕ). w * z) (sym (pow-add 2 a l)))
+near_scale x w a l (inr n) =
     let e = pow-add 2 a l in
     let p : w * 2 ^ a * 2 ^ l < (x + 2 ^ a) * 2 ^ l = mul-lt-mul_of_pos_right n.1 (pow_pos l) in
     let q : x * 2 ^ l < (w * 2 ^ a + 2 ^ a) * 2 ^ l = mul-lt-mul_of_pos_right n.2 (pow_pos l) in
     inr (subst (λ (v : ℕ). (w % 2 ≡ 1) × (w * v < x * 2 ^ l + v) × (x * 2 ^ l < w * v + v)) (sym e) (n.0, omega (arith, p), omega (arith, q)))
 
-pub sticky-round : (s : Bool) (x w a b : ℕ) → Near x w (2 ^ a) → 2 ^ 62 ≤ w → round binary64 s x (2 ^ b) ≡ round binary64 s (w * 2 ^ a) (2 ^ b)
-sticky-round s x w a b n big =
+pub sticky_round : (s : Bool) (x w a b : ℕ) → Near x w (2 ^ a) → 2 ^ 62 ≤ w → round binary64 s x (2 ^ b) ≡ round binary64 s (w * 2 ^ a) (2 ^ b)
+sticky_round s x w a b n big =
     let X = x * 2 ^ 1074 in
     let e : w * 2 ^ a * 2 ^ 1074 ≡ w * 2 ^ (a + 1074) = mul_assoc w (2 ^ a) (2 ^ 1074) ∙ ap (λ (z : ℕ). w * z) (sym (pow-add 2 a 1074)) in
     round_is binary64 s x (2 ^ b)
-    ∙ same_kept X w (a + 1074) b (near-scale x w a 1074 n) big s
+    ∙ same_kept X w (a + 1074) b (near_scale x w a 1074 n) big s
     ∙ ap (λ (y : ℕ). units binary64 s (closest y (2 ^ b * 2 ^ (size (y / 2 ^ b) - 53))) (size (y / 2 ^ b) - 53)) (sym e)
     ∙ sym (round_is binary64 s (w * 2 ^ a) (2 ^ b))
 
 -- ---- making and moving a sticky digit
 -- a number cut at the digit d, its lowest digit set where something is cut off
-pub jam-near : (x u : ℕ) → 0 < u → (x % u ≡ 0 → ⊥) → Near x (x / u + (1 - x / u % 2)) u
-jam-near x u U n =
+pub jam_near : (x u : ℕ) → 0 < u → (x % u ≡ 0 → ⊥) → Near x (x / u + (1 - x / u % 2)) u
+jam_near x u U n =
     let q = x / u in
     let e : q * u + x % u ≡ x = div-add-mod' x u in
     let l : x % u < u = mod-lt x U in
@@ -196,23 +196,23 @@ jam-near x u U n =
     let b : q * u ≤ (q + (1 - q % 2)) * u = mul-le-mul_right u (omega arith) in
     inr (omega arith, omega (arith, a, e, n), omega (arith, b, e, l))
 
-pub cut-near : (x u : ℕ) → x % u ≡ 0 → Near x (x / u) u
-cut-near x u e = inl (sym (div-add-mod' x u) ∙ (omega arith))
+pub cut_near : (x u : ℕ) → x % u ≡ 0 → Near x (x / u) u
+cut_near x u e = inl (sym (div-add-mod' x u) ∙ (omega arith))
 
 -- an even number of units more
-pub near-more : (x w u k : ℕ) → Near x w u → Near (2 * k * u + x) (2 * k + w) u
-near-more x w u k (inl e) = inl (ap (λ (z : ℕ). 2 * k * u + z) e ∙ sym (add-mul (2 * k) w u))
-near-more x w u k (inr n) =
+pub near_more : (x w u k : ℕ) → Near x w u → Near (2 * k * u + x) (2 * k + w) u
+near_more x w u k (inl e) = inl (ap (λ (z : ℕ). 2 * k * u + z) e ∙ sym (add-mul (2 * k) w u))
+near_more x w u k (inr n) =
     let e : (2 * k + w) * u ≡ 2 * k * u + w * u = add-mul (2 * k) w u in
     inr (omega (arith, n.0), omega (arith, n.1, e), omega (arith, n.2, e))
 
 -- and an even number of units less
-pub near-less : (x w u k : ℕ) → Near x w u → w ≤ 2 * k → x ≤ 2 * k * u → Near (2 * k * u - x) (2 * k - w) u
-near-less x w u k (inl e) l m = inl (go (2 * k) l)
+pub near_less : (x w u k : ℕ) → Near x w u → w ≤ 2 * k → x ≤ 2 * k * u → Near (2 * k * u - x) (2 * k - w) u
+near_less x w u k (inl e) l m = inl (go (2 * k) l)
   where
     go : (j : ℕ) → w ≤ j → j * u - x ≡ (j - w) * u
     go j h = let s : (j - w) * u + w * u ≡ j * u = sym (add-mul (j - w) w u) ∙ ap (λ (z : ℕ). z * u) (omega arith) in omega (arith, s, e)
-near-less x w u k (inr n) l m = go (2 * k) l (omega arith) m
+near_less x w u k (inr n) l m = go (2 * k) l (omega arith) m
   where
     go : (j : ℕ) → w ≤ j → j % 2 ≡ 0 → x ≤ j * u → Near (j * u - x) (j - w) u
     go j h p y =
@@ -220,13 +220,13 @@ near-less x w u k (inr n) l m = go (2 * k) l (omega arith) m
         inr (omega (arith, n.0), omega (arith, n.1, n.2, s), omega (arith, n.1, n.2, s))
 
 -- a sticky number cut again
-pub near-trans : (x w v u b : ℕ) → 0 < u → Near x w u → Near w v b → 0 < b → Near x v (b * u)
-near-trans x w v u b U (inl e) (inl f) B = inl (e ∙ ap (λ (z : ℕ). z * u) f ∙ mul_assoc v b u)
-near-trans x w v u b U (inl e) (inr n) B =
+pub near_trans : (x w v u b : ℕ) → 0 < u → Near x w u → Near w v b → 0 < b → Near x v (b * u)
+near_trans x w v u b U (inl e) (inl f) B = inl (e ∙ ap (λ (z : ℕ). z * u) f ∙ mul_assoc v b u)
+near_trans x w v u b U (inl e) (inr n) B =
     let p : v * b * u < (w + b) * u = mul-lt-mul_of_pos_right n.1 U in
     let q : w * u < (v * b + b) * u = mul-lt-mul_of_pos_right n.2 U in
     inr (n.0, omega (arith, p, e), omega (arith, q, e))
-near-trans x w v u b U (inr m) (inl f) B = even-case (v * b) f (b % 2) refl
+near_trans x w v u b U (inr m) (inl f) B = even-case (v * b) f (b % 2) refl
   where
     even-case : (z : ℕ) → w ≡ z → (r : ℕ) → b % 2 ≡ r → Near x v (b * u)
     even-case z e r h =
@@ -247,7 +247,7 @@ near-trans x w v u b U (inr m) (inl f) B = even-case (v * b) f (b % 2) refl
                 no : (x y : ℕ) → x ≡ 2 * y → x % 2 ≡ 1 → ⊥
                 no x y a c = omega arith
             go (suc r) e l = omega (arith, e, l)
-near-trans x w v u b U (inr m) (inr n) B =
+near_trans x w v u b U (inr m) (inr n) B =
     let p : (v * b + 1) * u ≤ (w + b) * u = mul-le-mul_right u (omega (arith, n.1)) in
     let q : (w + 1) * u ≤ (v * b + b) * u = mul-le-mul_right u (omega (arith, n.2)) in
     inr (n.0, omega (arith, p, m.1, m.2), omega (arith, q, m.1, m.2))
@@ -263,6 +263,6 @@ near_le x w u k U h (inr m) =
     omega arith
 
 -- and below k where k is even
-pub near-lt : (x w u k : ℕ) → 0 < u → x < 2 * k * u → Near x w u → w < 2 * k
-near-lt x w u k U h (inl e) = lt_of_mul-lt-mul_right u (lt_of_le_of_lt (le_of_eq (sym e)) h)
-near-lt x w u k U h (inr m) = let a = near_le x w u (2 * k) U h (inr m) in omega (arith, a, m.0)
+pub near_lt : (x w u k : ℕ) → 0 < u → x < 2 * k * u → Near x w u → w < 2 * k
+near_lt x w u k U h (inl e) = lt_of_mul-lt-mul_right u (lt_of_le_of_lt (le_of_eq (sym e)) h)
+near_lt x w u k U h (inr m) = let a = near_le x w u (2 * k) U h (inr m) in omega (arith, a, m.0)

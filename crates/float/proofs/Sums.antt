@@ -9,15 +9,15 @@ use lib.Ieee.{binary64, round, sum, to_bits}
 use lib.Ieee.Scale.{round_same}
 use borrow.Author.Tests.{lt-ltb, le-ltb, le-leb, lt-leb}
 
-pub ltb-agree : (a b c d : ℕ) → (a < b → c < d) → (b ≤ a → d ≤ c) → ltb a b ≡ ltb c d
-ltb-agree a b c d f g = go (ltb a b) (ltb→lt a b) (nltb→le a b)
+pub ltb_agree : (a b c d : ℕ) → (a < b → c < d) → (b ≤ a → d ≤ c) → ltb a b ≡ ltb c d
+ltb_agree a b c d f g = go (ltb a b) (ltb→lt a b) (nltb→le a b)
   where
     go : (t : Bool) → (T t → a < b) → (T (not t) → b ≤ a) → t ≡ ltb c d
     go true y n = sym (lt-ltb c d (f (y tt)))
     go false y n = sym (le-ltb c d (g (n tt)))
 
-pub leb-agree : (a b c d : ℕ) → (a ≤ b → c ≤ d) → (b < a → d < c) → leb a b ≡ leb c d
-leb-agree a b c d f g = go (leb a b) (leb→le a b) (nleb→lt a b)
+pub leb_agree : (a b c d : ℕ) → (a ≤ b → c ≤ d) → (b < a → d < c) → leb a b ≡ leb c d
+leb_agree a b c d f g = go (leb a b) (leb→le a b) (nleb→lt a b)
   where
     go : (t : Bool) → (T t → a ≤ b) → (T (not t) → b < a) → t ≡ leb c d
     go true y n = sym (le-leb c d (f (y tt)))

@@ -16,21 +16,21 @@ use lib.Ieee.Fits.{down_pos, nearest-le}
 use lib.Ieee.Exact.{HasValue, odd_sign, round_exact}
 use lib.Ieee.Nearest.{div_same, closest_same}
 use borrow.Author.Tests.{eq-eqb, ne_eqb}
-use Rattle.float.specs.Integral.{ceiling, whole, roundToIntegral}
+use Rattle.float.specs.Integral.{ceiling, whole, round_to_integral}
 use Rattle.float.specs.declared.integral.Direction.{Direction}
 use Rattle.float.specs.declared.integral.Direction.TheVariants.{TiesToEven, TowardNegative, TowardPositive, TowardZero}
-use Rattle.float.proofs.Closest.{closest-exact}
+use Rattle.float.proofs.Closest.{closest_exact}
 use Rattle.float.specs.Word.{value, integral}
 use Rattle.float.proofs.Nan.{kept_word}
-use Rattle.float.proofs.Marks.{number_word, number, round_number, nan-word, marked}
-use Rattle.float.proofs.RoundBits.{value-bits}
+use Rattle.float.proofs.Marks.{number_word, number, round_number, nan_word, marked}
+use Rattle.float.proofs.RoundBits.{value_bits}
 use Rattle.float.proofs.RoundWord.{shifts}
-use Rattle.float.proofs.Signed.{Is, is-pow}
-use Rattle.float.proofs.Fields.{together, of-normal, rescale, word-infinite, word-zero}
+use Rattle.float.proofs.Signed.{Is, is_pow}
+use Rattle.float.proofs.Fields.{together, of_normal, rescale, word_infinite, word_zero}
 
 -- ---- the least whole number that is not below a fraction
-ceiling-most : (n c : ℕ) → ceiling n c ≤ n / c + 1
-ceiling-most n c = go (eqb (n % c) 0)
+ceiling_most : (n c : ℕ) → ceiling n c ≤ n / c + 1
+ceiling_most n c = go (eqb (n % c) 0)
   where
     go : (b : Bool) → n / c + cond b 0 1 ≤ n / c + 1
     go true = omega arith
@@ -92,25 +92,25 @@ module _ (a b c d : ℕ) (B : 0 < b) (D : 0 < d) (e : a * d ≡ c * b) where
   whole_same TowardZero s = div_same a b c d B D e
 
 -- the whole part or one more
-pub whole-most : (t : Direction) (s : Bool) (n c : ℕ) → whole t s n c ≤ n / c + 1
-whole-most TiesToEven s n c = omega (arith, nearest-le (n / c) (compare (n % c * 2) c))
-whole-most TowardNegative true n c = ceiling-most n c
-whole-most TowardNegative false n c = omega arith
-whole-most TowardPositive true n c = omega arith
-whole-most TowardPositive false n c = ceiling-most n c
-whole-most TowardZero s n c = omega arith
+pub whole_most : (t : Direction) (s : Bool) (n c : ℕ) → whole t s n c ≤ n / c + 1
+whole_most TiesToEven s n c = omega (arith, nearest-le (n / c) (compare (n % c * 2) c))
+whole_most TowardNegative true n c = ceiling_most n c
+whole_most TowardNegative false n c = omega arith
+whole_most TowardPositive true n c = omega arith
+whole_most TowardPositive false n c = ceiling_most n c
+whole_most TowardZero s n c = omega arith
 
-pub integral-at : (t : Direction) (x : Float) (s : Bool) (p c : ℕ) → 0 < c → HasValue x s p c → roundToIntegral t binary64 x ≡ round binary64 s (whole t s p c) 1
-unfolding roundToIntegral
-integral-at t nan s p c C v = absurd v
-integral-at t (inf u) s p c C v = absurd v
-integral-at t (fin u m e) s p c C v =
+pub integral_at : (t : Direction) (x : Float) (s : Bool) (p c : ℕ) → 0 < c → HasValue x s p c → round_to_integral t binary64 x ≡ round binary64 s (whole t s p c) 1
+unfolding round_to_integral
+integral_at t nan s p c C v = absurd v
+integral_at t (inf u) s p c C v = absurd v
+integral_at t (fin u m e) s p c C v =
     ap (λ (b : Bool). round binary64 b (whole t b (m * up e) (down e)) 1) v.0
     ∙ ap (λ (n : ℕ). round binary64 s n 1) (whole_same (m * up e) (down e) p c (down_pos e) C v.1 t s)
 
 -- ---- a word from 2 ^ 52 up is a whole number already, in every direction
-pub no-rest : (t : Direction) (s : Bool) (n c : ℕ) → 0 < c → whole t s (n * c) c ≡ n
-no-rest t s n c C = go t s
+pub no_rest : (t : Direction) (s : Bool) (n c : ℕ) → 0 < c → whole t s (n * c) c ≡ n
+no_rest t s n c C = go t s
   where
     exact : n * c / c ≡ n
     exact = mul-div_cancel n C
@@ -119,16 +119,16 @@ no-rest t s n c C = go t s
     up-exact = ap₂ (λ (q : ℕ) (z : Bool). q + cond z 0 1) exact (eq-eqb (n * c % c) 0 (mul-mod_left n c)) ∙ add-zero n
 
     go : (t : Direction) (s : Bool) → whole t s (n * c) c ≡ n
-    go TiesToEven s = closest-exact n c C
+    go TiesToEven s = closest_exact n c C
     go TowardNegative true = up-exact
     go TowardNegative false = exact
     go TowardPositive true = exact
     go TowardPositive false = up-exact
     go TowardZero s = exact
 
-pub large-value : (a : ℕ) → 1075 * 2 ^ 52 ≤ a % 2 ^ 63 → a % 2 ^ 63 < 2047 * 2 ^ 52
+pub large_value : (a : ℕ) → 1075 * 2 ^ 52 ≤ a % 2 ^ 63 → a % 2 ^ 63 < 2047 * 2 ^ 52
     → (n : ℕ) × HasValue (of_bits binary64 a) (leb (2 ^ 63) a) (n * 2 ^ 1074) (2 ^ 1074) × HasValue (round binary64 (leb (2 ^ 63) a) n 1) (leb (2 ^ 63) a) n 1
-large-value a lo hi = go (a / 2 ^ 52 % 2 ^ 11) refl
+large_value a lo hi = go (a / 2 ^ 52 % 2 ^ 11) refl
   where
     s : Bool
     s = leb (2 ^ 63) a
@@ -149,44 +149,44 @@ large-value a lo hi = go (a / 2 ^ 52 % 2 ^ 11) refl
         let units-are : q * 2 ^ x ≡ n * 2 ^ 1074 = ap (λ (y : ℕ). q * 2 ^ y) {x = x} {y = j + 1074} (omega (arith, x-ge)) ∙ sym (shifts q j 1074) in (
           n,
           subst (λ (y : ℕ). HasValue (of_bits binary64 a) s y (2 ^ 1074)) units-are
-              (subst (λ (y : Float). HasValue y s (q * 2 ^ x) (2 ^ 1074)) (sym (of-normal a x e x_lt)) (odd_sign 53 s q x 1074)),
+              (subst (λ (y : Float). HasValue y s (q * 2 ^ x) (2 ^ 1074)) (sym (of_normal a x e x_lt)) (odd_sign 53 s q x 1074)),
           round_exact binary64 s n 1 q x (lit< tt) (omega (arith, l)) (lt_of_lt_of_le (shl_lt 53 x (omega (arith, l))) (pow_mono {i = 53 + x} {j = 2098} (omega (arith, x_lt)))) (sym units-are ∙ sym (mul-one (q * 2 ^ x))),
         )
 
-pub large-word : (t : Direction) (a : ℕ) → a < 2 ^ 64 → 1075 * 2 ^ 52 ≤ a % 2 ^ 63 → a % 2 ^ 63 < 2047 * 2 ^ 52 → to_bits binary64 (roundToIntegral t binary64 (of_bits binary64 a)) ≡ a
-large-word t a fits lo hi =
+pub large_word : (t : Direction) (a : ℕ) → a < 2 ^ 64 → 1075 * 2 ^ 52 ≤ a % 2 ^ 63 → a % 2 ^ 63 < 2047 * 2 ^ 52 → to_bits binary64 (round_to_integral t binary64 (of_bits binary64 a)) ≡ a
+large_word t a fits lo hi =
     let s = leb (2 ^ 63) a in
-    let v = large-value a lo hi in
+    let v = large_value a lo hi in
     let n = v.0 in
-    ap (to_bits binary64) (integral-at t (of_bits binary64 a) s (n * 2 ^ 1074) (2 ^ 1074) (pow_pos 1074) v.1 ∙ ap (λ (y : ℕ). round binary64 s y 1) (no-rest t s n (2 ^ 1074) (pow_pos 1074)))
-    ∙ value-bits (round binary64 s n 1) s (n * 2 ^ 1074) (rescale (round binary64 s n 1) s n 1 (n * 2 ^ 1074) (2 ^ 1074) (lit< tt) (mul-one (n * 2 ^ 1074)) v.2)
-    ∙ sym (value-bits (of_bits binary64 a) s (n * 2 ^ 1074) v.1)
+    ap (to_bits binary64) (integral_at t (of_bits binary64 a) s (n * 2 ^ 1074) (2 ^ 1074) (pow_pos 1074) v.1 ∙ ap (λ (y : ℕ). round binary64 s y 1) (no_rest t s n (2 ^ 1074) (pow_pos 1074)))
+    ∙ value_bits (round binary64 s n 1) s (n * 2 ^ 1074) (rescale (round binary64 s n 1) s n 1 (n * 2 ^ 1074) (2 ^ 1074) (lit< tt) (mul-one (n * 2 ^ 1074)) v.2)
+    ∙ sym (value_bits (of_bits binary64 a) s (n * 2 ^ 1074) v.1)
     ∙ kept_word a fits (omega (arith, hi))
 
 -- ---- NaNs, infinities and zeros, in every direction
-same_kind : (t : Direction) (x : Float) → is_nan (roundToIntegral t binary64 x) ≡ is_nan x
-unfolding roundToIntegral is_nan
+same_kind : (t : Direction) (x : Float) → is_nan (round_to_integral t binary64 x) ≡ is_nan x
+unfolding round_to_integral is_nan
 same_kind t nan = refl
 same_kind t (inf s) = refl
 same_kind t (fin s m e) = round_number s (whole t s (m * up e) (down e)) 1
 
-pub nan-marked : (t : Direction) (a : ℕ) → is_nan (value a) ≡ true → bit_or a (2 ^ 51) ≡ integral t a
-nan-marked t a e = marked a [] e ∙ nan-word (a ∷ []) (roundToIntegral t binary64 (value a)) (same_kind t (value a) ∙ e)
+pub nan_marked : (t : Direction) (a : ℕ) → is_nan (value a) ≡ true → bit_or a (2 ^ 51) ≡ integral t a
+nan_marked t a e = marked a [] e ∙ nan_word (a ∷ []) (round_to_integral t binary64 (value a)) (same_kind t (value a) ∙ e)
 
-pub number-rounded : (t : Direction) (a : ℕ) → a % 2 ^ 63 ≤ 2047 * 2 ^ 52 → to_bits binary64 (roundToIntegral t binary64 (value a)) ≡ integral t a
-number-rounded t a h = number_word (a ∷ []) (roundToIntegral t binary64 (value a)) (same_kind t (value a) ∙ number a h)
+pub number_rounded : (t : Direction) (a : ℕ) → a % 2 ^ 63 ≤ 2047 * 2 ^ 52 → to_bits binary64 (round_to_integral t binary64 (value a)) ≡ integral t a
+number_rounded t a h = number_word (a ∷ []) (round_to_integral t binary64 (value a)) (same_kind t (value a) ∙ number a h)
 
-pub infinite-word : (t : Direction) (a : ℕ) → a < 2 ^ 64 → a % 2 ^ 63 ≡ 2047 * 2 ^ 52 → to_bits binary64 (roundToIntegral t binary64 (of_bits binary64 a)) ≡ a
-unfolding roundToIntegral
-infinite-word t a h e =
-    ap (λ (x : Float). to_bits binary64 (roundToIntegral t binary64 x)) (word-infinite a e) ∙ ap (to_bits binary64) (sym (word-infinite a e)) ∙ kept_word a h (omega (arith, e))
+pub infinite_word : (t : Direction) (a : ℕ) → a < 2 ^ 64 → a % 2 ^ 63 ≡ 2047 * 2 ^ 52 → to_bits binary64 (round_to_integral t binary64 (of_bits binary64 a)) ≡ a
+unfolding round_to_integral
+infinite_word t a h e =
+    ap (λ (x : Float). to_bits binary64 (round_to_integral t binary64 x)) (word_infinite a e) ∙ ap (to_bits binary64) (sym (word_infinite a e)) ∙ kept_word a h (omega (arith, e))
 
-pub zero_word : (t : Direction) (a : ℕ) → a < 2 ^ 64 → a % 2 ^ 63 ≡ 0 → to_bits binary64 (roundToIntegral t binary64 (of_bits binary64 a)) ≡ a
-unfolding roundToIntegral round to_bits
+pub zero_word : (t : Direction) (a : ℕ) → a < 2 ^ 64 → a % 2 ^ 63 ≡ 0 → to_bits binary64 (round_to_integral t binary64 (of_bits binary64 a)) ≡ a
+unfolding round_to_integral round to_bits
 zero_word t a h e =
-    ap (λ (x : Float). to_bits binary64 (roundToIntegral t binary64 x)) (word-zero a e) ∙ go t (leb (2 ^ 63) a) ∙ ap (to_bits binary64) (sym (word-zero a e)) ∙ kept_word a h (omega (arith, e))
+    ap (λ (x : Float). to_bits binary64 (round_to_integral t binary64 x)) (word_zero a e) ∙ go t (leb (2 ^ 63) a) ∙ ap (to_bits binary64) (sym (word_zero a e)) ∙ kept_word a h (omega (arith, e))
   where
-    go : (t : Direction) (s : Bool) → to_bits binary64 (roundToIntegral t binary64 (fin s 0 (pos 0))) ≡ to_bits binary64 (fin s 0 (pos 0))
+    go : (t : Direction) (s : Bool) → to_bits binary64 (round_to_integral t binary64 (fin s 0 (pos 0))) ≡ to_bits binary64 (fin s 0 (pos 0))
     go TiesToEven true = refl
     go TiesToEven false = refl
     go TowardNegative true = refl
@@ -198,8 +198,8 @@ zero_word t a h e =
 
 -- ---- a word taken apart: the whole number that its significand over 2 ^ k goes to
 pub small_word : (t : Direction) (a : ℕ) (s : Bool) (m : ℕ) (e : ℤ) (k : ℕ) → HasValue (of_bits binary64 a) s (m * up e) (down e) → Is e 0 k
-    → roundToIntegral t binary64 (of_bits binary64 a) ≡ round binary64 s (whole t s m (2 ^ k)) 1
+    → round_to_integral t binary64 (of_bits binary64 a) ≡ round binary64 s (whole t s m (2 ^ k)) 1
 small_word t a s m e k v i =
-    integral-at t (of_bits binary64 a) s (m * up e) (down e) (down_pos e) v
+    integral_at t (of_bits binary64 a) s (m * up e) (down e) (down_pos e) v
     ∙ ap (λ (n : ℕ). round binary64 s n 1)
-    (whole_same (m * up e) (down e) m (2 ^ k) (down_pos e) (pow_pos k) (native.Mathlib.Nat.mul_assoc m (up e) (2 ^ k) ∙ ap (λ (x : ℕ). m * x) (is-pow e 0 k i ∙ native.Mathlib.Nat.one-mul (down e))) t s)
+    (whole_same (m * up e) (down e) m (2 ^ k) (down_pos e) (pow_pos k) (native.Mathlib.Nat.mul_assoc m (up e) (2 ^ k) ∙ ap (λ (x : ℕ). m * x) (is_pow e 0 k i ∙ native.Mathlib.Nat.one-mul (down e))) t s)

@@ -14,17 +14,17 @@ use lib.Ieee.Exact.{HasValue, round_exact}
 use lib.Ieee.Fits.{down_pos}
 use lib.Ieee.Nearest.{closest}
 use Rattle.float.specs.Laws.{NotAbove, NotBelow, Nearest, GoesTo, IntegralLaw}
-use Rattle.float.specs.Integral.{ceiling, whole, roundToIntegral}
+use Rattle.float.specs.Integral.{ceiling, whole, round_to_integral}
 use Rattle.float.specs.Word.{value}
 use Rattle.float.specs.Unpacked.{Unpacked}
 use Rattle.float.specs.Biased.{biased}
 use Rattle.float.specs.declared.integral.Direction.{Direction}
 use Rattle.float.specs.declared.integral.Direction.TheVariants.{TiesToEven, TowardNegative, TowardPositive, TowardZero}
-use Rattle.float.proofs.Nan.{above-nan}
+use Rattle.float.proofs.Nan.{above_nan}
 use Rattle.float.proofs.Closest.{Cmp, cmp}
-use Rattle.float.proofs.Signed.{Is, is-biased, is-shift, is-pow}
-use Rattle.float.proofs.Fields.{rescale, unpacked, word-zero, word-infinite}
-use Rattle.float.proofs.ToIntegral.{whole_same, whole-most, integral-at, no-rest, large-value}
+use Rattle.float.proofs.Signed.{Is, is_biased, is_shift, is_pow}
+use Rattle.float.proofs.Fields.{rescale, unpacked, word_zero, word_infinite}
+use Rattle.float.proofs.ToIntegral.{whole_same, whole_most, integral_at, no_rest, large_value}
 
 -- ---- the definition's whole number is the one that the fraction goes to
 module _ (p c : ℕ) (C : 0 < c) where
@@ -109,8 +109,8 @@ module _ (d : Direction) (a : ℕ) (s : Bool) (p c : ℕ) (C : 0 < c) (v : HasVa
 
   zero-exact : a % 2 ^ 63 ≡ 0 → Exact
   zero-exact z =
-      by (leb (2 ^ 63) a) 0 1 (lit< tt) (subst (λ (x : Float). HasValue x (leb (2 ^ 63) a) 0 1) (sym (word-zero a z)) (refl, refl))
-      (held (leb (2 ^ 63) a) _ (omega (arith, whole-most d (leb (2 ^ 63) a) 0 1)))
+      by (leb (2 ^ 63) a) 0 1 (lit< tt) (subst (λ (x : Float). HasValue x (leb (2 ^ 63) a) 0 1) (sym (word_zero a z)) (refl, refl))
+      (held (leb (2 ^ 63) a) _ (omega (arith, whole_most d (leb (2 ^ 63) a) 0 1)))
 
   small-exact : 0 < a % 2 ^ 63 → a % 2 ^ 63 < 1075 * 2 ^ 52 → Exact
   small-exact lo hi = go (unpacked a lo (omega arith))
@@ -122,18 +122,18 @@ module _ (d : Direction) (a : ℕ) (s : Bool) (p c : ℕ) (C : 0 < c) (v : HasVa
           let t = leb (2 ^ 63) a in
           let k = 8192 - biased e in
           let i : Is e 0 k =
-          is-shift e (biased e) 8192 0 k (is-biased e (omega (arith, u.2.small))) (omega (arith, u.2.place)) in
+          is_shift e (biased e) 8192 0 k (is_biased e (omega (arith, u.2.small))) (omega (arith, u.2.place)) in
           by t m (2 ^ k) (pow_pos k)
           (rescale (value a) t (m * up e) (down e) m (2 ^ k) (down_pos e)
-          (sym (mul_assoc m (up e) (2 ^ k) ∙ ap (λ (x : ℕ). m * x) (is-pow e 0 k i ∙ one-mul (down e)))) u.2.value)
-          (held t _ (omega (arith, u.2.hi, whole-most d t m (2 ^ k), div-le_self m (2 ^ k))))
+          (sym (mul_assoc m (up e) (2 ^ k) ∙ ap (λ (x : ℕ). m * x) (is_pow e 0 k i ∙ one-mul (down e)))) u.2.value)
+          (held t _ (omega (arith, u.2.hi, whole_most d t m (2 ^ k), div-le_self m (2 ^ k))))
 
   large-exact : 1075 * 2 ^ 52 ≤ a % 2 ^ 63 → a % 2 ^ 63 < 2047 * 2 ^ 52 → Exact
   large-exact lo hi =
       let t = leb (2 ^ 63) a in
-      let u = large-value a lo hi in
+      let u = large_value a lo hi in
       by t (u.0 * 2 ^ 1074) (2 ^ 1074) (pow_pos 1074) u.1
-      (subst (λ (k : ℕ). HasValue (round binary64 t k 1) t k 1) (sym (no-rest d t u.0 (2 ^ 1074) (pow_pos 1074))) u.2)
+      (subst (λ (k : ℕ). HasValue (round binary64 t k 1) t k 1) (sym (no_rest d t u.0 (2 ^ 1074) (pow_pos 1074))) u.2)
 
   finite : a % 2 ^ 63 < 2047 * 2 ^ 52
   finite = go (ltb (2047 * 2 ^ 52) (a % 2 ^ 63)) (ltb (a % 2 ^ 63) (2047 * 2 ^ 52)) refl refl
@@ -143,9 +143,9 @@ module _ (d : Direction) (a : ℕ) (s : Bool) (p c : ℕ) (C : 0 < c) (v : HasVa
 
       go : (over under : Bool) → ltb (2047 * 2 ^ 52) (a % 2 ^ 63) ≡ over → ltb (a % 2 ^ 63) (2047 * 2 ^ 52) ≡ under → a % 2 ^ 63 < 2047 * 2 ^ 52
       go over true o u = ltb-true (a % 2 ^ 63) (2047 * 2 ^ 52) u
-      go true false o u = absurd (lost nan (above-nan a (ltb-true (2047 * 2 ^ 52) (a % 2 ^ 63) o)))
+      go true false o u = absurd (lost nan (above_nan a (ltb-true (2047 * 2 ^ 52) (a % 2 ^ 63) o)))
       go false false o u =
-          absurd (lost (inf (leb (2 ^ 63) a)) (word-infinite a (omega (arith, ltb-false (2047 * 2 ^ 52) (a % 2 ^ 63) o, ltb-false (a % 2 ^ 63) (2047 * 2 ^ 52) u))))
+          absurd (lost (inf (leb (2 ^ 63) a)) (word_infinite a (omega (arith, ltb-false (2047 * 2 ^ 52) (a % 2 ^ 63) o, ltb-false (a % 2 ^ 63) (2047 * 2 ^ 52) u))))
 
   exact : Exact
   exact = elim (eq-zero-or-pos (a % 2 ^ 63)) [
@@ -157,10 +157,10 @@ module _ (d : Direction) (a : ℕ) (s : Bool) (p c : ℕ) (C : 0 < c) (v : HasVa
       go true e h = small-exact h (ltb-true (a % 2 ^ 63) (1075 * 2 ^ 52) e)
       go false e h = large-exact (ltb-false (a % 2 ^ 63) (1075 * 2 ^ 52) e) finite
 
-pub integral-law : IntegralLaw (λ d. roundToIntegral d binary64)
+pub integral_law : IntegralLaw (λ d. round_to_integral d binary64)
 unfolding Exact
-integral-law d a s p c C v = (
+integral_law d a s p c C v = (
   whole d s p c,
   goes p c C d s,
-  subst (λ (y : Float). HasValue y s (whole d s p c) 1) (sym (integral-at d (value a) s p c C v)) (exact d a s p c C v),
+  subst (λ (y : Float). HasValue y s (whole d s p c) 1) (sym (integral_at d (value a) s p c C v)) (exact d a s p c C v),
 )

@@ -1,4 +1,4 @@
--- fusedMultiplyAdd of IEEE 754 (5.4.1): (x × y) + z as if with unbounded range and precision, rounded once. Assumes nothing.
+-- fused_multiply_add of IEEE 754 (5.4.1): (x × y) + z as if with unbounded range and precision, rounded once. Assumes nothing.
 use Rattle.std.specs.Prelude.{ℕ, ◌*◌, Bool, cond, eqb, Float}
 use Rattle.std.specs.Bool.{beq}
 use Rattle.std.specs.Float.{nan, inf, fin, Format}
@@ -21,17 +21,17 @@ product (fin s m e) (inf t) = cond (eqb m 0) none (infinite (unlike s t))
 product (fin s m e) (fin t n d) = exactly (unlike s t) (m * up e * (n * up d)) (down e * down d)
 
 -- As in addition: infinities of unlike signs give a NaN (7.2). `sum` rounds ±a / c + ±b / c once, and has 6.3's sign of a sum that is exactly zero.
-unfoldable pub plusProduct : Format → Product → Float → Float
+unfoldable pub plus_product : Format → Product → Float → Float
 unfolding sum
-plusProduct f none z = nan
-plusProduct f (infinite s) nan = nan
-plusProduct f (infinite s) (inf t) = cond (beq s t) (inf s) nan
-plusProduct f (infinite s) (fin t n d) = inf s
-plusProduct f (exactly s a c) nan = nan
-plusProduct f (exactly s a c) (inf t) = inf t
-plusProduct f (exactly s a c) (fin t n d) = sum f s (a * down d) t (n * up d * c) (c * down d)
+plus_product f none z = nan
+plus_product f (infinite s) nan = nan
+plus_product f (infinite s) (inf t) = cond (beq s t) (inf s) nan
+plus_product f (infinite s) (fin t n d) = inf s
+plus_product f (exactly s a c) nan = nan
+plus_product f (exactly s a c) (inf t) = inf t
+plus_product f (exactly s a c) (fin t n d) = sum f s (a * down d) t (n * up d * c) (c * down d)
 
--- x * y + z, rounded by `plusProduct` alone
-unfoldable pub fusedMultiplyAdd : Format → Float → Float → Float → Float
-unfolding product plusProduct
-fusedMultiplyAdd f x y z = plusProduct f (product x y) z
+-- x * y + z, rounded by `plus_product` alone
+unfoldable pub fused_multiply_add : Format → Float → Float → Float → Float
+unfolding product plus_product
+fused_multiply_add f x y z = plus_product f (product x y) z

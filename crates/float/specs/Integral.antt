@@ -1,4 +1,4 @@
--- roundToIntegral of IEEE 754 (5.3.1), in each direction of 4.3, which src/integral.rt declares. Assumes nothing.
+-- round_to_integral of IEEE 754 (5.3.1), in each direction of 4.3, which src/integral.rt declares. Assumes nothing.
 use Rattle.std.specs.Prelude.{ℕ, ◌+◌, ◌*◌, ◌/◌, ◌%◌, Bool, cond, eqb, Float}
 use Rattle.std.specs.Float.{nan, inf, fin, Format}
 use Rattle.std.specs.Float.Ieee.{up, down, round}
@@ -18,8 +18,8 @@ whole TowardPositive s n c = cond s (n / c) (ceiling n c)
 whole TowardZero s n c = n / c
 
 -- An infinity is kept (6.1), a NaN too (6.2); a result of zero has the operand's sign (6.3). The whole number is a value of the format, so that `round` only writes it down.
-unfoldable pub roundToIntegral : Direction → Format → Float → Float
+unfoldable pub round_to_integral : Direction → Format → Float → Float
 unfolding round
-roundToIntegral d f nan = nan
-roundToIntegral d f (inf s) = inf s
-roundToIntegral d f (fin s m e) = round f s (whole d s (m * up e) (down e)) 1
+round_to_integral d f nan = nan
+round_to_integral d f (inf s) = inf s
+round_to_integral d f (fin s m e) = round f s (whole d s (m * up e) (down e)) 1

@@ -1,4 +1,4 @@
--- What Root, the roundings to a whole number, MulAdd and IfElse mean, said without their definitions (theorems `nearestRoot`, `oneRoot`, `integral`, `mulAdd`, `ifElse`).
+-- What Root, the roundings to a whole number, MulAdd and IfElse mean, said without their definitions (theorems `nearest_root`, `one_root`, `integral`, `mul_add`, `if_else`).
 -- `HasValue x s p c` says that x is finite, has the sign s, and is p / c in size. Assumes nothing.
 use Rattle.std.specs.Prelude.{◌≡◌, ◌⊎◌, Bool, true, false, cond, ◌&&◌, ℕ, zero, suc, ◌+◌, ◌-◌, ◌*◌, ◌/◌, ◌%◌, ◌^◌, ◌≤◌, ◌<◌, eqb, ℤ, pos, negsuc, neg_ℤ, ◌+ℤ◌, ◌*ℤ◌, Float}
 use Rattle.std.specs.Float.{binary64}
@@ -68,17 +68,17 @@ abbrev pub signed : Bool → ℕ → ℤ
 signed s n = cond s (neg_ℤ (pos n)) (pos n)
 
 -- the fraction n / d rounded once; where it is zero, the zero with the sign s
-abbrev pub roundSigned : Bool → ℤ → ℕ → Float
-roundSigned s (pos zero) d = round binary64 s 0 d
-roundSigned s (pos (suc n)) d = round binary64 false (suc n) d
-roundSigned s (negsuc n) d = round binary64 true (suc n) d
+abbrev pub round_signed : Bool → ℤ → ℕ → Float
+round_signed s (pos zero) d = round binary64 s 0 d
+round_signed s (pos (suc n)) d = round binary64 false (suc n) d
+round_signed s (negsuc n) d = round binary64 true (suc n) d
 
 -- Of finite values ±p / c, ±q / d and ±n / g, with the signs r, s and t, the exact value before rounding is p / c * (q / d) + n / g as a signed fraction.
 -- A zero is -0 only where the product and the addend are both negative (6.3).
 abbrev pub MulAddLaw : (Float → Float → Float → Float) → Type 0
-MulAddLaw mulAdd =
+MulAddLaw mul_add =
     (x y z : Float) (r s t : Bool) (p q n c d g : ℕ) → 0 < c → 0 < d → 0 < g → HasValue x r p c → HasValue y s q d → HasValue z t n g
-    → mulAdd x y z ≡ roundSigned (unlike r s && t) (signed r p *ℤ signed s q *ℤ pos g +ℤ signed t n *ℤ pos (c * d)) (c * d * g)
+    → mul_add x y z ≡ round_signed (unlike r s && t) (signed r p *ℤ signed s q *ℤ pos g +ℤ signed t n *ℤ pos (c * d)) (c * d * g)
 
 -- ---- IfElse
 -- bit i of a word, counted from the lowest
@@ -87,4 +87,4 @@ bit i a = a / 2 ^ i % 2
 
 -- each bit of a word is chosen by the same bit of c
 abbrev pub IfElseLaw : (ℕ → ℕ → ℕ → ℕ) → Type 0
-IfElseLaw ifElse = (i c t f : ℕ) → i < 64 → c < 2 ^ 64 → bit i (ifElse c t f) ≡ cond (eqb (bit i c) 1) (bit i t) (bit i f)
+IfElseLaw if_else = (i c t f : ℕ) → i < 64 → c < 2 ^ 64 → bit i (if_else c t f) ≡ cond (eqb (bit i c) 1) (bit i t) (bit i f)

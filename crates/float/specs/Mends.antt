@@ -31,12 +31,12 @@ abbrev pub above : ℕ → ℕ → ℕ
 above n u = cond (leb (u * u) n) 0 1
 
 -- the last mend: downwards by one unit where the square is above n; elsewhere there is none
-abbrev pub lastMend : ℕ → Estimate → Estimate
-lastMend n u = record { value = u.value - above n u.value; mends = u.mends + above n u.value }
+abbrev pub last_mend : ℕ → Estimate → Estimate
+last_mend n u = record { value = u.value - above n u.value; mends = u.mends + above n u.value }
 
 -- the mends in their order: three of an estimate of 27 digits, one of 53 digits, and the last
 unfoldable pub mended : ℕ → Estimate
-mended m = lastMend (m * 2 ^ 52) (mend (m * 2 ^ 52) (lengthen (mend m (mend m (mend m (estimate m))))))
+mended m = last_mend (m * 2 ^ 52) (mend (m * 2 ^ 52) (lengthen (mend m (mend m (mend m (estimate m))))))
 
 -- "in a proved eight steps at most": the mended estimate is the whole root of m * 2 ^ 52, after eight mends at most
 abbrev pub EightMends : (ℕ → Estimate) → Type 0
@@ -60,6 +60,6 @@ unfolding mended
 of_two = refl
 
 -- for the root of 5, 77594624 is mended downwards to 75072373, 75030002 and 75029990, and the last mend takes a unit from 5035177455121576
-pub of-five : mended (5 * 2 ^ 50) ≡ record { value = 5035177455121575; mends = 5 }
+pub of_five : mended (5 * 2 ^ 50) ≡ record { value = 5035177455121575; mends = 5 }
 unfolding mended
-of-five = refl
+of_five = refl

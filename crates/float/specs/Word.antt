@@ -4,9 +4,9 @@ use Rattle.std.specs.Prelude.{ℕ, ◌-◌, ◌*◌, ◌/◌, ◌%◌, ◌^◌, 
 use Rattle.std.specs.Int.Bits.{bit_and, bit_or, bit_xor}
 use Rattle.std.specs.Float.{nan, inf, fin, Format, binary64}
 use Rattle.std.specs.Float.Ieee.{of_bits, to_bits, is_nan, add, sub, mul, div, lt, le, eq, ne}
-use Rattle.float.specs.Root.{squareRoot}
-use Rattle.float.specs.Fused.{fusedMultiplyAdd}
-use Rattle.float.specs.Integral.{roundToIntegral}
+use Rattle.float.specs.Root.{square_root}
+use Rattle.float.specs.Fused.{fused_multiply_add}
+use Rattle.float.specs.Integral.{round_to_integral}
 use Rattle.float.specs.declared.integral.Direction.{Direction}
 use Rattle.float.specs.declared.integral.Direction.TheVariants.{TiesToEven, TowardNegative, TowardPositive, TowardZero}
 
@@ -62,17 +62,17 @@ half a = times a 0x3fe0_0000_0000_0000
 abbrev pub recip : ℕ → ℕ
 recip a = divide 0x3ff0_0000_0000_0000 a
 
--- squareRoot
+-- square_root
 abbrev pub root : ℕ → ℕ
-root a = unary squareRoot a
+root a = unary square_root a
 
--- "MulAdd is fusedMultiplyAdd": a * b + c
-abbrev pub mulAdd : ℕ → ℕ → ℕ → ℕ
-mulAdd a b c = ternary fusedMultiplyAdd a b c
+-- "MulAdd is fused_multiply_add": a * b + c
+abbrev pub mul_add : ℕ → ℕ → ℕ → ℕ
+mul_add a b c = ternary fused_multiply_add a b c
 
--- roundToIntegral (5.3.1), in each direction
+-- round_to_integral (5.3.1), in each direction
 abbrev pub integral : Direction → ℕ → ℕ
-integral d a = unary (roundToIntegral d) a
+integral d a = unary (round_to_integral d) a
 
 -- "Round is IEEE roundToIntegralTiesToEven"
 abbrev pub round : ℕ → ℕ
@@ -93,30 +93,30 @@ abbrev pub flag : Bool → ℕ
 flag b = cond b (2 ^ 64 - 1) 0
 
 -- a is above b
-abbrev pub greaterThan : ℕ → ℕ → ℕ
-greaterThan a b = flag (lt (value b) (value a))
+abbrev pub greater_than : ℕ → ℕ → ℕ
+greater_than a b = flag (lt (value b) (value a))
 
 -- a is below b
-abbrev pub littleThan : ℕ → ℕ → ℕ
-littleThan a b = flag (lt (value a) (value b))
+abbrev pub little_than : ℕ → ℕ → ℕ
+little_than a b = flag (lt (value a) (value b))
 
 -- a is above b or equals it
-abbrev pub greaterThanEqual : ℕ → ℕ → ℕ
-greaterThanEqual a b = flag (le (value b) (value a))
+abbrev pub greater_than_equal : ℕ → ℕ → ℕ
+greater_than_equal a b = flag (le (value b) (value a))
 
 -- a is below b or equals it
-abbrev pub littleThanEqual : ℕ → ℕ → ℕ
-littleThanEqual a b = flag (le (value a) (value b))
+abbrev pub little_than_equal : ℕ → ℕ → ℕ
+little_than_equal a b = flag (le (value a) (value b))
 
 -- -0 equals +0
 abbrev pub equal : ℕ → ℕ → ℕ
 equal a b = flag (eq (value a) (value b))
 
 -- the opposite of Equal
-abbrev pub notEqual : ℕ → ℕ → ℕ
-notEqual a b = flag (ne (value a) (value b))
+abbrev pub not_equal : ℕ → ℕ → ℕ
+not_equal a b = flag (ne (value a) (value b))
 
--- document 02, a): "IsZero gives all ones for either zero, else zero": 0 is the word of +0, and of a NaN Equal is false
+-- document 02, a): "IsZero gives all ones for Either zero, else zero": 0 is the word of +0, and of a NaN Equal is false
 abbrev pub is_zero : ℕ → ℕ
 is_zero a = equal a 0
 
@@ -147,23 +147,23 @@ abbrev pub sign : ℕ → ℕ
 sign a = a / 2 ^ 63 * 2 ^ 63
 
 -- "IfElse takes a bit from true where the place's real word has a one, else from false" (bit by bit: IfElseLaw of Laws.antt)
-abbrev pub ifElse : ℕ → ℕ → ℕ → ℕ
-ifElse c t f = or (and c t) (and (not c) f)
+abbrev pub if_else : ℕ → ℕ → ℕ → ℕ
+if_else c t f = or (and c t) (and (not c) f)
 
 -- ---- ComplexBi: the real word, then the imaginary word, "rounding each operation"
 -- "Plus and Minus work half by half"
-abbrev pub complexPlus : ℕ → ℕ → ℕ → ℕ → ℕ × ℕ
-complexPlus x1 y1 x2 y2 = (plus x1 x2, plus y1 y2)
+abbrev pub complex_plus : ℕ → ℕ → ℕ → ℕ → ℕ × ℕ
+complex_plus x1 y1 x2 y2 = (plus x1 x2, plus y1 y2)
 
-abbrev pub complexMinus : ℕ → ℕ → ℕ → ℕ → ℕ × ℕ
-complexMinus x1 y1 x2 y2 = (minus x1 x2, minus y1 y2)
+abbrev pub complex_minus : ℕ → ℕ → ℕ → ℕ → ℕ × ℕ
+complex_minus x1 y1 x2 y2 = (minus x1 x2, minus y1 y2)
 
 -- "x1 times x2 minus y1 times y2, and y1 times x2 plus x1 times y2"
-abbrev pub complexTimes : ℕ → ℕ → ℕ → ℕ → ℕ × ℕ
-complexTimes x1 y1 x2 y2 = (minus (times x1 x2) (times y1 y2), plus (times y1 x2) (times x1 y2))
+abbrev pub complex_times : ℕ → ℕ → ℕ → ℕ → ℕ × ℕ
+complex_times x1 y1 x2 y2 = (minus (times x1 x2) (times y1 y2), plus (times y1 x2) (times x1 y2))
 
 -- "x1 times x2 plus y1 times y2, and y1 times x2 minus x1 times y2, each divided by x2 squared plus y2 squared"
-abbrev pub complexDivide : ℕ → ℕ → ℕ → ℕ → ℕ × ℕ
-complexDivide x1 y1 x2 y2 =
+abbrev pub complex_divide : ℕ → ℕ → ℕ → ℕ → ℕ × ℕ
+complex_divide x1 y1 x2 y2 =
     let d = plus (times x2 x2) (times y2 y2) in
     (divide (plus (times x1 x2) (times y1 y2)) d, divide (minus (times y1 x2) (times x1 y2)) d)

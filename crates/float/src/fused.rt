@@ -63,7 +63,7 @@ pub(crate) fn fused_parts(x: Parts, y: Parts, z: Parts) -> u64
 // a * b + c, of finite words. A product that is zero is exact, and addition gives the sum.
 pub(crate) fn fused_finite(a: u64, b: u64, c: u64) -> u64
     requires { (a % 2 ^ 63 < 2047 * 2 ^ 52) × (b % 2 ^ 63 < 2047 * 2 ^ 52) × (c % 2 ^ 63 < 2047 * 2 ^ 52) }
-    ensures { result ≡ Word.mulAdd a b c }
+    ensures { result ≡ Word.mul_add a b c }
 {
     if abs(a) == 0 || abs(b) == 0 {
         return plus(xor(sign(a), sign(b)), c);

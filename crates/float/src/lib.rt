@@ -123,25 +123,25 @@ fn flag(b: bool) -> u64
 }
 
 pub fn greater_than(a: u64, b: u64) -> u64
-    ensures { result ≡ Word.greaterThan a b }
+    ensures { result ≡ Word.greater_than a b }
 {
     flag(read(a) > read(b))
 }
 
 pub fn little_than(a: u64, b: u64) -> u64
-    ensures { result ≡ Word.littleThan a b }
+    ensures { result ≡ Word.little_than a b }
 {
     flag(read(a) < read(b))
 }
 
 pub fn greater_than_equal(a: u64, b: u64) -> u64
-    ensures { result ≡ Word.greaterThanEqual a b }
+    ensures { result ≡ Word.greater_than_equal a b }
 {
     flag(read(a) >= read(b))
 }
 
 pub fn little_than_equal(a: u64, b: u64) -> u64
-    ensures { result ≡ Word.littleThanEqual a b }
+    ensures { result ≡ Word.little_than_equal a b }
 {
     flag(read(a) <= read(b))
 }
@@ -153,12 +153,12 @@ pub fn equal(a: u64, b: u64) -> u64
 }
 
 pub fn not_equal(a: u64, b: u64) -> u64
-    ensures { result ≡ Word.notEqual a b }
+    ensures { result ≡ Word.not_equal a b }
 {
     flag(read(a) != read(b))
 }
 
-// Whether a is either zero.
+// Whether a is Either zero.
 pub fn is_zero(a: u64) -> u64
     ensures { result ≡ Word.is_zero a }
 {
@@ -209,7 +209,7 @@ pub fn sign(a: u64) -> u64
 
 // Each bit from true_val where cond has a one, else from false_val.
 pub fn if_else(cond: u64, true_val: u64, false_val: u64) -> u64
-    ensures { result ≡ Word.ifElse cond true_val false_val }
+    ensures { result ≡ Word.if_else cond true_val false_val }
 {
     (cond & true_val) | (!cond & false_val)
 }
@@ -264,7 +264,7 @@ pub fn root(a: u64) -> u64
 
 // a * b + c, rounded once. Where a or b is infinite or a NaN the product is exact, and where c alone is, the sum is c.
 pub fn mul_add(a: u64, b: u64, c: u64) -> u64
-    ensures { result ≡ Word.mulAdd a b c }
+    ensures { result ≡ Word.mul_add a b c }
 {
     if abs(a) >= INFINITY || abs(b) >= INFINITY {
         return write(read(a) * read(b) + read(c), a, b, c);
@@ -276,7 +276,7 @@ pub fn mul_add(a: u64, b: u64, c: u64) -> u64
 }
 
 pub fn complex_plus(x1: u64, y1: u64, x2: u64, y2: u64) -> Pair
-    ensures { (result.re ≡ (Word.complexPlus x1 y1 x2 y2).0) × (result.im ≡ (Word.complexPlus x1 y1 x2 y2).1) }
+    ensures { (result.re ≡ (Word.complex_plus x1 y1 x2 y2).0) × (result.im ≡ (Word.complex_plus x1 y1 x2 y2).1) }
 {
     Pair {
         re: plus(x1, x2),
@@ -285,7 +285,7 @@ pub fn complex_plus(x1: u64, y1: u64, x2: u64, y2: u64) -> Pair
 }
 
 pub fn complex_minus(x1: u64, y1: u64, x2: u64, y2: u64) -> Pair
-    ensures { (result.re ≡ (Word.complexMinus x1 y1 x2 y2).0) × (result.im ≡ (Word.complexMinus x1 y1 x2 y2).1) }
+    ensures { (result.re ≡ (Word.complex_minus x1 y1 x2 y2).0) × (result.im ≡ (Word.complex_minus x1 y1 x2 y2).1) }
 {
     Pair {
         re: minus(x1, x2),
@@ -294,7 +294,7 @@ pub fn complex_minus(x1: u64, y1: u64, x2: u64, y2: u64) -> Pair
 }
 
 pub fn complex_times(x1: u64, y1: u64, x2: u64, y2: u64) -> Pair
-    ensures { (result.re ≡ (Word.complexTimes x1 y1 x2 y2).0) × (result.im ≡ (Word.complexTimes x1 y1 x2 y2).1) }
+    ensures { (result.re ≡ (Word.complex_times x1 y1 x2 y2).0) × (result.im ≡ (Word.complex_times x1 y1 x2 y2).1) }
 {
     Pair {
         re: minus(times(x1, x2), times(y1, y2)),
@@ -303,7 +303,7 @@ pub fn complex_times(x1: u64, y1: u64, x2: u64, y2: u64) -> Pair
 }
 
 pub fn complex_divide(x1: u64, y1: u64, x2: u64, y2: u64) -> Pair
-    ensures { (result.re ≡ (Word.complexDivide x1 y1 x2 y2).0) × (result.im ≡ (Word.complexDivide x1 y1 x2 y2).1) }
+    ensures { (result.re ≡ (Word.complex_divide x1 y1 x2 y2).0) × (result.im ≡ (Word.complex_divide x1 y1 x2 y2).1) }
 {
     let d = plus(times(x2, x2), times(y2, y2));
     let re = plus(times(x1, x2), times(y1, y2));

@@ -46,28 +46,28 @@ pub extern "C" fn tulipcricket_recip(a: u64) -> u64
 
 #[unsafe(no_mangle)]
 pub extern "C" fn tulipcricket_greater_than(a: u64, b: u64) -> u64
-    ensures { result ≡ Word.greaterThan a b }
+    ensures { result ≡ Word.greater_than a b }
 {
     float::greater_than(a, b)
 }
 
 #[unsafe(no_mangle)]
 pub extern "C" fn tulipcricket_little_than(a: u64, b: u64) -> u64
-    ensures { result ≡ Word.littleThan a b }
+    ensures { result ≡ Word.little_than a b }
 {
     float::little_than(a, b)
 }
 
 #[unsafe(no_mangle)]
 pub extern "C" fn tulipcricket_greater_than_equal(a: u64, b: u64) -> u64
-    ensures { result ≡ Word.greaterThanEqual a b }
+    ensures { result ≡ Word.greater_than_equal a b }
 {
     float::greater_than_equal(a, b)
 }
 
 #[unsafe(no_mangle)]
 pub extern "C" fn tulipcricket_little_than_equal(a: u64, b: u64) -> u64
-    ensures { result ≡ Word.littleThanEqual a b }
+    ensures { result ≡ Word.little_than_equal a b }
 {
     float::little_than_equal(a, b)
 }
@@ -81,7 +81,7 @@ pub extern "C" fn tulipcricket_equal(a: u64, b: u64) -> u64
 
 #[unsafe(no_mangle)]
 pub extern "C" fn tulipcricket_not_equal(a: u64, b: u64) -> u64
-    ensures { result ≡ Word.notEqual a b }
+    ensures { result ≡ Word.not_equal a b }
 {
     float::not_equal(a, b)
 }
@@ -144,7 +144,7 @@ pub extern "C" fn tulipcricket_sign(a: u64) -> u64
 
 #[unsafe(no_mangle)]
 pub extern "C" fn tulipcricket_if_else(cond: u64, true_val: u64, false_val: u64) -> u64
-    ensures { result ≡ Word.ifElse cond true_val false_val }
+    ensures { result ≡ Word.if_else cond true_val false_val }
 {
     float::if_else(cond, true_val, false_val)
 }
@@ -186,7 +186,7 @@ pub extern "C" fn tulipcricket_root(a: u64) -> u64
 
 #[unsafe(no_mangle)]
 pub extern "C" fn tulipcricket_mul_add(a: u64, b: u64, c: u64) -> u64
-    ensures { result ≡ Word.mulAdd a b c }
+    ensures { result ≡ Word.mul_add a b c }
 {
     float::mul_add(a, b, c)
 }
@@ -194,56 +194,56 @@ pub extern "C" fn tulipcricket_mul_add(a: u64, b: u64, c: u64) -> u64
 // The complex operations: one function for the real word, one for the imaginary word.
 #[unsafe(no_mangle)]
 pub extern "C" fn tulipcricket_complex_plus_re(x1: u64, y1: u64, x2: u64, y2: u64) -> u64
-    ensures { result ≡ (Word.complexPlus x1 y1 x2 y2).0 }
+    ensures { result ≡ (Word.complex_plus x1 y1 x2 y2).0 }
 {
     float::complex_plus(x1, y1, x2, y2).re
 }
 
 #[unsafe(no_mangle)]
 pub extern "C" fn tulipcricket_complex_plus_im(x1: u64, y1: u64, x2: u64, y2: u64) -> u64
-    ensures { result ≡ (Word.complexPlus x1 y1 x2 y2).1 }
+    ensures { result ≡ (Word.complex_plus x1 y1 x2 y2).1 }
 {
     float::complex_plus(x1, y1, x2, y2).im
 }
 
 #[unsafe(no_mangle)]
 pub extern "C" fn tulipcricket_complex_minus_re(x1: u64, y1: u64, x2: u64, y2: u64) -> u64
-    ensures { result ≡ (Word.complexMinus x1 y1 x2 y2).0 }
+    ensures { result ≡ (Word.complex_minus x1 y1 x2 y2).0 }
 {
     float::complex_minus(x1, y1, x2, y2).re
 }
 
 #[unsafe(no_mangle)]
 pub extern "C" fn tulipcricket_complex_minus_im(x1: u64, y1: u64, x2: u64, y2: u64) -> u64
-    ensures { result ≡ (Word.complexMinus x1 y1 x2 y2).1 }
+    ensures { result ≡ (Word.complex_minus x1 y1 x2 y2).1 }
 {
     float::complex_minus(x1, y1, x2, y2).im
 }
 
 #[unsafe(no_mangle)]
 pub extern "C" fn tulipcricket_complex_times_re(x1: u64, y1: u64, x2: u64, y2: u64) -> u64
-    ensures { result ≡ (Word.complexTimes x1 y1 x2 y2).0 }
+    ensures { result ≡ (Word.complex_times x1 y1 x2 y2).0 }
 {
     float::complex_times(x1, y1, x2, y2).re
 }
 
 #[unsafe(no_mangle)]
 pub extern "C" fn tulipcricket_complex_times_im(x1: u64, y1: u64, x2: u64, y2: u64) -> u64
-    ensures { result ≡ (Word.complexTimes x1 y1 x2 y2).1 }
+    ensures { result ≡ (Word.complex_times x1 y1 x2 y2).1 }
 {
     float::complex_times(x1, y1, x2, y2).im
 }
 
 #[unsafe(no_mangle)]
 pub extern "C" fn tulipcricket_complex_divide_re(x1: u64, y1: u64, x2: u64, y2: u64) -> u64
-    ensures { result ≡ (Word.complexDivide x1 y1 x2 y2).0 }
+    ensures { result ≡ (Word.complex_divide x1 y1 x2 y2).0 }
 {
     float::complex_divide(x1, y1, x2, y2).re
 }
 
 #[unsafe(no_mangle)]
 pub extern "C" fn tulipcricket_complex_divide_im(x1: u64, y1: u64, x2: u64, y2: u64) -> u64
-    ensures { result ≡ (Word.complexDivide x1 y1 x2 y2).1 }
+    ensures { result ≡ (Word.complex_divide x1 y1 x2 y2).1 }
 {
     float::complex_divide(x1, y1, x2, y2).im
 }

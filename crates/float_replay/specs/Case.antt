@@ -7,12 +7,12 @@ use Rattle.words.specs.Bytes.{word_at}
 abbrev pub answers : ℕ → ℕ → ℕ → ℕ → List ℕ
 answers a b c d =
     Word.plus a b ∷ Word.minus a b ∷ Word.times a b ∷ Word.divide a b ∷ Word.half a ∷ Word.recip a ∷
-    Word.greaterThan a b ∷ Word.littleThan a b ∷ Word.equal a b ∷ Word.notEqual a b ∷
+    Word.greater_than a b ∷ Word.little_than a b ∷ Word.equal a b ∷ Word.not_equal a b ∷
     Word.neg a ∷ Word.abs a ∷ Word.not a ∷ Word.and a b ∷ Word.or a b ∷ Word.xor a b ∷ Word.sign a ∷
-    Word.ifElse a b c ∷ Word.round a ∷ Word.root a ∷ Word.mulAdd a b c ∷
-    (Word.complexPlus a b c d).0 ∷ (Word.complexPlus a b c d).1 ∷ (Word.complexMinus a b c d).0 ∷ (Word.complexMinus a b c d).1 ∷
-    (Word.complexTimes a b c d).0 ∷ (Word.complexTimes a b c d).1 ∷ (Word.complexDivide a b c d).0 ∷ (Word.complexDivide a b c d).1 ∷
-    Word.floor a ∷ Word.ceiling a ∷ Word.trunc a ∷ Word.is_zero a ∷ Word.greaterThanEqual a b ∷ Word.littleThanEqual a b ∷ []
+    Word.if_else a b c ∷ Word.round a ∷ Word.root a ∷ Word.mul_add a b c ∷
+    (Word.complex_plus a b c d).0 ∷ (Word.complex_plus a b c d).1 ∷ (Word.complex_minus a b c d).0 ∷ (Word.complex_minus a b c d).1 ∷
+    (Word.complex_times a b c d).0 ∷ (Word.complex_times a b c d).1 ∷ (Word.complex_divide a b c d).0 ∷ (Word.complex_divide a b c d).1 ∷
+    Word.floor a ∷ Word.ceiling a ∷ Word.trunc a ∷ Word.is_zero a ∷ Word.greater_than_equal a b ∷ Word.little_than_equal a b ∷ []
 
 unfoldable pub answer : ℕ → ℕ → ℕ → ℕ → ℕ → ℕ
 answer op a b c d = get_or (answers a b c d) op 0

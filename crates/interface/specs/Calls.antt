@@ -1,9 +1,9 @@
 -- What the C functions give, over the bytes that a caller lends.
 use Rattle.std.specs.Prelude.{ℕ, ◌%◌, not, cond, ◌||◌, List, [], ◌∷◌, ◌++◌, map, length, take, replicate, eqb}
 use Rattle.std.proofs.lemmas.List.Edits.{sets}
-use Rattle.mir.specs.Encode.{flagByte}
+use Rattle.mir.specs.Encode.{flag_byte}
 use Rattle.player_machine.specs.Answer.{Answer, answer}
-use Rattle.lowering.specs.RecordBytes.{recordBytes}
+use Rattle.lowering.specs.RecordBytes.{record_bytes}
 use Rattle.complexify.specs.declared.entry.LowerAnswer as Lowered
 use Rattle.complexify.specs.Entry as Lower
 use Rattle.words.specs.Bytes.{bytes, bytes_of, words_of}
@@ -22,9 +22,9 @@ given a =
 -- An answer of another length than 24 bytes is refused by 8 with nothing written. Constants that are no whole number of words, and a store
 -- of another length than 1,602 words of eight bytes, are refused by 8 as the entry refuses a wrong setup: index 0, none played, the store
 -- unchanged. Otherwise the call gives what the entry gives for the words.
-unfoldable pub playCall : List ℕ → List ℕ → List ℕ → ℕ → List ℕ → PlayCall
+unfoldable pub play_call : List ℕ → List ℕ → List ℕ → ℕ → List ℕ → PlayCall
 unfolding bytes_of words_of
-playCall listing constants store start lent =
+play_call listing constants store start lent =
     cond (not (eqb (length lent) 24)) (record { number = 8; store = store; answer = lent })
     (cond (not (eqb (length constants % 8) 0) || not (eqb (length store) 12816))
     (record { number = 8; store = store; answer = bytes_of (8 ∷ 0 ∷ 0 ∷ []) })
@@ -42,41 +42,41 @@ pub record LowerCall : Type 0 where
 -- the answer of lowering: number, index, bytes written and count of constants, eight bytes each; the flags of the 32 registers, 1 where one is
 -- recorded as real; the 64 bytes of real places; the 66 marks of a listing's registers that are filled, and the 66 of those drawn on before
 -- being filled, 1 where one is set
-abbrev pub lowerAnswer : Lowered.LowerAnswer → List ℕ
-lowerAnswer a =
+abbrev pub lower_answer : Lowered.LowerAnswer → List ℕ
+lower_answer a =
     bytes_of (a.number ∷ a.index ∷ a.written ∷ a.count ∷ [])
-    ++ (recordBytes a.real ++ (map flagByte a.filled ++ map flagByte a.drawn))
+    ++ (record_bytes a.real ++ (map flag_byte a.filled ++ map flag_byte a.drawn))
 
 -- numbers of two bytes each, the lower first
-unfoldable pub pairsOf : List ℕ → List ℕ
+unfoldable pub pairs_of : List ℕ → List ℕ
 unfolding bytes
-pairsOf [] = []
-pairsOf (n ∷ ns) = bytes 2 n ++ pairsOf ns
+pairs_of [] = []
+pairs_of (n ∷ ns) = bytes 2 n ++ pairs_of ns
 
 -- the 256 origins that the entry is lent, none of which it reads
 unfoldable pub unnamed : List ℕ
 unnamed = replicate 256 0
 
 -- the origins' bytes after lowering: of the constants counted what the entry gives, two bytes each, and every later byte as lent
-unfoldable pub originsOver : List ℕ → List ℕ → List ℕ → List ℕ → List ℕ
-unfolding pairsOf unnamed
-originsOver sheet listing constants origins =
+unfoldable pub origins_over : List ℕ → List ℕ → List ℕ → List ℕ → List ℕ
+unfolding pairs_of unnamed
+origins_over sheet listing constants origins =
     let a = Lower.answer sheet listing constants unnamed in
-    sets origins 0 (pairsOf (take a.count (Lower.originsAfter sheet listing constants unnamed)))
+    sets origins 0 (pairs_of (take a.count (Lower.origins_after sheet listing constants unnamed)))
 
 -- An answer of another length than 260 bytes is refused by 8 with nothing written. Constants of another length than 256 words of eight
 -- bytes, and origins of another length than 256 numbers of two bytes, are refused by 8 as the entry refuses a wrong setup: listing, constants
 -- and origins unchanged. Otherwise the call gives what the entry gives for the words.
-unfoldable pub lowerCall : List ℕ → List ℕ → List ℕ → List ℕ → List ℕ → LowerCall
-unfolding bytes_of words_of originsOver
-lowerCall sheet listing constants origins lent =
+unfoldable pub lower_call : List ℕ → List ℕ → List ℕ → List ℕ → List ℕ → LowerCall
+unfolding bytes_of words_of origins_over
+lower_call sheet listing constants origins lent =
     cond (not (eqb (length lent) 260)) (record { number = 8; listing = listing; constants = constants; origins = origins; answer = lent })
     (cond (not (eqb (length constants) 2048) || not (eqb (length origins) 512))
-    (record { number = 8; listing = listing; constants = constants; origins = origins; answer = lowerAnswer Lower.refusedSetup })
+    (record { number = 8; listing = listing; constants = constants; origins = origins; answer = lower_answer Lower.refused_setup })
     (record {
       number = (Lower.answer sheet listing (words_of constants) unnamed).number;
-      listing = Lower.listingAfter sheet listing (words_of constants) unnamed;
-      constants = bytes_of (Lower.constantsAfter sheet listing (words_of constants) unnamed);
-      origins = originsOver sheet listing (words_of constants) origins;
-      answer = lowerAnswer (Lower.answer sheet listing (words_of constants) unnamed);
+      listing = Lower.listing_after sheet listing (words_of constants) unnamed;
+      constants = bytes_of (Lower.constants_after sheet listing (words_of constants) unnamed);
+      origins = origins_over sheet listing (words_of constants) origins;
+      answer = lower_answer (Lower.answer sheet listing (words_of constants) unnamed);
     }))

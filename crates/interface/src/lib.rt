@@ -1,12 +1,12 @@
 // The two entries as C functions. Words go in and out as eight bytes each, the lowest first.
 ghost use Rattle.std.specs.Prelude.{◌≡◌, [], ◌∷◌, map, ◌*◌, ◌≤◌, length};
 ghost use Rattle.std.proofs.lemmas.List.Edits.{sets};
-ghost use Rattle.mir.specs.Encode.{flagByte};
+ghost use Rattle.mir.specs.Encode.{flag_byte};
 ghost use Rattle.player_machine.specs.Answer.{answer};
 ghost use Rattle.player.specs.Values.{whole};
 ghost use Rattle.complexify.specs.Entry as Entry;
 ghost use Rattle.words.specs.Bytes.{bytes_of, words_of, stored};
-ghost use Rattle.interface.specs.Calls.{playCall, lowerCall, lowerAnswer, pairsOf, unnamed, originsOver};
+ghost use Rattle.interface.specs.Calls.{play_call, lower_call, lower_answer, pairs_of, unnamed, origins_over};
 
 use complexify::entry::{LowerAnswer, wrong_setup};
 use lowering::bytes::{put_flags, record_bytes};
@@ -48,7 +48,7 @@ pub extern "C" fn tulipcricket_play_unguarded(
     start: u64,
     answer: &mut [u8],
 ) -> u32
-    ensures { record { number = result; store = store.new; answer = answer.new } ≡ playCall listing.now constants.now store.old start answer.old }
+    ensures { record { number = result; store = store.new; answer = answer.new } ≡ play_call listing.now constants.now store.old start answer.old }
 {
     if answer.len() != 24 {
         return 8;
@@ -70,7 +70,7 @@ pub extern "C" fn tulipcricket_play_unguarded(
 
 // The marks of registers filled, and of those drawn on before, behind the record of realness.
 fn put_marks(out: &mut [u8], filled: [bool; 66], drawn: [bool; 66])
-    ensures { (out.new ≡ stored (stored out.old 128 (map flagByte filled)) 194 (map flagByte drawn))
+    ensures { (out.new ≡ stored (stored out.old 128 (map flag_byte filled)) 194 (map flag_byte drawn))
         × (length filled ≡ 66)
         × (length drawn ≡ 66) }
 {
@@ -81,7 +81,7 @@ fn put_marks(out: &mut [u8], filled: [bool; 66], drawn: [bool; 66])
 // The answer of lowering, as 260 bytes.
 fn put_answer(out: &mut [u8], a: LowerAnswer)
     requires { length out.old ≡ 260 }
-    ensures { out.new ≡ lowerAnswer a }
+    ensures { out.new ≡ lower_answer a }
 {
     let numbers = [
         a.number as u64,
@@ -100,7 +100,7 @@ fn put_answer(out: &mut [u8], a: LowerAnswer)
 // Numbers as two bytes each, the lower first.
 fn put_numbers(out: &mut [u8], numbers: &[u16])
     requires { 2 * length numbers.now ≤ length out.old }
-    ensures { out.new ≡ sets out.old 0 (pairsOf numbers.now) }
+    ensures { out.new ≡ sets out.old 0 (pairs_of numbers.now) }
 {
     let mut i: usize = 0;
     while i < numbers.len() {
@@ -121,9 +121,9 @@ fn lower_words(
     requires constants_len { length constants.old ≡ 2048 }
     requires origins_len { length origins.old ≡ 512 }
     ensures { (result ≡ Entry.answer sheet.now listing.old (words_of constants.old) unnamed)
-        × (listing.new ≡ Entry.listingAfter sheet.now listing.old (words_of constants.old) unnamed)
-        × (constants.new ≡ bytes_of (Entry.constantsAfter sheet.now listing.old (words_of constants.old) unnamed))
-        × (origins.new ≡ originsOver sheet.now listing.old (words_of constants.old) origins.old) }
+        × (listing.new ≡ Entry.listing_after sheet.now listing.old (words_of constants.old) unnamed)
+        × (constants.new ≡ bytes_of (Entry.constants_after sheet.now listing.old (words_of constants.old) unnamed))
+        × (origins.new ≡ origins_over sheet.now listing.old (words_of constants.old) origins.old) }
 {
     let mut words = [0u64; 256];
     let mut numbers = [0u16; 256];
@@ -144,7 +144,7 @@ pub extern "C" fn tulipcricket_lower_unguarded(
     origins: &mut [u8],
     answer: &mut [u8],
 ) -> u32
-    ensures { record { number = result; listing = listing.new; constants = constants.new; origins = origins.new; answer = answer.new } ≡ lowerCall sheet.now listing.old constants.old origins.old answer.old }
+    ensures { record { number = result; listing = listing.new; constants = constants.new; origins = origins.new; answer = answer.new } ≡ lower_call sheet.now listing.old constants.old origins.old answer.old }
 {
     if answer.len() != 260 {
         return 8;

@@ -6,25 +6,25 @@ use Rattle.mir.specs.declared.ops.FusedOp.{FusedOp}
 use Rattle.mir.specs.declared.records.Instruction.{Instruction}
 use Rattle.mir.specs.Read.{Read, got, refused, and_then, registers}
 use Rattle.mir.specs.Field.{byte_at, bytes_at}
-use Rattle.mir.specs.Kinds.{lastRegister}
+use Rattle.mir.specs.Kinds.{last_register}
 use Rattle.kinds.specs.declared.ReadInstruction.{ReadInstruction}
 
-abbrev pub asRead : ReadInstruction → Read Instruction
-asRead (ReadInstruction.Got i) = got i
-asRead (ReadInstruction.Refused n) = refused n
+abbrev pub as_read : ReadInstruction → Read Instruction
+as_read (ReadInstruction.Got i) = got i
+as_read (ReadInstruction.Refused n) = refused n
 
 -- Uni, Bi and Fused behind their operation, which was found or is refused
-abbrev pub uniBehind : Bool → Read UniOp → List ℕ → Read Instruction
-uniBehind listing found s =
-    and_then found (λ op. registers (lastRegister listing) (bytes_at s 5 2) (got (Instruction.Uni op (byte_at s 5) (byte_at s 6))))
+abbrev pub uni_behind : Bool → Read UniOp → List ℕ → Read Instruction
+uni_behind listing found s =
+    and_then found (λ op. registers (last_register listing) (bytes_at s 5 2) (got (Instruction.Uni op (byte_at s 5) (byte_at s 6))))
 
-abbrev pub biBehind : Bool → Read BinOp → List ℕ → Read Instruction
-biBehind listing found s =
-    and_then found (λ op. registers (lastRegister listing) (bytes_at s 5 3) (got (Instruction.Bi op (byte_at s 5) (byte_at s 6) (byte_at s 7))))
+abbrev pub bi_behind : Bool → Read BinOp → List ℕ → Read Instruction
+bi_behind listing found s =
+    and_then found (λ op. registers (last_register listing) (bytes_at s 5 3) (got (Instruction.Bi op (byte_at s 5) (byte_at s 6) (byte_at s 7))))
 
-abbrev pub fusedBehind : Bool → Read FusedOp → List ℕ → Read Instruction
-fusedBehind listing found s =
+abbrev pub fused_behind : Bool → Read FusedOp → List ℕ → Read Instruction
+fused_behind listing found s =
     and_then found
     (λ op.
-    registers (lastRegister listing) (bytes_at s 5 4)
+    registers (last_register listing) (bytes_at s 5 4)
     (got (Instruction.Fused op (byte_at s 5) (byte_at s 6) (byte_at s 7) (byte_at s 8))))

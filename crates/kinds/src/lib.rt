@@ -1,10 +1,10 @@
 // The kinds that sheets and listings share, read from the bytes that begin with the record, as a sheet's instruction over the registers of
-// either. `listing` tells a listing from a sheet; the operation is found by the caller.
+// Either. `listing` tells a listing from a sheet; the operation is found by the caller.
 ghost use Rattle.std.specs.Prelude.{◌≡◌};
-ghost use Rattle.mir.specs.Kinds.{lastRegister, movFrom, loadFrom, saveFrom, loadConstFrom, ifElseFrom};
-ghost use Rattle.mir.specs.Operation.{asUni, asBin, asFused};
+ghost use Rattle.mir.specs.Kinds.{last_register, mov_from, load_from, save_from, load_const_from, if_else_from};
+ghost use Rattle.mir.specs.Operation.{as_uni, as_bin, as_fused};
 ghost use Rattle.mir.specs.declared.records.Instruction.{Instruction};
-ghost use Rattle.kinds.specs.Answer.{asRead, uniBehind, biBehind, fusedBehind};
+ghost use Rattle.kinds.specs.Answer.{as_read, uni_behind, bi_behind, fused_behind};
 
 use mir::fields::{Place, above, byte, read_cond_place, read_place, read_save_place, u16_at};
 use mir::ops::{FoundBin, FoundFused, FoundUni};
@@ -19,13 +19,13 @@ pub enum ReadInstruction {
 
 // The last register, Temp.
 fn last_register(listing: bool) -> u8
-    ensures { result ≡ lastRegister «listing» }
+    ensures { result ≡ last_register «listing» }
 {
     if listing { 65 } else { 31 }
 }
 
 pub fn read_uni(s: &[u8], found: FoundUni, listing: bool) -> ReadInstruction
-    ensures { asRead result ≡ uniBehind «listing» (asUni found) s.now }
+    ensures { as_read result ≡ uni_behind «listing» (as_uni found) s.now }
 {
     match found {
         FoundUni::Op(op) => {
@@ -43,7 +43,7 @@ pub fn read_uni(s: &[u8], found: FoundUni, listing: bool) -> ReadInstruction
 }
 
 pub fn read_bi(s: &[u8], found: FoundBin, listing: bool) -> ReadInstruction
-    ensures { asRead result ≡ biBehind «listing» (asBin found) s.now }
+    ensures { as_read result ≡ bi_behind «listing» (as_bin found) s.now }
 {
     match found {
         FoundBin::Op(op) => {
@@ -62,7 +62,7 @@ pub fn read_bi(s: &[u8], found: FoundBin, listing: bool) -> ReadInstruction
 }
 
 pub fn read_mov(s: &[u8], listing: bool) -> ReadInstruction
-    ensures { asRead result ≡ movFrom «listing» Instruction.Mov s.now }
+    ensures { as_read result ≡ mov_from «listing» Instruction.Mov s.now }
 {
     if above(s, 4, 2, last_register(listing)) {
         return ReadInstruction::Refused(3);
@@ -74,7 +74,7 @@ pub fn read_mov(s: &[u8], listing: bool) -> ReadInstruction
 }
 
 pub fn read_load(s: &[u8], listing: bool) -> ReadInstruction
-    ensures { asRead result ≡ loadFrom «listing» Instruction.Load s.now }
+    ensures { as_read result ≡ load_from «listing» Instruction.Load s.now }
 {
     if above(s, 4, 1, last_register(listing)) {
         return ReadInstruction::Refused(3);
@@ -89,7 +89,7 @@ pub fn read_load(s: &[u8], listing: bool) -> ReadInstruction
 }
 
 pub fn read_save(s: &[u8], listing: bool) -> ReadInstruction
-    ensures { asRead result ≡ saveFrom «listing» Instruction.Save s.now }
+    ensures { as_read result ≡ save_from «listing» Instruction.Save s.now }
 {
     if above(s, 4, 1, last_register(listing)) {
         return ReadInstruction::Refused(3);
@@ -104,7 +104,7 @@ pub fn read_save(s: &[u8], listing: bool) -> ReadInstruction
 }
 
 pub fn read_load_const(s: &[u8], count: usize, listing: bool) -> ReadInstruction
-    ensures { asRead result ≡ loadConstFrom «listing» Instruction.LoadConst count s.now }
+    ensures { as_read result ≡ load_const_from «listing» Instruction.LoadConst count s.now }
 {
     if above(s, 4, 1, last_register(listing)) {
         return ReadInstruction::Refused(3);
@@ -120,7 +120,7 @@ pub fn read_load_const(s: &[u8], count: usize, listing: bool) -> ReadInstruction
 }
 
 pub fn read_fused(s: &[u8], found: FoundFused, listing: bool) -> ReadInstruction
-    ensures { asRead result ≡ fusedBehind «listing» (asFused found) s.now }
+    ensures { as_read result ≡ fused_behind «listing» (as_fused found) s.now }
 {
     match found {
         FoundFused::Op(op) => {
@@ -140,7 +140,7 @@ pub fn read_fused(s: &[u8], found: FoundFused, listing: bool) -> ReadInstruction
 }
 
 pub fn read_if_else(s: &[u8], listing: bool) -> ReadInstruction
-    ensures { asRead result ≡ ifElseFrom «listing» Instruction.IfElse s.now }
+    ensures { as_read result ≡ if_else_from «listing» Instruction.IfElse s.now }
 {
     if above(s, 4, 3, last_register(listing)) {
         return ReadInstruction::Refused(3);

@@ -11,7 +11,7 @@ use lib.ListN.{length, get_or, set, get_or-eq_default}
 use lib.Seq.{get_or-set_same, get_or-set_other, set_out}
 use lib.Dec.{eqb, eqb→eq}
 use borrow.Author.Tests.{eqb-true, ne_eqb}
-use Rattle.lowering.specs.Realness.{bit_at, clearAt}
+use Rattle.lowering.specs.Realness.{bit_at, clear_at}
 
 -- one bit of a byte, and the byte without it
 unfoldable bit : ℕ → ℕ → Bool
@@ -26,13 +26,13 @@ doubled k = pow-suc 2 k ∙ mul_comm (2 ^ k) 2
 halved : (b k : ℕ) → b / 2 ^ suc k ≡ b / 2 / 2 ^ k
 halved b k = rw (doubled k) (sym (div-div-eq-div-mul b 2 (2 ^ k)))
 
-bit-half : (b k : ℕ) → bit b (suc k) ≡ bit (b / 2) k
+bit_half : (b k : ℕ) → bit b (suc k) ≡ bit (b / 2) k
 unfolding bit
-bit-half b k = ap (λ (n : ℕ). eqb (n % 2) 1) (halved b k)
+bit_half b k = ap (λ (n : ℕ). eqb (n % 2) 1) (halved b k)
 
-bit-one : (b k : ℕ) → bit b k ≡ true → b / 2 ^ k % 2 ≡ 1
+bit_one : (b k : ℕ) → bit b k ≡ true → b / 2 ^ k % 2 ≡ 1
 unfolding bit
-bit-one b k e = eqb→eq (b / 2 ^ k % 2) 1 (rw e tt)
+bit_one b k e = eqb→eq (b / 2 ^ k % 2) 1 (rw e tt)
 
 -- a byte with the bit is no less than its power
 reaches : (k b : ℕ) → b / 2 ^ k % 2 ≡ 1 → 2 ^ k ≤ b
@@ -42,46 +42,46 @@ reaches (suc k) b e =
     omega (arith, doubled k)
 
 -- without a bit, the byte halved is that of the half without the bit below
-without-half : (b k : ℕ) → without b (suc k) / 2 ≡ without (b / 2) k
+without_half : (b k : ℕ) → without b (suc k) / 2 ≡ without (b / 2) k
 unfolding without
-without-half b k = rw (bit-half b k) (go (bit (b / 2) k))
+without_half b k = rw (bit_half b k) (go (bit (b / 2) k))
   where
     go : (q : Bool) → cond q (b - 2 ^ suc k) b / 2 ≡ cond q (b / 2 - 2 ^ k) (b / 2)
     go true = omega (arith, doubled k)
     go false = refl
 
-without-low : (b k : ℕ) → without b (suc k) % 2 ≡ b % 2
+without_low : (b k : ℕ) → without b (suc k) % 2 ≡ b % 2
 unfolding without
-without-low b k = go (bit b (suc k)) refl
+without_low b k = go (bit b (suc k)) refl
   where
     go : (q : Bool) → bit b (suc k) ≡ q → cond q (b - 2 ^ suc k) b % 2 ≡ b % 2
     go true e =
-        let h = reaches (suc k) b (bit-one b (suc k) e) in
+        let h = reaches (suc k) b (bit_one b (suc k) e) in
         omega (arith, doubled k)
     go false e = refl
 
-without-lowest : (b : ℕ) → without b 0 / 2 ≡ b / 2
+without_lowest : (b : ℕ) → without b 0 / 2 ≡ b / 2
 unfolding without
-without-lowest b = go (bit b 0) refl
+without_lowest b = go (bit b 0) refl
   where
     go : (q : Bool) → bit b 0 ≡ q → cond q (b - 2 ^ 0) b / 2 ≡ b / 2
     go true e =
-        let h = bit-one b 0 e in
+        let h = bit_one b 0 e in
         omega arith
     go false e = refl
 
-bit-lowest : (a b : ℕ) → a % 2 ≡ b % 2 → bit a 0 ≡ bit b 0
+bit_lowest : (a b : ℕ) → a % 2 ≡ b % 2 → bit a 0 ≡ bit b 0
 unfolding bit
-bit-lowest a b e =
+bit_lowest a b e =
     let h : a / 1 % 2 ≡ b / 1 % 2 = omega arith in
     ap (λ (x : ℕ). eqb x 1) h
 
-bit-other : (k j b : ℕ) → j ≢ k → bit (without b k) j ≡ bit b j
-bit-other zero zero b n = absurd (n refl)
-bit-other zero (suc j) b n = bit-half (without b 0) j ∙ ap (λ (x : ℕ). bit x j) (without-lowest b) ∙ sym (bit-half b j)
-bit-other (suc k) zero b n = bit-lowest (without b (suc k)) b (without-low b k)
-bit-other (suc k) (suc j) b n =
-    bit-half (without b (suc k)) j ∙ ap (λ (x : ℕ). bit x j) (without-half b k) ∙ bit-other k j (b / 2) (λ e. n (ap suc e)) ∙ sym (bit-half b j)
+bit_other : (k j b : ℕ) → j ≢ k → bit (without b k) j ≡ bit b j
+bit_other zero zero b n = absurd (n refl)
+bit_other zero (suc j) b n = bit_half (without b 0) j ∙ ap (λ (x : ℕ). bit x j) (without_lowest b) ∙ sym (bit_half b j)
+bit_other (suc k) zero b n = bit_lowest (without b (suc k)) b (without_low b k)
+bit_other (suc k) (suc j) b n =
+    bit_half (without b (suc k)) j ∙ ap (λ (x : ℕ). bit x j) (without_half b k) ∙ bit_other k j (b / 2) (λ e. n (ap suc e)) ∙ sym (bit_half b j)
 
 -- the bit itself
 lowest : (b : ℕ) → bit (without b 0) 0 ≡ false
@@ -94,30 +94,30 @@ lowest b = go (eqb (b / 2 ^ 0 % 2) 1) refl
         ne_eqb ((b - 2 ^ 0) / 2 ^ 0 % 2) 1 (omega arith)
     go false e = e
 
-without-clear : (k b : ℕ) → bit (without b k) k ≡ false
-without-clear zero b = lowest b
-without-clear (suc k) b = bit-half (without b (suc k)) k ∙ ap (λ (x : ℕ). bit x k) (without-half b k) ∙ without-clear k (b / 2)
+without_clear : (k b : ℕ) → bit (without b k) k ≡ false
+without_clear zero b = lowest b
+without_clear (suc k) b = bit_half (without b (suc k)) k ∙ ap (λ (x : ℕ). bit x k) (without_half b k) ∙ without_clear k (b / 2)
 
 zero_clear : (k : ℕ) → bit 0 k ≡ false
 unfolding bit
 zero_clear zero = refl
-zero_clear (suc k) = bit-half 0 k ∙ zero_clear k
+zero_clear (suc k) = bit_half 0 k ∙ zero_clear k
 
-pub clear-here : (places : List ℕ) (i : ℕ) → bit_at (clearAt places i) i ≡ false
+pub clear_here : (places : List ℕ) (i : ℕ) → bit_at (clear_at places i) i ≡ false
 unfolding bit without
-clear-here places i = go (dec_lt (i / 8) (length places))
+clear_here places i = go (dec_lt (i / 8) (length places))
   where
     b : ℕ
     b = get_or places (i / 8) 0
 
     go : Dec (i / 8 < length places) → bit (get_or (set places (i / 8) (without b (i % 8))) (i / 8) 0) (i % 8) ≡ false
-    go (yes l) = rw (get_or-set_same places (i / 8) (without b (i % 8)) 0 l) (without-clear (i % 8) b)
+    go (yes l) = rw (get_or-set_same places (i / 8) (without b (i % 8)) 0 l) (without_clear (i % 8) b)
     go (no l) =
         rw (set_out places (i / 8) (without b (i % 8)) (omega arith), get_or-eq_default places 0 {n = i / 8} (omega arith)) (zero_clear (i % 8))
 
-pub clear-other : (places : List ℕ) (i j : ℕ) → j ≢ i → bit_at (clearAt places i) j ≡ bit_at places j
+pub clear_other : (places : List ℕ) (i j : ℕ) → j ≢ i → bit_at (clear_at places i) j ≡ bit_at places j
 unfolding bit without
-clear-other places i j n = go (ℕ_discrete (j / 8) (i / 8)) (dec_lt (i / 8) (length places))
+clear_other places i j n = go (ℕ_discrete (j / 8) (i / 8)) (dec_lt (i / 8) (length places))
   where
     b : ℕ
     b = get_or places (i / 8) 0
@@ -126,4 +126,4 @@ clear-other places i j n = go (ℕ_discrete (j / 8) (i / 8)) (dec_lt (i / 8) (le
         → bit (get_or (set places (i / 8) (without b (i % 8))) (j / 8) 0) (j % 8) ≡ bit (get_or places (j / 8) 0) (j % 8)
     go (no e) l = ap (λ (x : ℕ). bit x (j % 8)) (get_or-set_other places (i / 8) (j / 8) (without b (i % 8)) 0 e)
     go (yes e) (no l) = ap (λ (x : List ℕ). bit (get_or x (j / 8) 0) (j % 8)) (set_out places (i / 8) (without b (i % 8)) (omega arith))
-    go (yes e) (yes l) = rw (e, get_or-set_same places (i / 8) (without b (i % 8)) 0 l) (bit-other (i % 8) (j % 8) b (λ q. n (omega arith)))
+    go (yes e) (yes l) = rw (e, get_or-set_same places (i / 8) (without b (i % 8)) 0 l) (bit_other (i % 8) (j % 8) b (λ q. n (omega arith)))

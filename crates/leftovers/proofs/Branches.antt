@@ -14,17 +14,17 @@ use Rattle.mir.specs.declared.records.Work.{Work}
 use Rattle.mir.specs.declared.records.Record.{Record}
 use Rattle.mir.specs.declared.records.Instruction.{Instruction}
 use Rattle.mir.specs.Register.{re}
-use Rattle.player_machine.specs.Machine.{Store, at, isLabel, branches, End, ticks, Way, going, seeking, play, reach}
+use Rattle.player_machine.specs.Machine.{Store, at, is_label, branches, End, ticks, Way, going, seeking, play, reach}
 use Rattle.sheet.specs.declared.setup.Mode.{Mode}
-use Rattle.sheet.specs.Setup.{isStable}
+use Rattle.sheet.specs.Setup.{is_stable}
 use Rattle.lowering.specs.declared.realness.Realness.{Realness}
 use Rattle.lowering.specs.Complexifier as c
-use Rattle.lowering.specs.Complexifier.{State, Out, then, unlisted, aroundBlock}
+use Rattle.lowering.specs.Complexifier.{State, Out, then, unlisted, around_block}
 use Rattle.lowering.specs.Rerun.{rerun, complexify}
 use Rattle.lowering.specs.Labels as Labels
 use Rattle.lowering.specs.Labels.{Role, role}
 use Rattle.leftovers.specs.Leftovers.{IsDestination}
-use Rattle.leftovers.specs.Kept.{Kept, kept-re}
+use Rattle.leftovers.specs.Kept.{Kept, kept_re}
 use Rattle.player_machine.proofs.Agreeing.{Agree}
 use Rattle.leftovers.proofs.Names.{Frame}
 use Rattle.leftovers.proofs.Sought.{Without, none≢some, some_inj}
@@ -32,8 +32,8 @@ use Rattle.leftovers.proofs.Moves.{OwnWay, Moves, working, labelled, branched, d
 use Rattle.leftovers.proofs.Methods.{Keeps}
 use Rattle.leftovers.proofs.Root.{Block}
 use Rattle.sheet.proofs.Ranges.{InRange}
-use Rattle.leftovers.proofs.Instructions.{AllIn, Works, Cleared, HalfOk, rerun-keeps}
-use Rattle.leftovers.proofs.Listing.{Said, quiet, directs, calls, opens, InSome, AllOutside, rerun-said}
+use Rattle.leftovers.proofs.Instructions.{AllIn, Works, Cleared, HalfOk, rerun_keeps}
+use Rattle.leftovers.proofs.Listing.{Said, quiet, directs, calls, opens, InSome, AllOutside, rerun_said}
 
 -- ---- the labels and branches among a working instruction's records are Root's
 
@@ -48,58 +48,58 @@ abbrev pub AllTame : List Record → Type 0
 AllTame [] = Unit {0}
 AllTame (r ∷ rs) = Tame r × AllTame rs
 
-tame-append : (rs rs' : List Record) → AllTame rs → AllTame rs' → AllTame (rs ++ rs')
-tame-append [] rs' p q = q
-tame-append (r ∷ rs) rs' p q = (p.0, tame-append rs rs' p.1 q)
+tame_append : (rs rs' : List Record) → AllTame rs → AllTame rs' → AllTame (rs ++ rs')
+tame_append [] rs' p q = q
+tame_append (r ∷ rs) rs' p q = (p.0, tame_append rs rs' p.1 q)
 
-tame-works : (ws : List Work) → AllTame (map Record.Work ws)
-tame-works [] = tt
-tame-works (w ∷ ws) = (tt, tame-works ws)
+tame_works : (ws : List Work) → AllTame (map Record.Work ws)
+tame_works [] = tt
+tame_works (w ∷ ws) = (tt, tame_works ws)
 
-tame-straight : (rs : List Record) → AllOutside false true rs → AllTame rs
-tame-straight [] p = tt
-tame-straight (Record.Work w ∷ rs) p = (tt, tame-straight rs p.1)
-tame-straight (Record.Label m ∷ rs) p = absurd p.0
-tame-straight (Record.Branch m ∷ rs) p = absurd p.0
-tame-straight (Record.Call m ∷ rs) p = (tt, tame-straight rs p.1)
-tame-straight (Record.BranchIf c m e ∷ rs) p = absurd p.0
+tame_straight : (rs : List Record) → AllOutside false true rs → AllTame rs
+tame_straight [] p = tt
+tame_straight (Record.Work w ∷ rs) p = (tt, tame_straight rs p.1)
+tame_straight (Record.Label m ∷ rs) p = absurd p.0
+tame_straight (Record.Branch m ∷ rs) p = absurd p.0
+tame_straight (Record.Call m ∷ rs) p = (tt, tame_straight rs p.1)
+tame_straight (Record.BranchIf c m e ∷ rs) p = absurd p.0
 
-pub works-tame : (m : Mode) (i : Instruction) (s : State) → Works i → AllTame (rerun m i s).records
-works-tame m i s z = go (rerun-said m i s)
+pub works_tame : (m : Mode) (i : Instruction) (s : State) → Works i → AllTame (rerun m i s).records
+works_tame m i s z = go (rerun_said m i s)
   where
-    go : Said (isStable m) (Works i) (InSome i) s (rerun m i s) → AllTame (rerun m i s).records
-    go (quiet q) = rw q.listed (tame-works q.lines)
+    go : Said (is_stable m) (Works i) (InSome i) s (rerun m i s) → AllTame (rerun m i s).records
+    go (quiet q) = rw q.listed (tame_works q.lines)
     go (directs n a r q g) = absurd (n z)
-    go (calls e r q g) = tame-straight (rerun m i s).records q
+    go (calls e r q g) = tame_straight (rerun m i s).records q
     go (opens n r first q t b g e) =
-        rw g (tame-append first (aroundBlock t) (tame-straight first q)
-        (omega arith, (omega arith, tame-append (map Record.Work t) (Record.Branch 0 ∷ Record.Label 2 ∷ []) (tame-works t) (omega arith, (omega arith, tt)))))
+        rw g (tame_append first (around_block t) (tame_straight first q)
+        (omega arith, (omega arith, tame_append (map Record.Work t) (Record.Branch 0 ∷ Record.Label 2 ∷ []) (tame_works t) (omega arith, (omega arith, tt)))))
 
-pub tame-without : (l : ℕ) → 2 < l → (rs : List Record) → AllTame rs → Without l rs
-unfolding isLabel
-tame-without l h [] p = tt
-tame-without l h (Record.Work w ∷ rs) p = (refl, tame-without l h rs p.1)
-tame-without l h (Record.Label n ∷ rs) p = (ne_eqb n l (λ e. let q = p.0 in omega (arith, e, h, q)), tame-without l h rs p.1)
-tame-without l h (Record.Branch n ∷ rs) p = (refl, tame-without l h rs p.1)
-tame-without l h (Record.Call n ∷ rs) p = (refl, tame-without l h rs p.1)
-tame-without l h (Record.BranchIf c n e ∷ rs) p = absurd p.0
+pub tame_without : (l : ℕ) → 2 < l → (rs : List Record) → AllTame rs → Without l rs
+unfolding is_label
+tame_without l h [] p = tt
+tame_without l h (Record.Work w ∷ rs) p = (refl, tame_without l h rs p.1)
+tame_without l h (Record.Label n ∷ rs) p = (ne_eqb n l (λ e. let q = p.0 in omega (arith, e, h, q)), tame_without l h rs p.1)
+tame_without l h (Record.Branch n ∷ rs) p = (refl, tame_without l h rs p.1)
+tame_without l h (Record.Call n ∷ rs) p = (refl, tame_without l h rs p.1)
+tame_without l h (Record.BranchIf c n e ∷ rs) p = absurd p.0
 
-pub works-role : (i : Instruction) → Works i → role i ≡ Labels.works
+pub works_role : (i : Instruction) → Works i → role i ≡ Labels.works
 unfolding role
-works-role Instruction.Nop z = refl
-works-role (Instruction.Uni op d a) z = refl
-works-role (Instruction.Bi op d a b) z = refl
-works-role (Instruction.Mov d a) z = refl
-works-role (Instruction.Load d p) z = refl
-works-role (Instruction.Save a p) z = refl
-works-role (Instruction.LoadConst d i) z = refl
-works-role (Instruction.Fused op d a b c) z = refl
-works-role (Instruction.IfElse d a b p) z = refl
-works-role (Instruction.LoadMath op d a p) z = refl
-works-role (Instruction.LoadConstMath op d a i) z = refl
-works-role (Instruction.Label l) z = absurd z
-works-role (Instruction.Branch l) z = absurd z
-works-role (Instruction.BranchIf c l e) z = absurd z
+works_role Instruction.Nop z = refl
+works_role (Instruction.Uni op d a) z = refl
+works_role (Instruction.Bi op d a b) z = refl
+works_role (Instruction.Mov d a) z = refl
+works_role (Instruction.Load d p) z = refl
+works_role (Instruction.Save a p) z = refl
+works_role (Instruction.LoadConst d i) z = refl
+works_role (Instruction.Fused op d a b c) z = refl
+works_role (Instruction.IfElse d a b p) z = refl
+works_role (Instruction.LoadMath op d a p) z = refl
+works_role (Instruction.LoadConstMath op d a i) z = refl
+works_role (Instruction.Label l) z = absurd z
+works_role (Instruction.Branch l) z = absurd z
+works_role (Instruction.BranchIf c l e) z = absurd z
 
 -- an instruction works, is a label, or branches
 pub data View : Instruction → Type 0 where
@@ -124,21 +124,21 @@ view (Instruction.Label l) = label-one l
 view (Instruction.Branch l) = branch_one l
 view (Instruction.BranchIf r l e) = branch-if-one r l e
 
-abbrev pub either : Bool → Type 0 → Type 0 → Type 0
-either true A B = A
-either false A B = B
+abbrev pub Either : Bool → Type 0 → Type 0 → Type 0
+Either true A B = A
+Either false A B = B
 
 -- behind an instruction of a role, or at it where it is Label l
-abbrev pub meetsBy : Role → ℕ → Realness → Realness → Type 0 → Type 0
-meetsBy Labels.works l ρ ρ' on = on
-meetsBy (Labels.labels n) l ρ ρ' on = either (eqb n l) (ρ ≡ ρ') on
-meetsBy (Labels.branches n) l ρ ρ' on = on
+abbrev pub MeetsBy : Role → ℕ → Realness → Realness → Type 0 → Type 0
+MeetsBy Labels.works l ρ ρ' on = on
+MeetsBy (Labels.labels n) l ρ ρ' on = Either (eqb n l) (ρ ≡ ρ') on
+MeetsBy (Labels.branches n) l ρ ρ' on = on
 
 -- of a branch
-abbrev pub sendsBy : Role → (ℕ → Type 0) → Type 0
-sendsBy Labels.works f = Unit {0}
-sendsBy (Labels.labels n) f = Unit {0}
-sendsBy (Labels.branches n) f = f n
+abbrev pub SendsBy : Role → (ℕ → Type 0) → Type 0
+SendsBy Labels.works f = Unit {0}
+SendsBy (Labels.labels n) f = Unit {0}
+SendsBy (Labels.branches n) f = f n
 
 -- ---- what an instruction is to a play
 
@@ -147,37 +147,37 @@ module _ (k : List ℕ) (B : List Work) (m : Mode) where
     works : {i : Instruction} → Works i → Keeps k B (IsDestination i) (Cleared s.real i) (HalfOk m s.real i) s (rerun m i s) → Kind s i
     label : (l : ℕ) → Kind s (Instruction.Label l)
     branch : (l : ℕ) → 2 < l → Kind s (Instruction.Branch l)
-    branchIf : (r l : ℕ) (e : Bool) → r < 32 → 2 < l → Kind s (Instruction.BranchIf r l e)
+    branch_if : (r l : ℕ) (e : Bool) → r < 32 → 2 < l → Kind s (Instruction.BranchIf r l e)
 
-  pub kind : (i : Instruction) (s : State) → InRange (length k) i → ((rerun m i s).after.rootDefined ≡ true → Block k B)
+  pub kind : (i : Instruction) (s : State) → InRange (length k) i → ((rerun m i s).after.is_root_defined ≡ true → Block k B)
       → length (rerun m i s).after.consts ≤ length k → Kind s i
   kind i s v b h = go (view i) v b h
     where
-      go : {i : Instruction} → View i → InRange (length k) i → ((rerun m i s).after.rootDefined ≡ true → Block k B)
+      go : {i : Instruction} → View i → InRange (length k) i → ((rerun m i s).after.is_root_defined ≡ true → Block k B)
           → length (rerun m i s).after.consts ≤ length k → Kind s i
-      go (working-one {i} z) v b h = works z (rerun-keeps k B m i s z v b h)
+      go (working-one {i} z) v b h = works z (rerun_keeps k B m i s z v b h)
       go (label-one l) v b h = label l
       go (branch_one l) v b h = branch l v
-      go (branch-if-one r l e) v b h = branchIf r l e v.0 v.1
+      go (branch-if-one r l e) v b h = branch_if r l e v.0 v.1
 
   unfoldable pub moves : {s : State} {i : Instruction} → Kind s i → Moves k B (IsDestination i) (Cleared s.real i) (rerun m i s).records
   unfolding rerun c.directed
-  moves {s} {i} (works z t) = working k B _ _ t (λ l h. tame-without l h (rerun m i s).records (works-tame m i s z))
+  moves {s} {i} (works z t) = working k B _ _ t (λ l h. tame_without l h (rerun m i s).records (works_tame m i s z))
   moves (label l) = labelled k B _ _ l
   moves (branch l h) = branched k B _ _ l h
-  moves (branchIf r l e v h) = decided k B _ _ (re r) l e h
+  moves (branch_if r l e v h) = decided k B _ _ (re r) l e h
 
   -- ---- where a branch leads
 
   -- the first Label l stands later, and lowering holds ρ there
   abbrev pub Meets : ℕ → Realness → List Instruction → State → Type 0
   Meets l ρ [] s = ⊥
-  Meets l ρ (i ∷ is) s = meetsBy (role i) l ρ s.real (Meets l ρ is (rerun m i s).after)
+  Meets l ρ (i ∷ is) s = MeetsBy (role i) l ρ s.real (Meets l ρ is (rerun m i s).after)
 
   -- each branch meets its label
   abbrev pub Sound : List Instruction → State → Type 0
   Sound [] s = Unit {0}
-  Sound (i ∷ is) s = sendsBy (role i) (λ l. Meets l s.real is (rerun m i s).after) × Sound is (rerun m i s).after
+  Sound (i ∷ is) s = SendsBy (role i) (λ l. Meets l s.real is (rerun m i s).after) × Sound is (rerun m i s).after
 
   -- The invariant: going, the stores agree by what is recorded here; seeking, by what is recorded at the label.
   abbrev pub Ready : Way → List Instruction → State → Store → Store → Type 0
@@ -195,7 +195,7 @@ module _ (k : List ℕ) (B : List Work) (m : Mode) where
     pub count : (moves κ).n way σ ≡ (moves κ).n way τ
     pub ready : Ready ((moves κ).W way σ) is (rerun m i s).after ((moves κ).F way σ) ((moves κ).F way τ)
 
-  at_label : (q : Bool) (l : ℕ) (is : List Instruction) (s : State) (σ τ : Store) (ρ : Realness) → either q (ρ ≡ s.real) (Meets l ρ is s)
+  at_label : (q : Bool) (l : ℕ) (is : List Instruction) (s : State) (σ τ : Store) (ρ : Realness) → Either q (ρ ≡ s.real) (Meets l ρ is s)
       → Agree (Kept ρ) σ τ → Ready (cond q going (seeking l)) is s σ τ
   at_label true l is s σ τ ρ e g = subst (λ ρ. Agree (Kept ρ) σ τ) e g
   at_label false l is s σ τ ρ e g = (ρ, e, g)
@@ -213,20 +213,20 @@ module _ (k : List ℕ) (B : List Work) (m : Mode) where
       record {
         way' = refl;
         count = refl;
-        ready = (g.0, subst (λ r. meetsBy r l g.0 s.real (Meets l g.0 is (rerun m i s).after)) (works-role i z) g.1, g.2);
+        ready = (g.0, subst (λ r. MeetsBy r l g.0 s.real (Meets l g.0 is (rerun m i s).after)) (works_role i z) g.1, g.2);
       }
   turned (label n) is going σ τ d g h = record { way' = refl; count = refl; ready = g }
   turned {s} (label n) is (seeking l) σ τ d g h =
       record { way' = refl; count = refl; ready = at_label (eqb n l) l is s σ τ g.0 g.1 g.2 }
   turned {s} (branch n v) is going σ τ d g h = record { way' = refl; count = refl; ready = (s.real, d.0, g) }
   turned (branch n v) is (seeking l) σ τ d g h = record { way' = refl; count = refl; ready = g }
-  turned {s} (branchIf r n e v w) is going σ τ d g h =
+  turned {s} (branch_if r n e v w) is going σ τ d g h =
       record {
-        way' = ap (λ x. cond (branches e x) (seeking n) going) (g.on (re r) (kept-re r v));
+        way' = ap (λ x. cond (branches e x) (seeking n) going) (g.on (re r) (kept_re r v));
         count = refl;
         ready = at-branch (branches e (at σ (re r))) n is s σ τ d.0 g;
       }
-  turned (branchIf r n e v w) is (seeking l) σ τ d g h = record { way' = refl; count = refl; ready = g }
+  turned (branch_if r n e v w) is (seeking l) σ τ d g h = record { way' = refl; count = refl; ready = g }
 
   -- ---- one instruction after the other
 
@@ -239,11 +239,11 @@ module _ (k : List ℕ) (B : List Work) (m : Mode) where
   abbrev pub point_of : List Instruction → State → ℕ → ℕ
   point_of is s n = length (complexify m (take n is) s).records
 
-  abbrev pub standsAt : Way → List Instruction → State → Store → ℕ → Option Store
-  standsAt way is s σ n = reach k B way (point_of is s n) (complexify m is s).records σ
+  abbrev pub stands_at : Way → List Instruction → State → Store → ℕ → Option Store
+  stands_at way is s σ n = reach k B way (point_of is s n) (complexify m is s).records σ
 
   pub stands-suc : (i : Instruction) (is : List Instruction) (s : State) (κ : Kind s i) (way : Way) → OwnWay way → (σ : Store) (n : ℕ)
-      → standsAt way (i ∷ is) s σ (suc n) ≡ standsAt ((moves κ).W way σ) is (rerun m i s).after ((moves κ).F way σ) n
+      → stands_at way (i ∷ is) s σ (suc n) ≡ stands_at ((moves κ).W way σ) is (rerun m i s).after ((moves κ).F way σ) n
   unfolding complexify then
   stands-suc i is s κ way o σ n =
       let o' = rerun m i s in
@@ -251,14 +251,14 @@ module _ (k : List ℕ) (B : List Work) (m : Mode) where
       (length-append o'.records (complexify m (take n is) o'.after).records)
       ∙ (moves κ).stands way o (point_of is o'.after n) (complexify m is o'.after).records σ
 
-  at-start : (is : List Instruction) (s : State) (σ : Store) → standsAt going is s σ 0 ≡ some σ
+  at-start : (is : List Instruction) (s : State) (σ : Store) → stands_at going is s σ 0 ≡ some σ
   unfolding complexify unlisted reach
   at-start is s σ = refl
 
   -- no Half that is reached stands in the way
   abbrev pub Fine : Way → List Instruction → State → Store → Type 0
   Fine way is s σ =
-      (n : ℕ) (α : Store) → n < length is → standsAt way is s σ n ≡ some α
+      (n : ℕ) (α : Store) → n < length is → stands_at way is s σ n ≡ some α
       → HalfOk m (complexify m (take n is) s).after.real (get_or is n Instruction.Nop)
 
   half-first : (way : Way) (i : Instruction) (is : List Instruction) (s : State) (σ : Store) → Fine way (i ∷ is) s σ → HalfIf way s.real i
@@ -299,7 +299,7 @@ module _ (k : List ℕ) (B : List Work) (m : Mode) where
   unfolding reach
   at_once going rs σ β e = some_inj (sym e)
   at_once (seeking l) [] σ β e = absurd (none≢some e)
-  at_once (seeking l) (r ∷ rs) σ β e = go (isLabel l r) e
+  at_once (seeking l) (r ∷ rs) σ β e = go (is_label l r) e
     where
       go : (q : Bool) → cond q (some σ) none ≡ some β → β ≡ σ
       go true e = some_inj (sym e)
@@ -307,8 +307,8 @@ module _ (k : List ℕ) (B : List Work) (m : Mode) where
 
   -- seeking, an instruction is passed over, or the play stands at it
   passes : {s : State} {i : Instruction} (κ : Kind s i) (is : List Instruction) (l : ℕ) (σ : Store)
-      → standsAt (seeking l) (i ∷ is) s σ 0 ≡ none → ((moves κ).W (seeking l) σ ≡ seeking l) × ((moves κ).F (seeking l) σ ≡ σ)
-  unfolding moves working labelled branched decided rerun c.directed complexify then unlisted reach isLabel
+      → stands_at (seeking l) (i ∷ is) s σ 0 ≡ none → ((moves κ).W (seeking l) σ ≡ seeking l) × ((moves κ).F (seeking l) σ ≡ σ)
+  unfolding moves working labelled branched decided rerun c.directed complexify then unlisted reach is_label
   passes (works z t) is l σ e = (refl, refl)
   passes (label n) is l σ e = (go (eqb n l) e, refl)
     where
@@ -316,20 +316,20 @@ module _ (k : List ℕ) (B : List Work) (m : Mode) where
       go true e = absurd (none≢some (sym e))
       go false e = refl
   passes (branch n v) is l σ e = (refl, refl)
-  passes (branchIf r n f v w) is l σ e = (refl, refl)
+  passes (branch_if r n f v w) is l σ e = (refl, refl)
 
   pub first-higher : (is : List Instruction) (s : State) → Kinds is s → (way : Way) → OwnWay way → (σ β : Store) (x : ℕ)
-      → standsAt way is s σ x ≡ some β → ((y : ℕ) → y < x → standsAt way is s σ y ≡ none) → β ≡ σ
+      → stands_at way is s σ x ≡ some β → ((y : ℕ) → y < x → stands_at way is s σ y ≡ none) → β ≡ σ
   unfolding complexify unlisted
   first-higher is s κ way o σ β zero e f = at_once way (complexify m is s).records σ β e
   first-higher is s κ going o σ β (suc x) e f = absurd (none≢some (sym (f 0 (omega arith)) ∙ at-start is s σ))
   first-higher [] s κ (seeking l) o σ β (suc x) e f = absurd (none≢some (sym (f 0 (omega arith)) ∙ e))
   first-higher (i ∷ is) s κ (seeking l) o σ β (suc x) e f =
       let p = passes κ.0 is l σ (f 0 (omega arith)) in
-      let go : (n : ℕ) → standsAt (seeking l) (i ∷ is) s σ (suc n) ≡ standsAt (seeking l) is (rerun m i s).after σ n =
+      let go : (n : ℕ) → stands_at (seeking l) (i ∷ is) s σ (suc n) ≡ stands_at (seeking l) is (rerun m i s).after σ n =
       λ n. stands-suc i is s κ.0 (seeking l) o σ n
-      ∙ ap (λ (w : Way). standsAt w is (rerun m i s).after ((moves κ.0).F (seeking l) σ) n) p.0
-      ∙ ap (λ (σ : Store). standsAt (seeking l) is (rerun m i s).after σ n) p.1 in
+      ∙ ap (λ (w : Way). stands_at w is (rerun m i s).after ((moves κ.0).F (seeking l) σ) n) p.0
+      ∙ ap (λ (σ : Store). stands_at (seeking l) is (rerun m i s).after σ n) p.1 in
       first-higher is (rerun m i s).after κ.1 (seeking l) o σ β x (sym (go x) ∙ e) (λ y h. sym (go y) ∙ f (suc y) (omega arith))
 
   -- ---- what an instruction changes, to the next higher point reached
@@ -339,11 +339,11 @@ module _ (k : List ℕ) (B : List Work) (m : Mode) where
   still (works z t) l σ = refl
   still (label n) l σ = refl
   still (branch n v) l σ = refl
-  still (branchIf r n e v w) l σ = refl
+  still (branch_if r n e v w) l σ = refl
 
   -- from the first instruction's point
   spares-first : (i : Instruction) (is : List Instruction) (s : State) (κ : Kind s i) → Kinds is (rerun m i s).after → (way : Way) → OwnWay way
-      → (σ α β : Store) → standsAt way (i ∷ is) s σ 0 ≡ some α → β ≡ (moves κ).F way σ → Frame (IsDestination i) (Cleared s.real i) α β
+      → (σ α β : Store) → stands_at way (i ∷ is) s σ 0 ≡ some α → β ≡ (moves κ).F way σ → Frame (IsDestination i) (Cleared s.real i) α β
   unfolding complexify unlisted
   spares-first i is s κ κs going o σ α β a e =
       let f : α ≡ σ = some_inj (sym a ∙ at-start (i ∷ is) s σ) in
@@ -353,8 +353,8 @@ module _ (k : List ℕ) (B : List Work) (m : Mode) where
       rw (f, e, still κ l σ) (untouched (IsDestination i) (Cleared s.real i) σ)
 
   pub spares-at : (is : List Instruction) (s : State) → Kinds is s → (way : Way) → OwnWay way → (σ α β : Store) (n x : ℕ) → n < length is
-      → standsAt way is s σ n ≡ some α → standsAt way is s σ (n + suc x) ≡ some β
-      → ((y : ℕ) → y < x → standsAt way is s σ (n + suc y) ≡ none)
+      → stands_at way is s σ n ≡ some α → stands_at way is s σ (n + suc x) ≡ some β
+      → ((y : ℕ) → y < x → stands_at way is s σ (n + suc y) ≡ none)
       → Frame (IsDestination (get_or is n Instruction.Nop)) (Cleared (complexify m (take n is) s).after.real (get_or is n Instruction.Nop)) α β
   unfolding complexify then unlisted
   spares-at [] s κ way o σ α β n x h a b f = absurd (omega arith)
@@ -363,16 +363,16 @@ module _ (k : List ℕ) (B : List Work) (m : Mode) where
       (first-higher is (rerun m i s).after κ.1 ((moves κ.0).W way σ) ((moves κ.0).own way σ o) ((moves κ.0).F way σ) β x
       (sym (next x) ∙ b) (λ y g. sym (next y) ∙ f y g))
     where
-      next : (y : ℕ) → standsAt way (i ∷ is) s σ (0 + suc y)
-          ≡ standsAt ((moves κ.0).W way σ) is (rerun m i s).after ((moves κ.0).F way σ) y
-      next y = ap (λ (z : ℕ). standsAt way (i ∷ is) s σ z) (zero-add (suc y)) ∙ stands-suc i is s κ.0 way o σ y
+      next : (y : ℕ) → stands_at way (i ∷ is) s σ (0 + suc y)
+          ≡ stands_at ((moves κ.0).W way σ) is (rerun m i s).after ((moves κ.0).F way σ) y
+      next y = ap (λ (z : ℕ). stands_at way (i ∷ is) s σ z) (zero-add (suc y)) ∙ stands-suc i is s κ.0 way o σ y
   spares-at (i ∷ is) s κ way o σ α β (suc n) x h a b f =
       spares-at is (rerun m i s).after κ.1 ((moves κ.0).W way σ) ((moves κ.0).own way σ o) ((moves κ.0).F way σ) α β n x (omega arith)
       (sym (stands-suc i is s κ.0 way o σ n) ∙ a) (sym (next x) ∙ b) (λ y g. sym (next y) ∙ f y g)
     where
-      next : (y : ℕ) → standsAt way (i ∷ is) s σ (suc n + suc y)
-          ≡ standsAt ((moves κ.0).W way σ) is (rerun m i s).after ((moves κ.0).F way σ) (n + suc y)
-      next y = ap (λ (z : ℕ). standsAt way (i ∷ is) s σ z) (suc-add n (suc y)) ∙ stands-suc i is s κ.0 way o σ (n + suc y)
+      next : (y : ℕ) → stands_at way (i ∷ is) s σ (suc n + suc y)
+          ≡ stands_at ((moves κ.0).W way σ) is (rerun m i s).after ((moves κ.0).F way σ) (n + suc y)
+      next y = ap (λ (z : ℕ). stands_at way (i ∷ is) s σ z) (suc-add n (suc y)) ∙ stands-suc i is s κ.0 way o σ (n + suc y)
 
   -- ---- from a point on
 

@@ -10,30 +10,30 @@ use lib.ListN.{length, take, drop, get_or, length-drop}
 use lib.Seq.{get_or-drop}
 use Rattle.mir.specs.declared.records.Instruction.{Instruction}
 use Rattle.mir.specs.declared.records.Record.{Record}
-use Rattle.mir.specs.Encode.{encodeAll}
+use Rattle.mir.specs.Encode.{encode_all}
 use Rattle.sheet.specs.Instruction.{instructions}
 use Rattle.player_machine.specs.Machine.{Store, block, going, reach}
 use Rattle.player_machine.specs.Answer.{accept}
 use Rattle.lowering.specs.declared.realness.Realness.{Realness}
-use Rattle.lowering.specs.Realness.{isRealReg}
-use Rattle.lowering.specs.Lower.{startState}
-use Rattle.leftovers.specs.Leftovers.{Alike, Sheet, Lowered, up_to, point, real_at, playOn}
+use Rattle.lowering.specs.Realness.{is_real_reg}
+use Rattle.lowering.specs.Lower.{start_state}
+use Rattle.leftovers.specs.Leftovers.{Alike, Sheet, Lowered, up_to, point, real_at, play_on}
 use Rattle.leftovers.specs.Leftovers.{standing, Mixing, Spares, Changes, AllSpare, EndAlike, Claim}
 use Rattle.leftovers.proofs.Instructions.{AllIn, HalfOk}
 use Rattle.leftovers.proofs.Lengths.{play-length}
-use Rattle.leftovers.proofs.Words.{to-kept, from-kept}
-use Rattle.leftovers.proofs.Points.{whole, playFrom, stood, play-on, spares}
+use Rattle.leftovers.proofs.Words.{to_kept, from_kept}
+use Rattle.leftovers.proofs.Points.{whole, play_from, stood, play-on, spares}
 use Rattle.leftovers.proofs.Branches.{Sound, Same}
 use Rattle.leftovers.proofs.Jumping.{Fair}
 use Rattle.leftovers.proofs.Sought.{none≢some}
-use Rattle.leftovers.proofs.Sheets.{asLowered, all_in, read_back, answers}
+use Rattle.leftovers.proofs.Sheets.{as_lowered, all_in, read_back, answers}
 
 module _ (s : Sheet) (v : AllIn (length s.constants) s.instructions) (f : length s.constants ≤ 251) where
   v' : AllIn (length (whole s).after.consts) s.instructions
   v' = all_in s v f
 
   l : Lowered
-  l = asLowered s
+  l = as_lowered s
 
   stands : (i : ℕ) (σ : Store) (j : ℕ) → standing l i σ j ≡ stood s i σ j
   unfolding l
@@ -76,9 +76,9 @@ module _ (s : Sheet) (v : AllIn (length s.constants) s.instructions) (f : length
   half-ok : (i : ℕ) (σ : Store) → (Mixing l i σ → ⊥) → (n : ℕ) (α : Store) → n < length (drop i s.instructions) → stood s i σ (i + n) ≡ some α
       → HalfOk s.mode (real_at s (i + n)) (get_or (drop i s.instructions) n Instruction.Nop)
   unfolding l
-  half-ok i σ g n α h e t d a f x = go (isRealReg (real_at s (i + n)) d) refl
+  half-ok i σ g n α h e t d a f x = go (is_real_reg (real_at s (i + n)) d) refl
     where
-      go : (y : Bool) → isRealReg (real_at s (i + n)) d ≡ y → y ≡ true
+      go : (y : Bool) → is_real_reg (real_at s (i + n)) d ≡ y → y ≡ true
       go true q = refl
       go false q =
           absurd (g (record {
@@ -86,24 +86,24 @@ module _ (s : Sheet) (v : AllIn (length s.constants) s.instructions) (f : length
             d = d;
             a = a;
             α = α;
-            notMinding = t;
+            not_minding = t;
             later = omega arith;
-            isHalf = sym (get_or-drop i s.instructions n Instruction.Nop) ∙ f;
+            is_half = sym (get_or-drop i s.instructions n Instruction.Nop) ∙ f;
             reached = stands i σ (i + n) ∙ e;
-            fromReal = x;
-            intoComplex = q;
+            from_real = x;
+            into_complex = q;
           }))
 
-  module _ (f₀ : Fair [] (whole s).records) (d : Sound (whole s).after.consts (block (whole s).records) s.mode s.instructions (startState s.places s.constants))
-      (room : length (encodeAll (whole s).records) ≤ 65536) where
-    plays : (i : ℕ) (σ : Store) → length σ ≡ 1602 → playOn l i σ ≡ accept (length (whole s).records) (playFrom s i σ)
+  module _ (f₀ : Fair [] (whole s).records) (d : Sound (whole s).after.consts (block (whole s).records) s.mode s.instructions (start_state s.places s.constants))
+      (room : length (encode_all (whole s).records) ≤ 65536) where
+    plays : (i : ℕ) (σ : Store) → length σ ≡ 1602 → play_on l i σ ≡ accept (length (whole s).records) (play_from s i σ)
     unfolding l
     plays i σ h = answers s v f f₀ room i σ h
 
     end-alike : (i : ℕ) (σ τ : Store) → Alike (real_at s i) σ τ → (Mixing l i σ → ⊥) → EndAlike l i σ τ
     unfolding l
     end-alike i σ τ a g =
-        let e = play-on s v' d i σ τ (to-kept a) (half-ok i σ g) in
+        let e = play-on s v' d i σ τ (to_kept a) (half-ok i σ g) in
         let p = plays i σ a.words in
         let q = plays i τ (sym a.same ∙ a.words) in
         let n =
@@ -111,20 +111,20 @@ module _ (s : Sheet) (v : AllIn (length s.constants) s.instructions) (f : length
         record {
           played = ap (λ a. a.played) p ∙ e.played ∙ sym (ap (λ a. a.played) q);
           stores =
-              subst (λ (x : Store). Alike (whole s).after.real x (playOn l i τ).store) (sym (ap (λ a. a.store) p))
-              (subst (λ (y : Store). Alike (whole s).after.real (playFrom s i σ).store y) (sym (ap (λ a. a.store) q))
-              (from-kept n e.agree));
+              subst (λ (x : Store). Alike (whole s).after.real x (play_on l i τ).store) (sym (ap (λ a. a.store) p))
+              (subst (λ (y : Store). Alike (whole s).after.real (play_from s i σ).store y) (sym (ap (λ a. a.store) q))
+              (from_kept n e.agree));
         }
 
-    pub claim : (σ₀ : Store) → length σ₀ ≡ 1602 → (i : ℕ) (σ τ : Store) → Alike (real_at s i) σ τ → Claim (asLowered s) σ₀ i σ τ
+    pub claim : (σ₀ : Store) → length σ₀ ≡ 1602 → (i : ℕ) (σ τ : Store) → Alike (real_at s i) σ τ → Claim (as_lowered s) σ₀ i σ τ
     unfolding l
     claim σ₀ h i σ τ a =
         record {
           accepted = ap (λ a. a.number) (plays 0 σ₀ h);
-          acceptedOn = ap (λ a. a.number) (plays i σ a.words);
-          acceptedChanged = ap (λ a. a.number) (plays i τ (sym a.same ∙ a.words));
+          accepted_on = ap (λ a. a.number) (plays i σ a.words);
+          accepted_changed = ap (λ a. a.number) (plays i τ (sym a.same ∙ a.words));
           ending = end-alike i σ τ a;
           spared = all-spare 0 σ₀;
-          sparedOn = all-spare i σ;
-          sparedChanged = all-spare i τ;
+          spared_on = all-spare i σ;
+          spared_changed = all-spare i τ;
         }

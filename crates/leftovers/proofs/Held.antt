@@ -9,7 +9,7 @@ use Rattle.mir.specs.declared.records.Loc.{Loc}
 use Rattle.mir.specs.declared.records.Work.{Work}
 use Rattle.mir.specs.declared.records.Record.{Record}
 use Rattle.mir.specs.Place.{index}
-use Rattle.mir.specs.Takes.{takesUni, takesBin, takesFused}
+use Rattle.mir.specs.Takes.{takes_uni, takes_bin, takes_fused}
 use Rattle.mir.proofs.Tables.{and_left, and_right}
 use Rattle.mir.proofs.Decoding.{none, and}
 use Rattle.mir.proofs.IfRead.{Saved, Stacked}
@@ -28,13 +28,13 @@ registers = 0 ∷ 1 ∷ 2 ∷ 3 ∷ 4 ∷ 5 ∷ 6 ∷ 7 ∷ 8 ∷ 9 ∷ 64 ∷ 6
 -- a line has an operation that a listing takes, and its registers' names are such
 unfoldable pub listed : Work → Bool
 unfolding all_in
-listed (Work.Uni op d a) = takesUni true op && all_in (d ∷ a ∷ []) registers
-listed (Work.Bi op d a b) = takesBin true op && all_in (d ∷ a ∷ b ∷ []) registers
+listed (Work.Uni op d a) = takes_uni true op && all_in (d ∷ a ∷ []) registers
+listed (Work.Bi op d a b) = takes_bin true op && all_in (d ∷ a ∷ b ∷ []) registers
 listed (Work.Mov d a) = all_in (d ∷ a ∷ []) registers
 listed (Work.Load d q) = all_in (d ∷ []) registers
 listed (Work.Save a q) = all_in (a ∷ []) registers
 listed (Work.LoadConst d i) = all_in (d ∷ []) registers
-listed (Work.Fused op d a b c) = takesFused true op && all_in (d ∷ a ∷ b ∷ c ∷ []) registers
+listed (Work.Fused op d a b c) = takes_fused true op && all_in (d ∷ a ∷ b ∷ c ∷ []) registers
 listed (Work.IfElse d a b q) = all_in (d ∷ a ∷ b ∷ []) registers
 listed (Work.LoadComplex x y q) = all_in (x ∷ y ∷ []) registers
 listed (Work.SaveComplex x y q) = all_in (x ∷ y ∷ []) registers
@@ -60,9 +60,9 @@ Asks count p (Work.LoadComplex x y q ∷ l) = Asks count p l
 Asks count p (Work.SaveComplex x y q ∷ l) = Saved p × Asks count p l
 Asks count p (Work.ComplexBi op x y x1 y1 x2 y2 ∷ l) = Asks count p l
 
-pub held-append : {count : ℕ} {rs rs' : List Record} → AllHold count rs → AllHold count rs' → AllHold count (rs ++ rs')
-held-append none k = k
-held-append (and h hs) k = and h (held-append hs k)
+pub held_append : {count : ℕ} {rs rs' : List Record} → AllHold count rs → AllHold count rs' → AllHold count (rs ++ rs')
+held_append none k = k
+held_append (and h hs) k = and h (held_append hs k)
 
 -- what the first of the lines asks, and what the others do
 split : (count : ℕ) (p : Loc) (w : Work) (l : List Work) → Asks count p (w ∷ l) → Asks count p (w ∷ []) × Asks count p l
@@ -97,18 +97,18 @@ module _ (count : ℕ) (few : count ≤ 65536) (f : ℕ → ℕ) (p : Loc) (hp :
   held-line : (w : Work) → T (listed w) → Asks count p (w ∷ []) → Holds count (Record.Work (ren f (λ q. p) w))
   unfolding listed ren
   held-line (Work.Uni op d a) t h =
-      let r = after (takesUni true op) (d ∷ a ∷ []) t in
-      (taken (takesUni true op) (d ∷ a ∷ []) t, r.0, r.1.0)
+      let r = after (takes_uni true op) (d ∷ a ∷ []) t in
+      (taken (takes_uni true op) (d ∷ a ∷ []) t, r.0, r.1.0)
   held-line (Work.Bi op d a b) t h =
-      let r = after (takesBin true op) (d ∷ a ∷ b ∷ []) t in
-      (taken (takesBin true op) (d ∷ a ∷ b ∷ []) t, r.0, r.1.0, r.1.1.0)
+      let r = after (takes_bin true op) (d ∷ a ∷ b ∷ []) t in
+      (taken (takes_bin true op) (d ∷ a ∷ b ∷ []) t, r.0, r.1.0, r.1.1.0)
   held-line (Work.Mov d a) t h = let r = lows (d ∷ a ∷ []) t in (r.0, r.1.0)
   held-line (Work.Load d q) t h = let r = lows (d ∷ []) t in (r.0, omega arith)
   held-line (Work.Save a q) t h = let r = lows (a ∷ []) t in (r.0, h.0)
   held-line (Work.LoadConst d i) t h = let r = lows (d ∷ []) t in (r.0, h.0, omega (arith, h.0))
   held-line (Work.Fused op d a b c) t h =
-      let r = after (takesFused true op) (d ∷ a ∷ b ∷ c ∷ []) t in
-      (taken (takesFused true op) (d ∷ a ∷ b ∷ c ∷ []) t, r.0, r.1.0, r.1.1.0, r.1.1.1.0)
+      let r = after (takes_fused true op) (d ∷ a ∷ b ∷ c ∷ []) t in
+      (taken (takes_fused true op) (d ∷ a ∷ b ∷ c ∷ []) t, r.0, r.1.0, r.1.1.0, r.1.1.1.0)
   held-line (Work.IfElse d a b q) t h = let r = lows (d ∷ a ∷ b ∷ []) t in (r.0, r.1.0, r.1.1.0, h.0)
   held-line (Work.LoadComplex x y q) t h = let r = lows (x ∷ y ∷ []) t in (r.0, r.1.0, omega arith)
   held-line (Work.SaveComplex x y q) t h = let r = lows (x ∷ y ∷ []) t in (r.0, r.1.0, h.0)

@@ -21,8 +21,8 @@ use Rattle.records.proofs.Holding.{AllHold}
 use Rattle.mir.specs.Place.{class, index}
 use Rattle.player_machine.specs.Machine.{Store, at, place, execs}
 use Rattle.lowering.specs.declared.realness.Realness.{Realness}
-use Rattle.lowering.specs.Realness.{isRealReg, isRealLoc, setReg}
-use Rattle.leftovers.specs.Kept.{Kept, kept-re, kept-im, kept_word, kept_next}
+use Rattle.lowering.specs.Realness.{is_real_reg, is_real_loc, set_reg}
+use Rattle.leftovers.specs.Kept.{Kept, kept_re, kept_im, kept_word, kept_next}
 use Rattle.player_machine.proofs.Agreeing.{Agree, weaken, has, or_cases}
 use Rattle.leftovers.proofs.Rows.{all_in, check, known, given, ren, Named, steps-agree, steps-keep, undrawn}
 use Rattle.marks.specs.Leads.{DrawnFirst}
@@ -69,9 +69,9 @@ in_all n (x ∷ xs) ys h m =
 -- ---- the halves
 
 -- the imaginary half of a register stands behind its real half
-pub im-next : (r : ℕ) → im r ≡ suc (re r)
+pub im_next : (r : ℕ) → im r ≡ suc (re r)
 unfolding re im
-im-next r = go (ltb r 30) (eqb r 30)
+im_next r = go (ltb r 30) (eqb r 30)
   where
     go : (x y : Bool) → cond x (5 + 2 * r) (cond y 65 1) ≡ suc (cond x (4 + 2 * r) (cond y 64 0))
     go true y = omega arith
@@ -93,31 +93,31 @@ span d = go (dec_lt d 30) (ℕ_discrete d 30)
     go (no h) (no e) = temp (omega arith) (rw (le-ltb d 30 (omega arith), ne_eqb d 30 e))
 
 -- halves are registers of a listing, and not scratch; the real ones are even
-pub re-in : (r : ℕ) → (re r ≤ 64) × (re r ≢ 2) × (re r % 2 ≡ 0)
-re-in r = go (span r)
+pub re_in : (r : ℕ) → (re r ≤ 64) × (re r ≢ 2) × (re r % 2 ≡ 0)
+re_in r = go (span r)
   where
     go : Span r → (re r ≤ 64) × (re r ≢ 2) × (re r % 2 ≡ 0)
     go (upper h e) = omega arith
     go (temp h e) = omega arith
 
-pub re-gen : (r : ℕ) → r < 31 → re r ≡ 4 + 2 * r
-re-gen r h = go (span r)
+pub re_gen : (r : ℕ) → r < 31 → re r ≡ 4 + 2 * r
+re_gen r h = go (span r)
   where
     go : Span r → re r ≡ 4 + 2 * r
     go (upper l e) = e
     go (temp l e) = absurd (omega arith)
 
 -- the halves of registers are apart
-pub halves-apart : (r d : ℕ) → re r ≢ im d
-halves-apart r d = omega (arith, im-next d, (re-in r).2, (re-in d).2)
+pub halves_apart : (r d : ℕ) → re r ≢ im d
+halves_apart r d = omega (arith, im_next d, (re_in r).2, (re_in d).2)
 
-pub im-apart : (r d : ℕ) → r < 32 → d < 32 → r ≢ d → im r ≢ im d
-im-apart r d hr hd n = go (span r) (span d)
+pub im_apart : (r d : ℕ) → r < 32 → d < 32 → r ≢ d → im r ≢ im d
+im_apart r d hr hd n = go (span r) (span d)
   where
     go : Span r → Span d → im r ≢ im d
-    go (upper g e) (upper h f) = omega (arith, im-next r, im-next d)
-    go (upper g e) (temp h f) = omega (arith, im-next r, im-next d)
-    go (temp g e) (upper h f) = omega (arith, im-next r, im-next d)
+    go (upper g e) (upper h f) = omega (arith, im_next r, im_next d)
+    go (upper g e) (temp h f) = omega (arith, im_next r, im_next d)
+    go (temp g e) (upper h f) = omega (arith, im_next r, im_next d)
     go (temp g e) (temp h f) = omega arith
 
 -- what the lines may write: scratch, Temp, Ret, the destination and the place
@@ -127,13 +127,13 @@ free = 0 ∷ 1 ∷ 2 ∷ 3 ∷ 4 ∷ 5 ∷ 64 ∷ 65 ∷ 70 ∷ 71 ∷ []
 -- a general register other than the destination is none of these
 pub apart : (d a b : ℕ) (p : Loc) (r w : ℕ) → r < 30 → r ≢ d → (w ≡ re r) ⊎ (w ≡ im r) → All (λ n. name d a b p n ≢ w) free
 unfolding name
-apart d a b p r w h n e = go (span d) (⊎_elim (λ e. inl (e ∙ re-gen r (omega arith))) (λ e. inr (e ∙ im-next r ∙ ap suc (re-gen r (omega arith)))) e)
+apart d a b p r w h n e = go (span d) (⊎_elim (λ e. inl (e ∙ re_gen r (omega arith))) (λ e. inr (e ∙ im_next r ∙ ap suc (re_gen r (omega arith)))) e)
   where
     go : Span d → (w ≡ 4 + 2 * r) ⊎ (w ≡ suc (4 + 2 * r)) → All (λ n. name d a b p n ≢ w) free
-    go (upper g f) (inl e) = omega (arith, im-next d)
-    go (upper g f) (inr e) = omega (arith, im-next d)
-    go (temp g f) (inl e) = omega (arith, im-next d)
-    go (temp g f) (inr e) = omega (arith, im-next d)
+    go (upper g f) (inl e) = omega (arith, im_next d)
+    go (upper g f) (inr e) = omega (arith, im_next d)
+    go (temp g f) (inl e) = omega (arith, im_next d)
+    go (temp g f) (inr e) = omega (arith, im_next d)
 
 -- ---- scratch
 
@@ -144,38 +144,38 @@ Scratch i = (2 ≤ i) × (i ≤ 3)
 abbrev spoken : List ℕ
 spoken = 0 ∷ 1 ∷ 4 ∷ 5 ∷ 6 ∷ 7 ∷ 8 ∷ 9 ∷ 70 ∷ 71 ∷ []
 
-scratch-apart : (d a b : ℕ) (p : Loc) (i : ℕ) → Scratch i → All (λ n. name d a b p n ≢ i) spoken
+scratch_apart : (d a b : ℕ) (p : Loc) (i : ℕ) → Scratch i → All (λ n. name d a b p n ≢ i) spoken
 unfolding name
-scratch-apart d a b p i s =
-    omega (arith, s.0, s.1, im-next d, (re-in d).1, (re-in d).2, im-next a, (re-in a).1, (re-in a).2, im-next b, (re-in b).1, (re-in b).2)
+scratch_apart d a b p i s =
+    omega (arith, s.0, s.1, im_next d, (re_in d).1, (re_in d).2, im_next a, (re_in a).1, (re_in a).2, im_next b, (re_in b).1, (re_in b).2)
 
 -- lines that pass the check from such names do not draw on scratch before they fill it
-pub lines-undrawn : (d a b : ℕ) (p : Loc) (st : List ℕ) (l : List Work) (i : ℕ) → Scratch i → T (all_in st spoken) → T (check st l)
+pub lines_undrawn : (d a b : ℕ) (p : Loc) (st : List ℕ) (l : List Work) (i : ℕ) → Scratch i → T (all_in st spoken) → T (check st l)
     → DrawnFirst i (rename d a b p l) → ⊥
 unfolding name rename
-lines-undrawn d a b p st l i s t c =
+lines_undrawn d a b p st l i s t c =
     undrawn (name d a b p) (λ q. p) (name-real d a b p) (name-imaginary d a b p) i st l
-    (λ n h. pick_all (λ n. name d a b p n ≢ i) spoken n (scratch-apart d a b p i s) (in_all n st spoken t h)) c
+    (λ n h. pick_all (λ n. name d a b p n ≢ i) spoken n (scratch_apart d a b p i s) (in_all n st spoken t h)) c
 
 -- ---- the words that are kept, after a register's record has changed
 
-pub kept-up : {ρ : Realness} {w : ℕ} (d : ℕ) → Kept (setReg ρ d true) w → Kept ρ w
-kept-up d (kept-re r h) = kept-re r h
-kept-up {ρ} d (kept-im r h e) = kept-im r h (go (ℕ_discrete r d) (dec_lt d (length ρ.regs)))
+pub kept_up : {ρ : Realness} {w : ℕ} (d : ℕ) → Kept (set_reg ρ d true) w → Kept ρ w
+kept_up d (kept_re r h) = kept_re r h
+kept_up {ρ} d (kept_im r h e) = kept_im r h (go (ℕ_discrete r d) (dec_lt d (length ρ.regs)))
   where
-    go : Dec (r ≡ d) → Dec (d < length ρ.regs) → isRealReg ρ r ≡ false
+    go : Dec (r ≡ d) → Dec (d < length ρ.regs) → is_real_reg ρ r ≡ false
     go (no n) _ = sym (get_or-set_other ρ.regs d r true false n) ∙ e
     go (yes q) (yes l) = absurd (true≢false (sym (get_or-set_same ρ.regs d true false l) ∙ (rw q at e)))
     go (yes q) (no l) = rw (set_out ρ.regs d true (omega arith)) at e
-kept-up d (kept_word p h) = kept_word p h
-kept-up d (kept_next p h e) = kept_next p h e
+kept_up d (kept_word p h) = kept_word p h
+kept_up d (kept_next p h e) = kept_next p h e
 
-pub kept_new : {ρ : Realness} {w : ℕ} (d : ℕ) → Kept (setReg ρ d false) w → Kept ρ w ⊎ (im d ≡ w)
-kept_new d (kept-re r h) = inl (kept-re r h)
-kept_new {ρ} d (kept-im r h e) = go (ℕ_discrete r d)
+pub kept_new : {ρ : Realness} {w : ℕ} (d : ℕ) → Kept (set_reg ρ d false) w → Kept ρ w ⊎ (im d ≡ w)
+kept_new d (kept_re r h) = inl (kept_re r h)
+kept_new {ρ} d (kept_im r h e) = go (ℕ_discrete r d)
   where
     go : Dec (r ≡ d) → Kept ρ (im r) ⊎ (im d ≡ im r)
-    go (no n) = inl (kept-im r h (sym (get_or-set_other ρ.regs d r false false n) ∙ e))
+    go (no n) = inl (kept_im r h (sym (get_or-set_other ρ.regs d r false false n) ∙ e))
     go (yes q) = inr (ap im (sym q))
 kept_new d (kept_word p h) = inl (kept_word p h)
 kept_new d (kept_next p h e) = inl (kept_next p h e)
@@ -183,13 +183,13 @@ kept_new d (kept_next p h e) = inl (kept_next p h e)
 -- ---- the lines of an instruction
 
 -- from names st that are kept, lines that pass the check leave the kept words and all known names agreed
-pub lines-agree : (ρ : Realness) (d a b : ℕ) (p : Loc) (k : List ℕ) (st : List ℕ) (l : List Work) {σ τ : Store}
+pub lines_agree : (ρ : Realness) (d a b : ℕ) (p : Loc) (k : List ℕ) (st : List ℕ) (l : List Work) {σ τ : Store}
     → All (λ n. Kept ρ (name d a b p n)) st → T (check st l)
     → Agree (Kept ρ) σ τ
     → Agree (Named (name d a b p) (λ q. p) (name-real d a b p) (name-imaginary d a b p) (Kept ρ) (known st l))
     (execs k (rename d a b p l) σ) (execs k (rename d a b p l) τ)
 unfolding name Named rename
-lines-agree ρ d a b p k st l h c g =
+lines_agree ρ d a b p k st l h c g =
     steps-agree (name d a b p) (λ q. p) (name-real d a b p) (name-imaginary d a b p) k (Kept ρ) st l c
     (weaken (λ w. elim [ inl q ↦ q | inr m ↦ subst (Kept ρ) m.2 (pick_all (λ n. Kept ρ (name d a b p n)) st m.0 h m.1) ]) g)
 
@@ -206,9 +206,9 @@ lines_keep d a b p k l σ r w h hr n e =
     steps-keep (name d a b p) (λ q. p) (name-real d a b p) (name-imaginary d a b p) k σ w l
     (λ m t. pick_all (λ n. name d a b p n ≢ w) free m (apart d a b p r w hr n e) (in_all m (given l) free h t))
 
-pub lines-frame : (X Z : ℕ → Type 0) (d a b : ℕ) (p : Loc) (k : List ℕ) (l : List Work) → T (all_in (given l) free)
+pub lines_frame : (X Z : ℕ → Type 0) (d a b : ℕ) (p : Loc) (k : List ℕ) (l : List Work) → T (all_in (given l) free)
     → ((r : ℕ) → r < 30 → (X r → ⊥) → r ≢ d) → (σ : Store) → Frame X Z σ (execs k (rename d a b p l) σ)
-lines-frame X Z d a b p k l t out σ r h n =
+lines_frame X Z d a b p k l t out σ r h n =
     let q = out r h n in
     (lines_keep d a b p k l σ r (re r) t h q (inl refl), inl (lines_keep d a b p k l σ r (im r) t h q (inr refl)))
 
@@ -222,70 +222,70 @@ unfoldable pub good : Bool → Bool → Bool → Bool → List Work → Bool
 unfolding check known given all_in all_listed
 good x y z g l = (check (start x y z) l && ((g || has 5 (known (start x y z) l)) && all_in (given l) free)) && all_listed l
 
-four-tests : (a b c d : Bool) → T ((a && (b && c)) && d) → T a × T b × T c × T d
-four-tests true true true true h = (tt, tt, tt, tt)
+four_tests : (a b c d : Bool) → T ((a && (b && c)) && d) → T a × T b × T c × T d
+four_tests true true true true h = (tt, tt, tt, tt)
 
 -- each part of the test
-pub good-parts : (x y z g : Bool) (l : List Work) → T (good x y z g l)
+pub good_parts : (x y z g : Bool) (l : List Work) → T (good x y z g l)
     → T (check (start x y z) l) × T (g || has 5 (known (start x y z) l)) × T (all_in (given l) free) × T (all_listed l)
 unfolding good
-good-parts x y z g l h = four-tests (check (start x y z) l) (g || has 5 (known (start x y z) l)) (all_in (given l) free) (all_listed l) h
+good_parts x y z g l h = four_tests (check (start x y z) l) (g || has 5 (known (start x y z) l)) (all_in (given l) free) (all_listed l) h
 
-start-spoken : (x y z : Bool) → T (all_in (start x y z) spoken)
+start_spoken : (x y z : Bool) → T (all_in (start x y z) spoken)
 unfolding all_in
-start-spoken true true true = tt
-start-spoken true true false = tt
-start-spoken true false true = tt
-start-spoken true false false = tt
-start-spoken false true true = tt
-start-spoken false true false = tt
-start-spoken false false true = tt
-start-spoken false false false = tt
+start_spoken true true true = tt
+start_spoken true true false = tt
+start_spoken true false true = tt
+start_spoken true false false = tt
+start_spoken false true true = tt
+start_spoken false true false = tt
+start_spoken false false true = tt
+start_spoken false false false = tt
 
-pub leaf-undrawn : (d a b : ℕ) (p : Loc) (x y z g : Bool) (l : List Work) → T (good x y z g l) → (i : ℕ) → Scratch i
+pub leaf_undrawn : (d a b : ℕ) (p : Loc) (x y z g : Bool) (l : List Work) → T (good x y z g l) → (i : ℕ) → Scratch i
     → DrawnFirst i (rename d a b p l) → ⊥
-leaf-undrawn d a b p x y z g l t i s =
-    lines-undrawn d a b p (start x y z) l i s (start-spoken x y z) (good-parts x y z g l t).0
+leaf_undrawn d a b p x y z g l t i s =
+    lines_undrawn d a b p (start x y z) l i s (start_spoken x y z) (good_parts x y z g l t).0
 
 module _ (ρ : Realness) (d a b : ℕ) (p : Loc) (hd : d < 32) (ha : a < 32) (hb : b < 32) (hp : index p < 256)
-    (x y z : Bool) (ex : isRealReg ρ a ≡ x) (ey : isRealReg ρ b ≡ y) (ez : isRealLoc ρ.places p ≡ z) where
+    (x y z : Bool) (ex : is_real_reg ρ a ≡ x) (ey : is_real_reg ρ b ≡ y) (ez : is_real_loc ρ.places p ≡ z) where
   start-kept : All (λ n. Kept ρ (name d a b p n)) (start x y z)
   unfolding name
-  start-kept = (kept-re d hd, (kept-re a ha, (kept-re b hb, (kept_word p hp, (at_a x ex, (at_b y ey, (at_p z ez, tt)))))))
+  start-kept = (kept_re d hd, (kept_re a ha, (kept_re b hb, (kept_word p hp, (at_a x ex, (at_b y ey, (at_p z ez, tt)))))))
     where
-      at_a : (x : Bool) → isRealReg ρ a ≡ x → Kept ρ (name d a b p (cond x 4 7))
-      at_a true e = kept-re d hd
-      at_a false e = kept-im a ha e
+      at_a : (x : Bool) → is_real_reg ρ a ≡ x → Kept ρ (name d a b p (cond x 4 7))
+      at_a true e = kept_re d hd
+      at_a false e = kept_im a ha e
 
-      at_b : (x : Bool) → isRealReg ρ b ≡ x → Kept ρ (name d a b p (cond x 4 9))
-      at_b true e = kept-re d hd
-      at_b false e = kept-im b hb e
+      at_b : (x : Bool) → is_real_reg ρ b ≡ x → Kept ρ (name d a b p (cond x 4 9))
+      at_b true e = kept_re d hd
+      at_b false e = kept_im b hb e
 
-      at_p : (x : Bool) → isRealLoc ρ.places p ≡ x → Kept ρ (name d a b p (cond x 4 71))
-      at_p true e = kept-re d hd
+      at_p : (x : Bool) → is_real_loc ρ.places p ≡ x → Kept ρ (name d a b p (cond x 4 71))
+      at_p true e = kept_re d hd
       at_p false e = kept_next p hp e
 
   pub leaf-agree : (k : List ℕ) (g : Bool) (l : List Work) {σ τ : Store} → T (good x y z g l) → Agree (Kept ρ) σ τ
-      → Agree (Kept (setReg ρ d g)) (execs k (rename d a b p l) σ) (execs k (rename d a b p l) τ)
+      → Agree (Kept (set_reg ρ d g)) (execs k (rename d a b p l) σ) (execs k (rename d a b p l) τ)
   unfolding name Named
   leaf-agree k g l {σ} {τ} h ag =
-      let t = good-parts x y z g l h in
-      weaken (out g t.1) (lines-agree ρ d a b p k (start x y z) l start-kept t.0 ag)
+      let t = good_parts x y z g l h in
+      weaken (out g t.1) (lines_agree ρ d a b p k (start x y z) l start-kept t.0 ag)
     where
-      out : (g : Bool) → T (g || has 5 (known (start x y z) l)) → (w : ℕ) → Kept (setReg ρ d g) w
+      out : (g : Bool) → T (g || has 5 (known (start x y z) l)) → (w : ℕ) → Kept (set_reg ρ d g) w
           → Named (name d a b p) (λ q. p) (name-real d a b p) (name-imaginary d a b p) (Kept ρ) (known (start x y z) l) w
-      out true t w q = inl (kept-up d q)
+      out true t w q = inl (kept_up d q)
       out false t w q = ⊎_elim (λ q. inl q) (λ e. inr (5, t, e)) (kept_new d q)
 
 -- lines that pass the test can be held
-names-low : (d a b : ℕ) (p : Loc) → All (λ n. name d a b p n ≤ 65) registers
+names_low : (d a b : ℕ) (p : Loc) → All (λ n. name d a b p n ≤ 65) registers
 unfolding name
-names-low d a b p =
-    omega (arith, (re-in d).0, im-next d, (re-in a).0, im-next a, (re-in b).0, im-next b)
+names_low d a b p =
+    omega (arith, (re_in d).0, im_next d, (re_in a).0, im_next a, (re_in b).0, im_next b)
 
-pub rename-held : (d a b : ℕ) (p : Loc) (k : List ℕ) (l : List Work) → length k ≤ 65536 → index p < 256 → T (all_listed l)
+pub rename_held : (d a b : ℕ) (p : Loc) (k : List ℕ) (l : List Work) → length k ≤ 65536 → index p < 256 → T (all_listed l)
     → Asks (length k) p l
     → AllHold (length k) (map Record.Work (rename d a b p l))
 unfolding rename
-rename-held d a b p k l few hp t h =
-    held-lines (length k) few (name d a b p) p hp (λ n m. pick_all (λ n. name d a b p n ≤ 65) registers n (names-low d a b p) m) l t h
+rename_held d a b p k l few hp t h =
+    held-lines (length k) few (name d a b p) p hp (λ n m. pick_all (λ n. name d a b p n ≤ 65) registers n (names_low d a b p) m) l t h

@@ -14,29 +14,29 @@ use Rattle.mir.specs.declared.records.Loc.{Loc}
 use Rattle.mir.specs.declared.records.Work.{Work}
 use Rattle.mir.specs.declared.records.Record.{Record}
 use Rattle.mir.specs.Register.{re, im}
-use Rattle.mir.specs.Takes.{takesBin}
+use Rattle.mir.specs.Takes.{takes_bin}
 use Rattle.player_machine.specs.Machine.{Store, at, execs, ticks, going, seeking, play, reach}
 use Rattle.lowering.specs.declared.realness.Realness.{Realness}
-use Rattle.lowering.specs.Realness.{isRealReg, setReg}
-use Rattle.lowering.specs.Lines.{stableExponent}
-use Rattle.lowering.specs.Lines.{stableRootMagnitude, plainRootMagnitude, rootBlock}
+use Rattle.lowering.specs.Realness.{is_real_reg, set_reg}
+use Rattle.lowering.specs.Lines.{stable_exponent}
+use Rattle.lowering.specs.Lines.{stable_root_magnitude, plain_root_magnitude, root_block}
 use Rattle.lowering.specs.Complexifier as c
-use Rattle.lowering.specs.Complexifier.{State, then, unlisted, emit, byOne, byTwo}
-use Rattle.lowering.specs.Rerun.{compareZero}
-use Rattle.leftovers.specs.Kept.{Kept, kept-re, kept-im}
+use Rattle.lowering.specs.Complexifier.{State, then, unlisted, emit, one_by_one, by_two}
+use Rattle.lowering.specs.Rerun.{compare_zero}
+use Rattle.leftovers.specs.Kept.{Kept, kept_re, kept_im}
 use Rattle.player_machine.proofs.Agreeing.{Agree, weaken, has}
 use Rattle.leftovers.proofs.Rows.{Named, all_in, given, check, known}
-use Rattle.leftovers.proofs.Names.{Scratch, rename, name, free, kept_new, lines-agree, lines-undrawn, lines_keep}
+use Rattle.leftovers.proofs.Names.{Scratch, rename, name, free, kept_new, lines_agree, lines_undrawn, lines_keep}
 use Rattle.marks.specs.Leads.{DrawnFirst}
-use Rattle.marks.proofs.Quiet.{quiet-append, quiet-works, quiet-call, quiet-label, quiet-branch}
+use Rattle.marks.proofs.Quiet.{quiet_append, quiet-works, quiet-call, quiet-label, quiet-branch}
 use Rattle.mir.proofs.Decoding.{none, and}
 use Rattle.records.proofs.Holding.{AllHold}
 use Rattle.lowering.specs.Complexifier.{INFINITY, EXP_MASK_FINITE, FLOOR_FINITE}
-use Rattle.leftovers.proofs.Held.{all_listed, held-append}
-use Rattle.leftovers.proofs.Constants.{three-found}
-use Rattle.leftovers.proofs.Names.{rename-held}
-use Rattle.leftovers.proofs.Stretch.{Safe, join, loosen, works-safe, ticks-ticks}
-use Rattle.lowering.specs.Complexifier.{aroundBlock}
+use Rattle.leftovers.proofs.Held.{all_listed, held_append}
+use Rattle.leftovers.proofs.Constants.{three_found}
+use Rattle.leftovers.proofs.Names.{rename_held}
+use Rattle.leftovers.proofs.Stretch.{Safe, join, loosen, works_safe, ticks-ticks}
+use Rattle.lowering.specs.Complexifier.{around_block}
 use Rattle.leftovers.proofs.Methods.{Keeps, fmov-keeps, bits-keeps}
 use Rattle.leftovers.proofs.Clearing.{ensure-keeps, compare-keeps, complex-set}
 
@@ -44,8 +44,8 @@ use Rattle.leftovers.proofs.Clearing.{ensure-keeps, compare-keeps, complex-set}
 
 -- what is asked of the block that a Call plays
 pub record Block (k : List ℕ) (B : List Work) : Type 0 where
-  pub agree : (ρ : Realness) {σ τ : Store} → isRealReg ρ 31 ≡ false → Agree (Kept ρ) σ τ
-      → Agree (Kept (setReg ρ 30 false)) (execs k B σ) (execs k B τ)
+  pub agree : (ρ : Realness) {σ τ : Store} → is_real_reg ρ 31 ≡ false → Agree (Kept ρ) σ τ
+      → Agree (Kept (set_reg ρ 30 false)) (execs k B σ) (execs k B τ)
   pub undrawn : (i : ℕ) → Scratch i → DrawnFirst i B → ⊥
   pub keep : (σ : Store) (r w : ℕ) → r < 30 → (w ≡ re r) ⊎ (w ≡ im r) → at (execs k B σ) w ≡ at σ w
 
@@ -57,40 +57,40 @@ module _ (k : List ℕ) (t : List Work) where
   block-fine c h f e =
       record {
         agree =
-            λ ρ {σ} {τ} x g. subst (λ (l : List Work). Agree (Kept (setReg ρ 30 false)) (execs k l σ) (execs k l τ)) e
+            λ ρ {σ} {τ} x g. subst (λ (l : List Work). Agree (Kept (set_reg ρ 30 false)) (execs k l σ) (execs k l τ)) e
             (weaken (λ w q. ⊎_elim (λ q. inl q) (λ e. inr (65, h, e)) (kept_new 30 q))
-            (lines-agree ρ 30 31 31 (Loc.Stack 2) k (0 ∷ 1 ∷ []) t (kept-re 31 (lit< tt), (kept-im 31 (lit< tt) x, tt)) c g));
+            (lines_agree ρ 30 31 31 (Loc.Stack 2) k (0 ∷ 1 ∷ []) t (kept_re 31 (lit< tt), (kept_im 31 (lit< tt) x, tt)) c g));
         undrawn =
-            λ i s. subst (λ (l : List Work). DrawnFirst i l → ⊥) e (lines-undrawn 30 31 31 (Loc.Stack 2) (0 ∷ 1 ∷ []) t i s tt c);
+            λ i s. subst (λ (l : List Work). DrawnFirst i l → ⊥) e (lines_undrawn 30 31 31 (Loc.Stack 2) (0 ∷ 1 ∷ []) t i s tt c);
         keep =
             λ σ r w h q. subst (λ (l : List Work). at (execs k l σ) w ≡ at σ w) e
             (lines_keep 30 31 31 (Loc.Stack 2) k t σ r w f h (omega arith) q);
       }
 
-stable-block : (k : List ℕ) (i j q : ℕ) → Block k (rootBlock (stableRootMagnitude i j q))
-unfolding rename check known given all_in rootBlock stableRootMagnitude stableExponent re im
-stable-block k i j q = block-fine k (rootBlock (stableRootMagnitude i j q)) tt tt tt refl
+stable_block : (k : List ℕ) (i j q : ℕ) → Block k (root_block (stable_root_magnitude i j q))
+unfolding rename check known given all_in root_block stable_root_magnitude stable_exponent re im
+stable_block k i j q = block-fine k (root_block (stable_root_magnitude i j q)) tt tt tt refl
 
-pub root-block-fine : (k : List ℕ) (m : Bool) (consts : List ℕ) → Block k (c.block_of m consts)
-unfolding c.block_of rename check known given all_in rootBlock plainRootMagnitude re im
-root-block-fine k true consts = stable-block k _ _ _
-root-block-fine k false consts = block-fine k (rootBlock plainRootMagnitude) tt tt tt refl
+pub root_block_fine : (k : List ℕ) (m : Bool) (consts : List ℕ) → Block k (c.block_of m consts)
+unfolding c.block_of rename check known given all_in root_block plain_root_magnitude re im
+root_block_fine k true consts = stable_block k _ _ _
+root_block_fine k false consts = block-fine k (root_block plain_root_magnitude) tt tt tt refl
 
 -- a listing can hold the block, where the table has its constants
-block_held : (k : List ℕ) (m : Bool) (consts : List ℕ) → length (c.blockConsts m consts) ≤ length k → length k ≤ 65536
+block_held : (k : List ℕ) (m : Bool) (consts : List ℕ) → length (c.block_consts m consts) ≤ length k → length k ≤ 65536
     → AllHold (length k) (map Record.Work (c.block_of m consts))
-unfolding c.block_of c.blockConsts rename all_listed rootBlock plainRootMagnitude stableRootMagnitude stableExponent re im
+unfolding c.block_of c.block_consts rename all_listed root_block plain_root_magnitude stable_root_magnitude stable_exponent re im
 block_held k true consts hk few =
-    let h = three-found FLOOR_FINITE EXP_MASK_FINITE INFINITY consts (length k) hk in
-    rename-held 30 31 31 (Loc.Stack 2) k (c.block_of true consts) few (lit< tt) tt
+    let h = three_found FLOOR_FINITE EXP_MASK_FINITE INFINITY consts (length k) hk in
+    rename_held 30 31 31 (Loc.Stack 2) k (c.block_of true consts) few (lit< tt) tt
     (lit≤ tt, (h.first, (h.second, (h.third, (lit≤ tt, (lit≤ tt, tt))))))
 block_held k false consts hk few =
-    rename-held 30 31 31 (Loc.Stack 2) k (c.block_of false consts) few (lit< tt) tt (lit≤ tt, (lit≤ tt, (lit≤ tt, tt)))
+    rename_held 30 31 31 (Loc.Stack 2) k (c.block_of false consts) few (lit< tt) tt (lit≤ tt, (lit≤ tt, (lit≤ tt, tt)))
 
-call-keeps : (k : List ℕ) (B : List Work) (X Z : ℕ → Type 0) (H : Type 0) (s : State) → Block k B → isRealReg s.real 31 ≡ false
-    → Keeps k B X Z H s (c.callRoot s)
-unfolding c.callRoot play reach
-call-keeps k B X Z H s b e = record {
+call_keeps : (k : List ℕ) (B : List Work) (X Z : ℕ → Type 0) (H : Type 0) (s : State) → Block k B → is_real_reg s.real 31 ≡ false
+    → Keeps k B X Z H s (c.call_root s)
+unfolding c.call_root play reach
+call_keeps k B X Z H s b e = record {
   F = execs k B;
   n = 3 + length B;
   plays = λ rest σ. refl;
@@ -116,7 +116,7 @@ seek-reach k b l (a ∷ t) j rest σ = rw suc-add (seek-reach k b l t j rest σ)
 -- ---- the block, passed over where it stands
 
 module _ (k : List ℕ) (B : List Work) (t : List Work) where
-  over-play : (rest : List Record) (σ : Store) → play k B going (aroundBlock t ++ rest) σ ≡ ticks 2 (play k B going rest σ)
+  over-play : (rest : List Record) (σ : Store) → play k B going (around_block t ++ rest) σ ≡ ticks 2 (play k B going rest σ)
   unfolding play
   over-play rest σ =
       rw (
@@ -126,7 +126,7 @@ module _ (k : List ℕ) (B : List Work) (t : List Work) where
       (ticks-ticks 1 1 (play k B going rest σ))
 
   pub over-reach : (j : ℕ) (rest : List Record) (σ : Store)
-      → reach k B going (length (aroundBlock t) + j) (aroundBlock t ++ rest) σ ≡ reach k B going j rest σ
+      → reach k B going (length (around_block t) + j) (around_block t ++ rest) σ ≡ reach k B going j rest σ
   unfolding reach
   over-reach j rest σ =
       rw (
@@ -141,83 +141,83 @@ module _ (k : List ℕ) (B : List Work) (t : List Work) where
         zero-add j,
       )
 
-around-keeps : (k : List ℕ) (B : List Work) (X Z : ℕ → Type 0) (H : Type 0) (t : List Work) (ρ : Realness)
+around_keeps : (k : List ℕ) (B : List Work) (X Z : ℕ → Type 0) (H : Type 0) (t : List Work) (ρ : Realness)
     → (length k ≤ 65536 → AllHold (length k) (map Record.Work t)) → ((i : ℕ) → Scratch i → DrawnFirst i t → ⊥)
-    → Safe k B X Z H ρ (aroundBlock t) ρ
-around-keeps k B X Z H t ρ hd un = record {
+    → Safe k B X Z H ρ (around_block t) ρ
+around_keeps k B X Z H t ρ hd un = record {
   F = λ σ. σ;
   n = 2;
   plays = over-play k B t;
   stands = over-reach k B t;
   agree = λ _ g. g;
   frame = λ σ r h n. (refl, inl refl);
-  held = λ few. and tt (and tt (held-append (hd few) (and tt (and tt none))));
+  held = λ few. and tt (and tt (held_append (hd few) (and tt (and tt none))));
   quiet =
-      λ i h. quiet-append (quiet-append (quiet-branch B i 2) (quiet-label B i 1))
-      (quiet-append (quiet-works B i t (un i h)) (quiet-append (quiet-branch B i 0) (quiet-label B i 2)));
+      λ i h. quiet_append (quiet_append (quiet-branch B i 2) (quiet-label B i 1))
+      (quiet_append (quiet-works B i t (un i h)) (quiet_append (quiet-branch B i 0) (quiet-label B i 2)));
 }
 
-pub unlisted-keeps : (k : List ℕ) (B : List Work) (X Z : ℕ → Type 0) (H : Type 0) (s : State) → Keeps k B X Z H s (unlisted s)
+pub unlisted_keeps : (k : List ℕ) (B : List Work) (X Z : ℕ → Type 0) (H : Type 0) (s : State) → Keeps k B X Z H s (unlisted s)
 unfolding unlisted execs
-unlisted-keeps k B X Z H s = works-safe [] (λ σ τ _ g. g) (λ σ r h n. (refl, inl refl)) (λ few. none) (λ i h d. d)
+unlisted_keeps k B X Z H s = works_safe [] (λ σ τ _ g. g) (λ σ r h n. (refl, inl refl)) (λ few. none) (λ i h d. d)
 
-define-keeps : (k : List ℕ) (B : List Work) (X Z : ℕ → Type 0) (H : Type 0) (x m : Bool) (s : State)
-    → length (c.defineRoot x m s).after.consts ≤ length k → Keeps k B X Z H s (c.defineRoot x m s)
-unfolding c.defineRoot unlisted
-define-keeps k B X Z H true m s hk = unlisted-keeps k B X Z H s
-define-keeps k B X Z H false m s hk = around-keeps k B X Z H (c.block_of m s.consts) s.real (block_held k m s.consts hk) (root-block-fine k m s.consts).undrawn
+define_keeps : (k : List ℕ) (B : List Work) (X Z : ℕ → Type 0) (H : Type 0) (x m : Bool) (s : State)
+    → length (c.define_root x m s).after.consts ≤ length k → Keeps k B X Z H s (c.define_root x m s)
+unfolding c.define_root unlisted
+define_keeps k B X Z H true m s hk = unlisted_keeps k B X Z H s
+define_keeps k B X Z H false m s hk = around_keeps k B X Z H (c.block_of m s.consts) s.real (block_held k m s.consts hk) (root_block_fine k m s.consts).undrawn
 
 -- what writes only to Temp or Ret frames every destination
-pub frame-any : {k : List ℕ} {B : List Work} {Z : ℕ → Type 0} {H : Type 0} {ρ ρ' : Realness} {rs : List Record} (X : ℕ → Type 0) (e : ℕ)
+pub frame_any : {k : List ℕ} {B : List Work} {Z : ℕ → Type 0} {H : Type 0} {ρ ρ' : Realness} {rs : List Record} (X : ℕ → Type 0) (e : ℕ)
     → 30 ≤ e → Safe k B (λ r. r ≡ e) Z H ρ rs ρ' → Safe k B X Z H ρ rs ρ'
-frame-any X e h s = loosen (λ h. h) (λ r g n. (λ q. omega arith, λ z. z)) s
+frame_any X e h s = loosen (λ h. h) (λ r g n. (λ q. omega arith, λ z. z)) s
 
 module _ (k : List ℕ) (B : List Work) (Z : ℕ → Type 0) (H : Type 0) (s : State) (d a : ℕ) (hd : d < 32) (ha : a < 32)
-    (z : isRealReg s.real a ≡ true → Z a) (b : Block k B) where
+    (z : is_real_reg s.real a ≡ true → Z a) (b : Block k B) where
   pub root-keeps : (m : Bool) → length (c.root m d a s).after.consts ≤ length k → Keeps k B (λ r. r ≡ d) Z H s (c.root m d a s)
   unfolding c.root then
   root-keeps m hk =
       let X : ℕ → Type 0 = λ r. r ≡ d in
       let ensured = ensure-keeps k B X Z H s a ha z in
-      let moved = frame-any X 31 (lit≤ tt) (fmov-keeps k B Z H (c.ensureComplex a s).after 31 a (lit< tt) ha) in
-      let called = call-keeps k B X Z H s2 b temp-complex in
-      let back = fmov-keeps k B Z H (c.callRoot s2).after d 30 hd (lit< tt) in
-      join (join (join (join ensured moved) called) back) (define-keeps k B X Z H s4.rootDefined m s4 hk)
+      let moved = frame_any X 31 (lit≤ tt) (fmov-keeps k B Z H (c.ensure_complex a s).after 31 a (lit< tt) ha) in
+      let called = call_keeps k B X Z H s2 b temp-complex in
+      let back = fmov-keeps k B Z H (c.call_root s2).after d 30 hd (lit< tt) in
+      join (join (join (join ensured moved) called) back) (define_keeps k B X Z H s4.is_root_defined m s4 hk)
     where
       s2 : State
-      s2 = (c.fmov 31 a (c.ensureComplex a s).after).after
+      s2 = (c.fmov 31 a (c.ensure_complex a s).after).after
 
       s4 : State
-      s4 = (c.fmov d 30 (c.callRoot s2).after).after
+      s4 = (c.fmov d 30 (c.call_root s2).after).after
 
-      temp-complex : isRealReg (c.fmov 31 a (c.ensureComplex a s).after).after.real 31 ≡ false
-      temp-complex = unfold c.fmov byOne c.ensureComplex emit in rw (complex-set s.real a) (complex-set (setReg s.real a false) 31)
+      temp-complex : is_real_reg (c.fmov 31 a (c.ensure_complex a s).after).after.real 31 ≡ false
+      temp-complex = unfold c.fmov one_by_one c.ensure_complex emit in rw (complex-set s.real a) (complex-set (set_reg s.real a false) 31)
 
-define-defines : (m : Bool) (s : State) (x : Bool) → s.rootDefined ≡ x → (c.defineRoot x m s).after.rootDefined ≡ true
-unfolding c.defineRoot
-define-defines m s true e = e
-define-defines m s false e = refl
+define_defines : (m : Bool) (s : State) (x : Bool) → s.is_root_defined ≡ x → (c.define_root x m s).after.is_root_defined ≡ true
+unfolding c.define_root
+define_defines m s true e = e
+define_defines m s false e = refl
 
-pub root-defines : (m : Bool) (d a : ℕ) (s : State) → (c.root m d a s).after.rootDefined ≡ true
+pub root_defines : (m : Bool) (d a : ℕ) (s : State) → (c.root m d a s).after.is_root_defined ≡ true
 unfolding c.root then
-root-defines m d a s = define-defines m s4 s4.rootDefined refl
+root_defines m d a s = define_defines m s4 s4.is_root_defined refl
   where
     s4 : State
-    s4 = (c.fmov d 30 (c.callRoot (c.fmov 31 a (c.ensureComplex a s).after).after).after).after
+    s4 = (c.fmov d 30 (c.call_root (c.fmov 31 a (c.ensure_complex a s).after).after).after).after
 
 -- a cleared register that is none of the general ones frames all
-frame-clear : {k : List ℕ} {B : List Work} {X Z Z' : ℕ → Type 0} {H : Type 0} {ρ ρ' : Realness} {rs : List Record}
+frame_clear : {k : List ℕ} {B : List Work} {X Z Z' : ℕ → Type 0} {H : Type 0} {ρ ρ' : Realness} {rs : List Record}
     → ((r : ℕ) → r < 30 → Z' r → Z r) → Safe k B X Z' H ρ rs ρ' → Safe k B X Z H ρ rs ρ'
-frame-clear f s = loosen (λ h. h) (λ r g n. (n, f r g)) s
+frame_clear f s = loosen (λ h. h) (λ r g n. (n, f r g)) s
 
 module _ (k : List ℕ) (B : List Work) (Z : ℕ → Type 0) (H : Type 0) (s : State) (d a : ℕ) (hd : d < 32) (ha : a < 32)
-    (z : isRealReg s.real a ≡ true → Z a) where
-  pub compare-zero-keeps : (op by : BinOp) → takesBin true op ≡ true → takesBin true by ≡ true → Keeps k B (λ r. r ≡ d) Z H s (compareZero op by d a s)
-  unfolding then c.bits byTwo emit
+    (z : is_real_reg s.real a ≡ true → Z a) where
+  pub compare-zero-keeps : (op by : BinOp) → takes_bin true op ≡ true → takes_bin true by ≡ true → Keeps k B (λ r. r ≡ d) Z H s (compare_zero op by d a s)
+  unfolding then c.bits by_two emit
   compare-zero-keeps op by e f =
-      join (frame-any (λ r. r ≡ d) 31 (lit≤ tt) (bits-keeps k B Z H s 31 31 31 (lit< tt) (lit< tt) (lit< tt) BinOp.Xor refl))
-      (frame-clear {Z' = λ r. Z r ⊎ (30 ≤ r)} (λ r g. elim [ inl q ↦ q | inr q ↦ absurd (omega arith) ])
+      join (frame_any (λ r. r ≡ d) 31 (lit≤ tt) (bits-keeps k B Z H s 31 31 31 (lit< tt) (lit< tt) (lit< tt) BinOp.Xor refl))
+      (frame_clear {Z' = λ r. Z r ⊎ (30 ≤ r)} (λ r g. elim [ inl q ↦ q | inr q ↦ absurd (omega arith) ])
       (compare-keeps k B (λ r. Z r ⊎ (30 ≤ r)) H _ d a 31 hd ha (lit< tt) (λ e. inl (z (back e))) (λ e. inr (lit≤ tt)) op by e f))
     where
-      back : isRealReg (setReg s.real 31 (isRealReg s.real 31 && isRealReg s.real 31)) a ≡ true → isRealReg s.real a ≡ true
-      back e = rw (and_self (isRealReg s.real 31), set-get_or s.real.regs 31 false) at e
+      back : is_real_reg (set_reg s.real 31 (is_real_reg s.real 31 && is_real_reg s.real 31)) a ≡ true → is_real_reg s.real a ≡ true
+      back e = rw (and_self (is_real_reg s.real 31), set-get_or s.real.regs 31 false) at e

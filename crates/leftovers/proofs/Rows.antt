@@ -10,12 +10,12 @@ use Rattle.mir.specs.declared.records.Loc.{Loc}
 use Rattle.mir.specs.declared.records.Work.{Work}
 use Rattle.mir.proofs.Tables.{and_left, and_right}
 use Rattle.player_machine.specs.Machine.{Store, at, place, writes, exec, execs}
-use Rattle.player_machine.specs.Draws.{isXor, draws, fills, target, AgreeAt, done, same, Off, clear, other}
+use Rattle.player_machine.specs.Draws.{is_xor, draws, fills, target, AgreeAt, done, same, Off, clear, other}
 use Rattle.player_machine.proofs.Drawing.{depends, written, stays}
-use Rattle.player_machine.proofs.Agreeing.{Agree, weaken, has, or_cases, or_l, or_r, put-agree}
+use Rattle.player_machine.proofs.Agreeing.{Agree, weaken, has, or_cases, or_l, or_r, put_agree}
 use Rattle.marks.specs.Marks.{among}
 use Rattle.marks.specs.Leads.{DrawnFirst}
-use Rattle.marks.proofs.Stores.{among-has}
+use Rattle.marks.proofs.Stores.{among_has}
 use Rattle.marks.proofs.Leading.{clash}
 
 -- ---- names in a list
@@ -29,11 +29,11 @@ has_split n (x ∷ xs) ys h =
 pub eq→eqb : {a b : ℕ} → a ≡ b → T (eqb a b)
 eq→eqb {a} e = rw (← e) (eqb_refl a)
 
-pub has-map : (f : ℕ → ℕ) (n : ℕ) (xs : List ℕ) → T (has n xs) → T (has (f n) (map f xs))
-has-map f n [] h = h
-has-map f n (x ∷ xs) h =
+pub has_map : (f : ℕ → ℕ) (n : ℕ) (xs : List ℕ) → T (has n xs) → T (has (f n) (map f xs))
+has_map f n [] h = h
+has_map f n (x ∷ xs) h =
     ⊎_elim (λ e. or_l (eqb (f n) (f x)) (has (f n) (map f xs)) (eq→eqb (ap f (eqb→eq n x e))))
-    (λ t. or_r (eqb (f n) (f x)) (has (f n) (map f xs)) (has-map f n xs t))
+    (λ t. or_r (eqb (f n) (f x)) (has (f n) (map f xs)) (has_map f n xs t))
     (or_cases (eqb n x) (has n xs) h)
 
 -- ---- the check at names of words: a name is an index in the store, and a renaming says which word it means
@@ -92,15 +92,15 @@ unfolding one
 one_at zero = refl
 one_at (suc i) = one_at i
 
-one-off : (i j : ℕ) → j ≢ i → at (one i) j ≡ 0
+one_off : (i j : ℕ) → j ≢ i → at (one i) j ≡ 0
 unfolding one
-one-off zero zero n = absurd (n refl)
-one-off zero (suc j) n = refl
-one-off (suc i) zero n = refl
-one-off (suc i) (suc j) n = one-off i j (λ e. n (ap suc e))
+one_off zero zero n = absurd (n refl)
+one_off zero (suc j) n = refl
+one_off (suc i) zero n = refl
+one_off (suc i) (suc j) n = one_off i j (λ e. n (ap suc e))
 
-agree-here : {σ τ : Store} (is : List ℕ) (i : ℕ) → AgreeAt σ τ is → T (among is i) → at σ i ≡ at τ i
-agree-here (j ∷ js) i (same e h) t = ⊎_elim (λ q. rw (eqb→eq i j q) e) (λ t. agree-here js i h t) (or_cases (eqb i j) (among js i) t)
+agree_here : {σ τ : Store} (is : List ℕ) (i : ℕ) → AgreeAt σ τ is → T (among is i) → at σ i ≡ at τ i
+agree_here (j ∷ js) i (same e h) t = ⊎_elim (λ q. rw (eqb→eq i j q) e) (λ t. agree_here js i h t) (or_cases (eqb i j) (among js i) t)
 
 -- where f means the words of a place by those of the place that g means
 module _ (f : ℕ → ℕ) (g : Loc → Loc) (real : (q : Loc) → f (place q) ≡ place (g q)) (imaginary : (q : Loc) → f (suc (place q)) ≡ suc (place (g q)))
@@ -132,7 +132,7 @@ module _ (f : ℕ → ℕ) (g : Loc → Loc) (real : (q : Loc) → f (place q) �
     draws-ren : {σ τ : Store} (a : Work) → AgreeAt σ τ (map f (draws a)) → AgreeAt σ τ (draws (ren f g a))
     unfolding ren
     draws-ren (Work.Uni op d a) h = h
-    draws-ren (Work.Bi op d a b) h = draws-bi a b _ _ (isXor op) refl refl h
+    draws-ren (Work.Bi op d a b) h = draws-bi a b _ _ (is_xor op) refl refl h
     draws-ren (Work.Mov d a) h = h
     draws-ren (Work.Load d q) h = rw (real q) at h
     draws-ren (Work.Save a q) h = h
@@ -163,7 +163,7 @@ module _ (f : ℕ → ℕ) (g : Loc → Loc) (real : (q : Loc) → f (place q) �
       unfolding Named
       told σ cl a w (inl c) = inl (inl c)
       told σ cl a w (inr m) =
-          ⊎_elim (λ x. inr (rw (written k (ren f g a) σ, fills-ren a, ← m.2) (has-map f m.0 (fills a) x))) (λ c. inl (inr (m.0, c, m.2)))
+          ⊎_elim (λ x. inr (rw (written k (ren f g a) σ, fills-ren a, ← m.2) (has_map f m.0 (fills a) x))) (λ c. inl (inr (m.0, c, m.2)))
           (has_split m.0 (fills a) cl m.1)
 
       step-agree : {σ τ : Store} (cl : List ℕ) (a : Work) → T (all_in (draws a) cl) → Agree (Named C cl) σ τ
@@ -171,7 +171,7 @@ module _ (f : ℕ → ℕ) (g : Loc → Loc) (real : (q : Loc) → f (place q) �
       unfolding exec Named
       step-agree {σ} {τ} cl a h ag =
           let e = depends k (ren f g a) σ τ (draws-ren a (agree_at (draws a) cl (λ n c. ag.on (f n) (inr (n, c, refl))) h)) in
-          rw (← e) (weaken (told σ cl a) (put-agree (writes k σ (ren f g a)) ag))
+          rw (← e) (weaken (told σ cl a) (put_agree (writes k σ (ren f g a)) ag))
 
       pub steps-agree : {σ τ : Store} (cl : List ℕ) (l : List Work) → T (check cl l) → Agree (Named C cl) σ τ
           → Agree (Named C (known cl l)) (execs k (map (ren f g) l) σ) (execs k (map (ren f g) l) τ)
@@ -197,12 +197,12 @@ module _ (f : ℕ → ℕ) (g : Loc → Loc) (real : (q : Loc) → f (place q) �
     drawn-name : (i : ℕ) (cl : List ℕ) (a : Work) → ((n : ℕ) → T (has n cl) → f n ≢ i) → T (all_in (draws a) cl)
         → T (among (draws (ren f g a)) i) → ⊥
     drawn-name i cl a out t d =
-        let h = draws-ren {σ = []} {τ = one i} a (agree_at (draws a) cl (λ n c. sym (one-off i (f n) (out n c))) t) in
-        let z : ◌≡◌ {A = ℕ} 0 1 = agree-here (draws (ren f g a)) i h d ∙ one_at i in
+        let h = draws-ren {σ = []} {τ = one i} a (agree_at (draws a) cl (λ n c. sym (one_off i (f n) (out n c))) t) in
+        let z : ◌≡◌ {A = ℕ} 0 1 = agree_here (draws (ren f g a)) i h d ∙ one_at i in
         absurd (omega (arith, z))
 
     filled-name : (i n : ℕ) (a : Work) → T (has n (fills a)) → f n ≡ i → T (among (fills (ren f g a)) i)
-    filled-name i n a x e = rw (among-has (fills (ren f g a)) i, fills-ren a, ← e) (has-map f n (fills a) x)
+    filled-name i n a x e = rw (among_has (fills (ren f g a)) i, fills-ren a, ← e) (has_map f n (fills a) x)
 
     pub undrawn : (i : ℕ) (cl : List ℕ) (l : List Work) → ((n : ℕ) → T (has n cl) → f n ≢ i) → T (check cl l)
         → DrawnFirst i (map (ren f g) l) → ⊥

@@ -1,5 +1,5 @@
--- Four sheets, one of them in each mode, and stores, at which demand 3 is looked at closely (theorems `needed`, `neededStable`, `minded`,
--- `met`, `jumpedOver` and `cleared`, entries/specs).
+-- Four sheets, one of them in each mode, and stores, at which demand 3 is looked at closely (theorems `needed`, `needed_stable`, `minded`,
+-- `met`, `jumped_over` and `cleared`, entries/specs).
 use Rattle.std.specs.Prelude.{ℕ, List, [], ◌∷◌, ◌++◌, set, replicate}
 use Rattle.player_machine.specs.Machine.{Store}
 
@@ -21,13 +21,13 @@ unfolding header
 mixing = header ++ 7 ∷ 0 ∷ 1 ∷ 0 ∷ 10 ∷ 0 ∷ 0 ∷ 7 ∷ 0 ∷ 1 ∷ 0 ∷ 13 ∷ 1 ∷ 0 ∷ []
 
 -- the same in stable mode, and in mode 2
-unfoldable pub stableMixing : List ℕ
+unfoldable pub stable_mixing : List ℕ
 unfolding mixing
-stableMixing = set mixing 4 1
+stable_mixing = set mixing 4 1
 
-unfoldable pub mindingMixing : List ℕ
+unfoldable pub minding_mixing : List ℕ
 unfolding mixing
-mindingMixing = set mixing 4 2
+minding_mixing = set mixing 4 2
 
 -- Real of general 0 into general 0 and of general 1 into general 1; Half of general 0 into general 1, both recorded as real
 unfoldable pub clean : List ℕ

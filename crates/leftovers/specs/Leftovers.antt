@@ -8,16 +8,16 @@ use Rattle.mir.specs.declared.records.Record.{Record}
 use Rattle.mir.specs.Register.{re, im, T0, T1}
 use Rattle.mir.specs.Place.{index}
 use Rattle.sheet.specs.declared.setup.Mode.{Mode}
-use Rattle.sheet.specs.Setup.{isMinding, setup, constantsOf}
+use Rattle.sheet.specs.Setup.{is_minding, setup, constants_of}
 use Rattle.sheet.specs.Instruction.{instructions}
 use Rattle.records.specs.Record.{records}
 use Rattle.player_machine.specs.Machine.{Store, at, place, going, block, reach}
 use Rattle.player_machine.specs.Answer.{Answer, answer}
 use Rattle.lowering.specs.declared.realness.Realness.{Realness}
-use Rattle.lowering.specs.Realness.{isRealReg, isRealLoc}
+use Rattle.lowering.specs.Realness.{is_real_reg, is_real_loc}
 use Rattle.lowering.specs.Complexifier.{Out}
 use Rattle.lowering.specs.Rerun.{complexify}
-use Rattle.lowering.specs.Lower.{startState, lowerSheet}
+use Rattle.lowering.specs.Lower.{start_state, lower_sheet}
 
 -- ---- leftovers
 
@@ -26,8 +26,8 @@ use Rattle.lowering.specs.Lower.{startState, lowerSheet}
 pub data Leftover (ρ : Realness) : ℕ → Type 0 where
   scratch0 : Leftover ρ T0
   scratch1 : Leftover ρ T1
-  half : (r : ℕ) → r < 32 → isRealReg ρ r ≡ true → Leftover ρ (im r)
-  word : (p : Loc) → index p < 256 → isRealLoc ρ.places p ≡ true → Leftover ρ (suc (place p))
+  half : (r : ℕ) → r < 32 → is_real_reg ρ r ≡ true → Leftover ρ (im r)
+  word : (p : Loc) → index p < 256 → is_real_loc ρ.places p ≡ true → Leftover ρ (suc (place p))
 
 -- two stores of 1,602 words that differ at most in leftovers
 pub record Alike (ρ : Realness) (σ τ : Store) : Type 0 where
@@ -45,13 +45,13 @@ pub record Sheet : Type 0 where
   pub instructions : List Instruction
 
 -- as it is read from its bytes
-abbrev pub sheetOf : List ℕ → Sheet
-sheetOf bytes =
+abbrev pub sheet_of : List ℕ → Sheet
+sheet_of bytes =
     let u = setup bytes in
     record {
       mode = u.mode;
       places = u.places;
-      constants = constantsOf bytes u.count;
+      constants = constants_of bytes u.count;
       instructions = (instructions u.count (drop u.start bytes)).items;
     }
 
@@ -59,7 +59,7 @@ sheetOf bytes =
 pub record Accepted (bytes : List ℕ) (room : ℕ) : Type 0 where
   pub right : (setup bytes).number ≡ 0
   pub slice : room ≤ 65536
-  pub number : (lowerSheet bytes room).number ≡ 0
+  pub number : (lower_sheet bytes room).number ≡ 0
 
 -- a sheet, and what lowering gave: the listing's bytes, the constants and the final record of realness
 pub record Lowered : Type 0 where
@@ -71,14 +71,14 @@ pub record Lowered : Type 0 where
 -- a sheet's bytes, lowered into a slice with this room
 abbrev pub lowered : List ℕ → ℕ → Lowered
 lowered bytes room =
-    let e = lowerSheet bytes room in
-    record { sheet = sheetOf bytes; listing = e.bytes; constants = e.state.consts; last = e.state.real }
+    let e = lower_sheet bytes room in
+    record { sheet = sheet_of bytes; listing = e.bytes; constants = e.state.consts; last = e.state.real }
 
 -- ---- points
 
 -- the lowering of the first i instructions
 abbrev pub up_to : Sheet → ℕ → Out
-up_to s i = complexify s.mode (take i s.instructions) (startState s.places s.constants)
+up_to s i = complexify s.mode (take i s.instructions) (start_state s.places s.constants)
 
 -- "the record index where the listing of the first i instructions ends; the realness then is the one held after those i"
 abbrev pub point : Sheet → ℕ → ℕ
@@ -88,18 +88,18 @@ abbrev pub real_at : Sheet → ℕ → Realness
 real_at s i = (up_to s i).after.real
 
 -- "Playing on starts at that index": from point i, with σ
-abbrev pub playOn : Lowered → ℕ → Store → Answer
-playOn l i σ = answer l.listing l.constants (point l.sheet i) σ
+abbrev pub play_on : Lowered → ℕ → Store → Answer
+play_on l i σ = answer l.listing l.constants (point l.sheet i) σ
 
 -- the listing's records, as the player reads them
-abbrev pub recordsOf : Lowered → List Record
-recordsOf l = (records (length l.constants) l.listing).items
+abbrev pub records_of : Lowered → List Record
+records_of l = (records (length l.constants) l.listing).items
 
 -- "A play stands at point j when it is outside a call at" its index: the store with which playing on from point i, with σ, stands at
 -- point j, where it does
 abbrev pub standing : Lowered → ℕ → Store → ℕ → Option Store
 standing l i σ j =
-    reach l.constants (block (recordsOf l)) going (point l.sheet j - point l.sheet i) (drop (point l.sheet i) (recordsOf l)) σ
+    reach l.constants (block (records_of l)) going (point l.sheet j - point l.sheet i) (drop (point l.sheet i) (records_of l)) σ
 
 -- ---- Half
 
@@ -111,12 +111,12 @@ pub record Mixing (l : Lowered) (i : ℕ) (σ : Store) : Type 0 where
   pub d : ℕ
   pub a : ℕ
   pub α : Store
-  pub notMinding : isMinding l.sheet.mode ≡ false
+  pub not_minding : is_minding l.sheet.mode ≡ false
   pub later : i ≤ j
-  pub isHalf : get_or l.sheet.instructions j Instruction.Nop ≡ Instruction.Uni UniOp.Half d a
+  pub is_half : get_or l.sheet.instructions j Instruction.Nop ≡ Instruction.Uni UniOp.Half d a
   pub reached : standing l i σ j ≡ some α
-  pub fromReal : isRealReg (real_at l.sheet j) a ≡ true
-  pub intoComplex : isRealReg (real_at l.sheet j) d ≡ false
+  pub from_real : is_real_reg (real_at l.sheet j) a ≡ true
+  pub into_complex : is_real_reg (real_at l.sheet j) d ≡ false
 
 -- ---- what an instruction may change
 
@@ -159,7 +159,7 @@ abbrev pub Spares : Realness → Instruction → Store → Store → Type 0
 Spares ρ i α β =
     (r : ℕ) → r < 30 → (IsDestination i r → ⊥)
     → (at β (re r) ≡ at α (re r))
-    × ((at β (im r) ≡ at α (im r)) ⊎ ((IsOperand i r × (isRealReg ρ r ≡ true)) × (at β (im r) ≡ 0)))
+    × ((at β (im r) ≡ at α (im r)) ⊎ ((IsOperand i r × (is_real_reg ρ r ≡ true)) × (at β (im r) ≡ 0)))
 
 -- "The changes of the instruction with index j run from point j to the next higher point reached": from α to β, in playing on from point i
 pub record Changes (l : Lowered) (i : ℕ) (σ : Store) (j : ℕ) (α β : Store) : Type 0 where
@@ -181,28 +181,28 @@ AllSpare l i σ =
 
 -- "playing on with and without the change ends after equally many records", and the endings differ at most in leftovers
 pub record EndAlike (l : Lowered) (i : ℕ) (σ τ : Store) : Type 0 where
-  pub played : (playOn l i σ).played ≡ (playOn l i τ).played
-  pub stores : Alike l.last (playOn l i σ).store (playOn l i τ).store
+  pub played : (play_on l i σ).played ≡ (play_on l i τ).played
+  pub stores : Alike l.last (play_on l i σ).store (play_on l i τ).store
 
 -- The player accepts the play from record 0 on σ₀ and playing on with σ and with τ; if no Half stands in the way, playing on ends alike;
 -- and in none of the three does an instruction change another's pair.
 pub record Claim (l : Lowered) (σ₀ : Store) (i : ℕ) (σ τ : Store) : Type 0 where
-  pub accepted : (playOn l 0 σ₀).number ≡ 0
-  pub acceptedOn : (playOn l i σ).number ≡ 0
-  pub acceptedChanged : (playOn l i τ).number ≡ 0
+  pub accepted : (play_on l 0 σ₀).number ≡ 0
+  pub accepted_on : (play_on l i σ).number ≡ 0
+  pub accepted_changed : (play_on l i τ).number ≡ 0
   pub ending : (Mixing l i σ → ⊥) → EndAlike l i σ τ
   pub spared : AllSpare l 0 σ₀
-  pub sparedOn : AllSpare l i σ
-  pub sparedChanged : AllSpare l i τ
+  pub spared_on : AllSpare l i σ
+  pub spared_changed : AllSpare l i τ
 
 -- "Take any accepted sheet and play its listing, with its constants, from record 0 on any store whatever", σ₀. It stands at point i with σ;
 -- τ is σ changed at will.
 pub record Given (bytes : List ℕ) (room : ℕ) (σ₀ : Store) (i : ℕ) (σ τ : Store) : Type 0 where
   pub accepted : Accepted bytes room
   pub words : length σ₀ ≡ 1602
-  pub upper : i ≤ length (sheetOf bytes).instructions
+  pub upper : i ≤ length (sheet_of bytes).instructions
   pub stands : standing (lowered bytes room) 0 σ₀ i ≡ some σ
-  pub changed : Alike (real_at (sheetOf bytes) i) σ τ
+  pub changed : Alike (real_at (sheet_of bytes) i) σ τ
 
 -- "one claim about a whole play, for every sheet, store, point and change together"; of what the two entries do it is stated in `entries`
 abbrev pub Demand3 : Type 0

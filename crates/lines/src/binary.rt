@@ -2,7 +2,7 @@
 ghost use Rattle.std.specs.Prelude.{false, map};
 ghost use Rattle.mir.specs.Encode.{buf};
 ghost use Rattle.mir.specs.declared.records.Record.{Record};
-ghost use Rattle.lowering.specs.Lines.{plusLines, minusLines, timesLines, divideLines, complexLines, orderLines, compareLines, bitsLines, ifelseLines};
+ghost use Rattle.lowering.specs.Lines.{plus_lines, minus_lines, times_lines, divide_lines, complex_lines, order_lines, compare_lines, bits_lines, ifelse_lines};
 ghost use Rattle.lines.specs.Lists.{Lists};
 
 use super::emit::{bi, complex_bi, fused_mul_add, if_else, mov, uni};
@@ -12,7 +12,7 @@ use mir::records::Loc;
 
 // `plus`
 pub fn plus_lines(out: &mut [u8], at: usize, x: bool, y: bool, d: u8, a: u8, b: u8) -> usize
-    ensures { Lists (buf out.old at) (map Record.Work (plusLines x y d a b)) (buf out.new result) }
+    ensures { Lists (buf out.old at) (map Record.Work (plus_lines x y d a b)) (buf out.new result) }
 {
     if x {
         let at = bi(out, at, BinOp::Plus, Part::Re(d), Part::Re(a), Part::Re(b));
@@ -30,7 +30,7 @@ pub fn plus_lines(out: &mut [u8], at: usize, x: bool, y: bool, d: u8, a: u8, b: 
 
 // `minus`
 pub fn minus_lines(out: &mut [u8], at: usize, x: bool, y: bool, d: u8, a: u8, b: u8) -> usize
-    ensures { Lists (buf out.old at) (map Record.Work (minusLines x y d a b)) (buf out.new result) }
+    ensures { Lists (buf out.old at) (map Record.Work (minus_lines x y d a b)) (buf out.new result) }
 {
     if x {
         let at = bi(out, at, BinOp::Minus, Part::Re(d), Part::Re(a), Part::Re(b));
@@ -48,7 +48,7 @@ pub fn minus_lines(out: &mut [u8], at: usize, x: bool, y: bool, d: u8, a: u8, b:
 
 // `times`
 pub fn times_lines(out: &mut [u8], at: usize, x: bool, y: bool, d: u8, a: u8, b: u8) -> usize
-    ensures { Lists (buf out.old at) (map Record.Work (timesLines x y d a b)) (buf out.new result) }
+    ensures { Lists (buf out.old at) (map Record.Work (times_lines x y d a b)) (buf out.new result) }
 {
     if x {
         if y {
@@ -66,7 +66,7 @@ pub fn times_lines(out: &mut [u8], at: usize, x: bool, y: bool, d: u8, a: u8, b:
 
 // `divide`, by a complex register in plain mode
 pub fn divide_lines(out: &mut [u8], at: usize, x: bool, y: bool, d: u8, a: u8, b: u8) -> usize
-    ensures { Lists (buf out.old at) (map Record.Work (divideLines x y d a b)) (buf out.new result) }
+    ensures { Lists (buf out.old at) (map Record.Work (divide_lines x y d a b)) (buf out.new result) }
 {
     let c = Part::Re(b);
     if y {
@@ -90,7 +90,7 @@ pub fn divide_lines(out: &mut [u8], at: usize, x: bool, y: bool, d: u8, a: u8, b
 
 // `complex`: the same lines whatever is recorded
 pub fn complex_lines(out: &mut [u8], at: usize, d: u8, a: u8, b: u8) -> usize
-    ensures { Lists (buf out.old at) (map Record.Work (complexLines false false d a b)) (buf out.new result) }
+    ensures { Lists (buf out.old at) (map Record.Work (complex_lines false false d a b)) (buf out.new result) }
 {
     let at = mov(out, at, Part::Im(d), Part::Re(b));
     mov(out, at, Part::Re(d), Part::Re(a))
@@ -98,7 +98,7 @@ pub fn complex_lines(out: &mut [u8], at: usize, d: u8, a: u8, b: u8) -> usize
 
 // `gt`, `lt`: the same line whatever is recorded
 pub fn order_lines(out: &mut [u8], at: usize, op: BinOp, d: u8, a: u8, b: u8) -> usize
-    ensures { Lists (buf out.old at) (map Record.Work (orderLines op false false d a b)) (buf out.new result) }
+    ensures { Lists (buf out.old at) (map Record.Work (order_lines op false false d a b)) (buf out.new result) }
 {
     bi(out, at, op, Part::Re(d), Part::Re(a), Part::Re(b))
 }
@@ -113,7 +113,7 @@ pub fn compare_lines(
     a: u8,
     b: u8,
 ) -> usize
-    ensures { Lists (buf out.old at) (map Record.Work (compareLines op join d a b)) (buf out.new result) }
+    ensures { Lists (buf out.old at) (map Record.Work (compare_lines op join d a b)) (buf out.new result) }
 {
     let c = Part::Im(d);
     let at = bi(out, at, op, c, Part::Im(a), Part::Im(b));
@@ -133,7 +133,7 @@ pub fn bits_lines(
     a: u8,
     b: u8,
 ) -> usize
-    ensures { Lists (buf out.old at) (map Record.Work (bitsLines op x y d a b)) (buf out.new result) }
+    ensures { Lists (buf out.old at) (map Record.Work (bits_lines op x y d a b)) (buf out.new result) }
 {
     if x {
         if y {
@@ -152,7 +152,7 @@ pub fn bits_lines(
 
 // `ifelse`, behind `ensure_complex` of both
 pub fn ifelse_lines(out: &mut [u8], at: usize, d: u8, a: u8, b: u8, loc: Loc) -> usize
-    ensures { Lists (buf out.old at) (map Record.Work (ifelseLines d a b loc)) (buf out.new result) }
+    ensures { Lists (buf out.old at) (map Record.Work (ifelse_lines d a b loc)) (buf out.new result) }
 {
     let at = if_else(out, at, Part::Re(d), Part::Re(a), Part::Re(b), loc);
     if_else(out, at, Part::Im(d), Part::Im(a), Part::Im(b), loc)

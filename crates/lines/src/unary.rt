@@ -2,7 +2,7 @@
 ghost use Rattle.std.specs.Prelude.{false, map};
 ghost use Rattle.mir.specs.Encode.{buf};
 ghost use Rattle.mir.specs.declared.records.Record.{Record};
-ghost use Rattle.lowering.specs.Lines.{eachLines, absLines, abs2Lines, timesILines, timesNegILines, realRootLines, recipLines, halfLines, mindingHalfLines, realLines, imaginaryLines, conjugateLines, notLines};
+ghost use Rattle.lowering.specs.Lines.{each_lines, abs_lines, abs2_lines, timesILines, timesNegILines, real_root_lines, recip_lines, half_lines, minding_half_lines, real_lines, imaginary_lines, conjugate_lines, not_lines};
 ghost use Rattle.lines.specs.Lists.{Lists};
 
 use super::emit::{bi, fused_mul_add, mov, uni};
@@ -11,7 +11,7 @@ use mir::ops::{BinOp, UniOp};
 
 // `neg`, `sign`, `round`
 pub fn each_lines(out: &mut [u8], at: usize, op: UniOp, x: bool, d: u8, a: u8) -> usize
-    ensures { Lists (buf out.old at) (map Record.Work (eachLines op x d a)) (buf out.new result) }
+    ensures { Lists (buf out.old at) (map Record.Work (each_lines op x d a)) (buf out.new result) }
 {
     let at = uni(out, at, op, Part::Re(d), Part::Re(a));
     if x {
@@ -22,7 +22,7 @@ pub fn each_lines(out: &mut [u8], at: usize, op: UniOp, x: bool, d: u8, a: u8) -
 
 // `abs`, of a complex register in plain mode
 pub fn abs_lines(out: &mut [u8], at: usize, x: bool, d: u8, a: u8) -> usize
-    ensures { Lists (buf out.old at) (map Record.Work (absLines x d a)) (buf out.new result) }
+    ensures { Lists (buf out.old at) (map Record.Work (abs_lines x d a)) (buf out.new result) }
 {
     if x {
         return uni(out, at, UniOp::Abs, Part::Re(d), Part::Re(a));
@@ -36,7 +36,7 @@ pub fn abs_lines(out: &mut [u8], at: usize, x: bool, d: u8, a: u8) -> usize
 
 // `abs2`
 pub fn abs2_lines(out: &mut [u8], at: usize, x: bool, d: u8, a: u8) -> usize
-    ensures { Lists (buf out.old at) (map Record.Work (abs2Lines x d a)) (buf out.new result) }
+    ensures { Lists (buf out.old at) (map Record.Work (abs2_lines x d a)) (buf out.new result) }
 {
     if x {
         return bi(out, at, BinOp::Times, Part::Re(d), Part::Re(a), Part::Re(a));
@@ -75,14 +75,14 @@ pub fn times_neg_i_lines(out: &mut [u8], at: usize, x: bool, d: u8, a: u8) -> us
 
 // `real_root` of a real register
 pub fn real_root_lines(out: &mut [u8], at: usize, d: u8, a: u8) -> usize
-    ensures { Lists (buf out.old at) (map Record.Work (realRootLines d a)) (buf out.new result) }
+    ensures { Lists (buf out.old at) (map Record.Work (real_root_lines d a)) (buf out.new result) }
 {
     uni(out, at, UniOp::Root, Part::Re(d), Part::Re(a))
 }
 
 // `recip`, of a complex register in plain mode
 pub fn recip_lines(out: &mut [u8], at: usize, x: bool, d: u8, a: u8) -> usize
-    ensures { Lists (buf out.old at) (map Record.Work (recipLines x d a)) (buf out.new result) }
+    ensures { Lists (buf out.old at) (map Record.Work (recip_lines x d a)) (buf out.new result) }
 {
     if x {
         return uni(out, at, UniOp::Recip, Part::Re(d), Part::Re(a));
@@ -96,7 +96,7 @@ pub fn recip_lines(out: &mut [u8], at: usize, x: bool, d: u8, a: u8) -> usize
 
 // `half`
 pub fn half_lines(out: &mut [u8], at: usize, d: u8, a: u8) -> usize
-    ensures { Lists (buf out.old at) (map Record.Work (halfLines d a)) (buf out.new result) }
+    ensures { Lists (buf out.old at) (map Record.Work (half_lines d a)) (buf out.new result) }
 {
     let at = uni(out, at, UniOp::Half, Part::Im(d), Part::Im(a));
     uni(out, at, UniOp::Half, Part::Re(d), Part::Re(a))
@@ -104,7 +104,7 @@ pub fn half_lines(out: &mut [u8], at: usize, d: u8, a: u8) -> usize
 
 // Half in mode 2
 pub fn minding_half_lines(out: &mut [u8], at: usize, x: bool, d: u8, a: u8) -> usize
-    ensures { Lists (buf out.old at) (map Record.Work (mindingHalfLines x d a)) (buf out.new result) }
+    ensures { Lists (buf out.old at) (map Record.Work (minding_half_lines x d a)) (buf out.new result) }
 {
     if x {
         return uni(out, at, UniOp::Half, Part::Re(d), Part::Re(a));
@@ -114,7 +114,7 @@ pub fn minding_half_lines(out: &mut [u8], at: usize, x: bool, d: u8, a: u8) -> u
 
 // `real`: the same lines of a real register
 pub fn real_lines(out: &mut [u8], at: usize, d: u8, a: u8) -> usize
-    ensures { Lists (buf out.old at) (map Record.Work (realLines false d a)) (buf out.new result) }
+    ensures { Lists (buf out.old at) (map Record.Work (real_lines false d a)) (buf out.new result) }
 {
     let at = mov(out, at, Part::Re(d), Part::Re(a));
     bi(out, at, BinOp::Xor, Part::Im(d), Part::Im(d), Part::Im(d))
@@ -122,7 +122,7 @@ pub fn real_lines(out: &mut [u8], at: usize, d: u8, a: u8) -> usize
 
 // `imaginary`
 pub fn imaginary_lines(out: &mut [u8], at: usize, x: bool, d: u8, a: u8) -> usize
-    ensures { Lists (buf out.old at) (map Record.Work (imaginaryLines x d a)) (buf out.new result) }
+    ensures { Lists (buf out.old at) (map Record.Work (imaginary_lines x d a)) (buf out.new result) }
 {
     if x {
         let at = bi(out, at, BinOp::Xor, Part::Re(d), Part::Re(d), Part::Re(d));
@@ -134,7 +134,7 @@ pub fn imaginary_lines(out: &mut [u8], at: usize, x: bool, d: u8, a: u8) -> usiz
 
 // `conjugate`
 pub fn conjugate_lines(out: &mut [u8], at: usize, x: bool, d: u8, a: u8) -> usize
-    ensures { Lists (buf out.old at) (map Record.Work (conjugateLines x d a)) (buf out.new result) }
+    ensures { Lists (buf out.old at) (map Record.Work (conjugate_lines x d a)) (buf out.new result) }
 {
     let at = mov(out, at, Part::Re(d), Part::Re(a));
     if x {
@@ -146,7 +146,7 @@ pub fn conjugate_lines(out: &mut [u8], at: usize, x: bool, d: u8, a: u8) -> usiz
 
 // `not`: the same line of a real register
 pub fn not_lines(out: &mut [u8], at: usize, d: u8, a: u8) -> usize
-    ensures { Lists (buf out.old at) (map Record.Work (notLines false d a)) (buf out.new result) }
+    ensures { Lists (buf out.old at) (map Record.Work (not_lines false d a)) (buf out.new result) }
 {
     uni(out, at, UniOp::Not, Part::Re(d), Part::Re(a))
 }

@@ -4,7 +4,7 @@ ghost use Rattle.std.specs.Prelude.{◌+◌, ◌*◌, ◌≤◌, length};
 ghost use Rattle.text.specs.Puts.{Puts};
 ghost use Rattle.io.specs.Counts.{IsPrefixLen};
 ghost use Rattle.text.specs.Line.{Prints};
-ghost use Rattle.listing.specs.Printed.{refusalOf, text_of, printedFor};
+ghost use Rattle.listing.specs.Printed.{refusal_of, text_of, printed_for};
 
 mod page;
 
@@ -17,7 +17,7 @@ use text::line::Line;
 use text::lines::refused_line;
 
 fn refusal(named: bool, number: u64, index: u64) -> Line
-    ensures { Prints (refusalOf named number index) result }
+    ensures { Prints (refusal_of named number index) result }
 {
     if named {
         return refusal_line(number, index);
@@ -42,7 +42,7 @@ fn put_text(out: &mut [u8], named: bool, a: LowerAnswer, constants: &[u64], list
 // The text for a sheet, and its length.
 fn put_sheet(sheet: &[u8], named: bool, out: &mut [u8]) -> usize
     requires { 348320 ≤ length out.old }
-    ensures { Puts out.old 0 (printedFor named sheet.now) out.new result }
+    ensures { Puts out.old 0 (printed_for named sheet.now) out.new result }
 {
     let mut listing = [0u8; 65536];
     let mut constants = [0u64; 256];

@@ -1,7 +1,7 @@
 // A page of text, put line by line into lent bytes.
 ghost use Rattle.std.specs.Prelude.{◌+◌, ◌*◌, ◌≤◌, ◌≡◌, length, take};
 ghost use Rattle.records.specs.Record.{records};
-ghost use Rattle.text.specs.Text.{constantLines, recordLines, page};
+ghost use Rattle.text.specs.Text.{constant_lines, record_lines, page};
 ghost use Rattle.text.specs.Puts.{Puts};
 
 use records::reader::{NextRecord, read_record};
@@ -18,7 +18,7 @@ pub(crate) fn put_line(out: &mut [u8], at: usize, line: Line) -> usize
 
 fn put_constants(out: &mut [u8], start: usize, constants: &[u64]) -> usize
     requires { start + 80 * length constants.now ≤ length out.old }
-    ensures { Puts out.old start (constantLines 0 constants.now) out.new result }
+    ensures { Puts out.old start (constant_lines 0 constants.now) out.new result }
 {
     let mut at = start;
     let mut i: usize = 0;
@@ -50,7 +50,7 @@ fn count_records(listing: &[u8], count: usize) -> u64
 // A record's line has at most five bytes for each byte of the record.
 fn put_records(out: &mut [u8], start: usize, listing: &[u8], count: usize) -> usize
     requires { start + 5 * length listing.now ≤ length out.old }
-    ensures { Puts out.old start (recordLines (records count listing.now).items) out.new result }
+    ensures { Puts out.old start (record_lines (records count listing.now).items) out.new result }
 {
     let mut at = start;
     let mut from: usize = 0;

@@ -10,11 +10,11 @@ use borrow.Author.Tests.{ltb-true, ltb-false}
 use Rattle.mir.specs.declared.records.Record.{Record}
 use Rattle.mir.proofs.Parts.{part}
 use Rattle.mir.proofs.Decoding.{ended}
-use Rattle.records.specs.Record.{records, recordFrom}
+use Rattle.records.specs.Record.{records, record_from}
 use Rattle.player_machine.specs.Machine.{Store}
 use Rattle.player_machine.specs.Refusal.{Refusal, refusal}
 use Rattle.player_machine.specs.Step.{written, step}
-use Rattle.player_machine.specs.Look.{shown, lookAt, look}
+use Rattle.player_machine.specs.Look.{shown, look_at, look}
 use Rattle.player_machine.proofs.Stepping.{head?, at_head}
 use Rattle.player_machine.proofs.Refusing.{Accepted}
 use Rattle.player_machine.proofs.Looking.{looks, looks-not, at_none}
@@ -57,7 +57,7 @@ module _ (listing constants : List ℕ) (σ : Store) (i : ℕ) {v : Verdict} (j 
         let k = at_none rs i (omega (arith, e, all)) in
         h
         ∙ ap (λ n. unshown 0 n n) all
-        ∙ sym (ap told (looks listing constants σ i (none-refuses z) ∙ ap (lookAt constants rs i σ) k))
+        ∙ sym (ap told (looks listing constants σ i (none-refuses z) ∙ ap (look_at constants rs i σ) k))
 
     -- a record stands there
     within : (i ≡ v.index → ⊥) → v.from < length listing
@@ -66,7 +66,7 @@ module _ (listing constants : List ℕ) (σ : Store) (i : ℕ) {v : Verdict} (j 
         by : (b : Bool) → ltb v.from (length listing) ≡ b → v.from < length listing
         by true e = ltb-true v.from (length listing) e
         by false e =
-            let d = ended (recordFrom (length constants)) listing v.from (ltb-false v.from (length listing) e) in
+            let d = ended (record_from (length constants)) listing v.from (ltb-false v.from (length listing) e) in
             let g = ap length (sym ((j.from z).same (length constants) fine.sound) ∙ d.same) in
             let k = length-drop i rs in
             let m = fine.started in
@@ -101,10 +101,10 @@ module _ (listing constants : List ℕ) (σ : Store) (i : ℕ) {v : Verdict} (j 
         let x = readable (length constants) listing v.from p.here p.inside in
         let e = at_head rs i ∙ ap head? (at-index p x.rec x.is) in
         let a = g (length constants) p x.rec x.is in
-        let b = h x.rec (ap (recordFrom (length constants)) (part listing v.from) ∙ x.is) in
+        let b = h x.rec (ap (record_from (length constants)) (part listing v.from) ∙ x.is) in
         ap (answer-of v.index f) b
         ∙ (λ k. answer-of (all k) (a k) (plain (shown (written constants σ x.rec))))
-        ∙ sym (ap told (looks listing constants σ i (none-refuses z) ∙ ap (lookAt constants rs i σ) e))
+        ∙ sym (ap told (looks listing constants σ i (none-refuses z) ∙ ap (look_at constants rs i σ) e))
       where
         answer-of : ℕ → ℕ → Shown → LookAnswer
         answer-of n f w =

@@ -16,15 +16,15 @@ use Rattle.mir.specs.Read.{got}
 use Rattle.mir.proofs.IfRead.{Saved}
 use Rattle.mir.proofs.Decoding.{Bytes}
 use Rattle.words.specs.Bytes.{stored}
-use Rattle.words.proofs.Stored.{stored-whole}
-use Rattle.records.specs.Record.{recordFrom}
+use Rattle.words.proofs.Stored.{stored_whole}
+use Rattle.records.specs.Record.{record_from}
 use Rattle.records.proofs.Holding.{Holds}
 use Rattle.records.proofs.Held.{held}
 use Rattle.player_machine.specs.Machine.{Store, at, place, ◌≔◌, writes, put, exec}
 use Rattle.player_machine.specs.Draws.{fills}
 use Rattle.player_machine.specs.Step.{written}
 use Rattle.player_machine.specs.Look.{is_written, shown}
-use Rattle.player_work.specs.Encoded.{encoded, workIn, hasWork, worked}
+use Rattle.player_work.specs.Encoded.{encoded, work_in, has_work, worked}
 use Rattle.player_work.proofs.Encoding.{encoding}
 use Rattle.look.specs.declared.show.Filled.{Filled}
 use Rattle.look.specs.declared.show.Shown.{Shown}
@@ -33,17 +33,17 @@ use Rattle.look.specs.Standing.{ends, FillsOf, plain, ShownOf}
 -- ---- the bits
 
 -- what is read of the words that are filled
-abbrev pub readOut : Store → Filled → Shown
-readOut τ f =
+abbrev pub out_read : Store → Filled → Shown
+out_read τ f =
     cond (eqb f.first f.last) (plain (f.last ≔ at τ f.last ∷ []))
     (plain (f.first ≔ at τ f.first ∷ f.last ≔ at τ f.last ∷ []))
 
 module _ (σ : Store) where
-  one-shown : (i v : ℕ) → i < length σ → readOut (set σ i v) (record { first = i; last = i }) ≡ plain (i ≔ v ∷ [])
+  one-shown : (i v : ℕ) → i < length σ → out_read (set σ i v) (record { first = i; last = i }) ≡ plain (i ≔ v ∷ [])
   one-shown i v h = simp (eq-eqb i i refl) (ap (λ b. plain (i ≔ b ∷ [])) (get_or-set_same σ i v 0 h))
 
   two-shown : (i v j u : ℕ) → i < length σ → j < length σ
-      → readOut (set (set σ i v) j u) (record { first = i; last = j }) ≡ plain (shown (i ≔ v ∷ j ≔ u ∷ []))
+      → out_read (set (set σ i v) j u) (record { first = i; last = j }) ≡ plain (shown (i ≔ v ∷ j ≔ u ∷ []))
   unfolding shown is_written
   two-shown i v j u h k = by (eqb i j) refl
     where
@@ -76,7 +76,7 @@ module _ (σ : Store) where
     saves-second p h = let g = saves p h in omega (arith, g)
 
     read_out : (constants : List ℕ) (count : ℕ) (w : Work) → Holds count (Record.Work w)
-        → readOut (exec constants w σ) (ends (fills w)) ≡ plain (shown (writes constants σ w))
+        → out_read (exec constants w σ) (ends (fills w)) ≡ plain (shown (writes constants σ w))
     unfolding exec put writes shown is_written
     read_out constants count (Work.Uni op dst s1) h = one-shown dst _ (register h.1)
     read_out constants count (Work.Bi op dst s1 s2) h = one-shown dst _ (register h.1)
@@ -95,34 +95,34 @@ module _ (σ : Store) where
 
 -- the copy is the store, and what the work makes of it
 pub record Copied (constants s : List ℕ) (σ : Store) (b : Bool) (τ : Store) : Type 0 where
-  pub went : b ≡ hasWork (encoded s)
+  pub went : b ≡ has_work (encoded s)
   pub after : τ ≡ worked constants (encoded s) σ
 
 pub copied : (constants s l : List ℕ) {σ κ τ : Store} {b : Bool} → length σ ≡ length l → κ ≡ stored l 0 σ
-    → (b ≡ hasWork (encoded s)) × (τ ≡ worked constants (encoded s) κ) → Copied constants s σ b τ
+    → (b ≡ has_work (encoded s)) × (τ ≡ worked constants (encoded s) κ) → Copied constants s σ b τ
 copied constants s l {σ} h e x =
-    record { went = x.0; after = x.1 ∙ ap (worked constants (encoded s)) (e ∙ stored-whole l σ h) }
+    record { went = x.0; after = x.1 ∙ ap (worked constants (encoded s)) (e ∙ stored_whole l σ h) }
 
 module _ {constants s : List ℕ} {σ τ : Store} {b : Bool} (c : Copied constants s σ b τ) where
   pub shows-none : {r : Shown} → b ≡ false → r ≡ record { count = 0; index1 = 0; bits1 = 0; index2 = 0; bits2 = 0 } → ShownOf constants s σ r
   unfolding written shown
   shows-none z h (Record.Work w) e =
-      absurd (true≢false (ap hasWork (sym (encoding (length constants) s (Record.Work w) e)) ∙ sym c.went ∙ z))
+      absurd (true≢false (ap has_work (sym (encoding (length constants) s (Record.Work w) e)) ∙ sym c.went ∙ z))
   shows-none z h (Record.Label l) e = h
   shows-none z h (Record.Branch l) e = h
   shows-none z h (Record.Call l) e = h
   shows-none z h (Record.BranchIf x l y) e = h
 
-  gone : (x : Record) → recordFrom (length constants) s ≡ got x → workIn x ≡ none → b ≡ true → ⊥
-  gone x e q t = true≢false (sym t ∙ c.went ∙ ap hasWork (encoding (length constants) s x e ∙ q))
+  gone : (x : Record) → record_from (length constants) s ≡ got x → work_in x ≡ none → b ≡ true → ⊥
+  gone x e q t = true≢false (sym t ∙ c.went ∙ ap has_work (encoding (length constants) s x e ∙ q))
 
-  pub shows : {r : Shown} {f : Filled} → length σ ≡ 1602 → Bytes s → b ≡ true → FillsOf (encoded s) f → r ≡ readOut τ f → ShownOf constants s σ r
+  pub shows : {r : Shown} {f : Filled} → length σ ≡ 1602 → Bytes s → b ≡ true → FillsOf (encoded s) f → r ≡ out_read τ f → ShownOf constants s σ r
   unfolding written
   shows {r} {f} long bytes t g h (Record.Work w) e =
       let n = encoding (length constants) s (Record.Work w) e in
       h
-      ∙ ap (λ τ. readOut τ f) (c.after ∙ ap (λ o. worked constants o σ) n)
-      ∙ ap (readOut (exec constants w σ)) (g w n)
+      ∙ ap (λ τ. out_read τ f) (c.after ∙ ap (λ o. worked constants o σ) n)
+      ∙ ap (out_read (exec constants w σ)) (g w n)
       ∙ read_out σ long constants (length constants) w (held (length constants) s (Record.Work w) bytes e)
   shows long bytes t g h (Record.Label l) e = absurd (gone (Record.Label l) e refl t)
   shows long bytes t g h (Record.Branch l) e = absurd (gone (Record.Branch l) e refl t)

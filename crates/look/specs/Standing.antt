@@ -4,7 +4,7 @@ use Rattle.std.proofs.Math.Option.{Option, none, some}
 use Rattle.mir.specs.declared.records.Work.{Work}
 use Rattle.mir.specs.declared.records.Record.{Record}
 use Rattle.mir.specs.Read.{got}
-use Rattle.records.specs.Record.{recordFrom}
+use Rattle.records.specs.Record.{record_from}
 use Rattle.player_machine.specs.Machine.{Store, Write}
 use Rattle.player_machine.specs.Draws.{fills}
 use Rattle.player_machine.specs.Step.{before, follows, written}
@@ -36,7 +36,7 @@ pub record BeforeLabel (s : List ℕ) (at l r : ℕ) : Type 0 where
 -- the record r follows the one at a position, outside a call
 abbrev pub FollowsAt : List ℕ → Store → ℕ → ℕ → ℕ → ℕ → Type 0
 FollowsAt s σ at i all r =
-    (count : ℕ) → Standing count s at i all → (rec : Record) → recordFrom count (drop at s) ≡ got rec
+    (count : ℕ) → Standing count s at i all → (rec : Record) → record_from count (drop at s) ≡ got rec
     → r ≡ named (left count s 0) (follows (left count s 0) (record { at = i; back = none; store = σ }) rec)
 
 -- ---- the words
@@ -58,4 +58,4 @@ plain ws =
 -- what is shown of the record that bytes begin with
 abbrev pub ShownOf : List ℕ → List ℕ → Store → Shown → Type 0
 ShownOf constants s σ r =
-    (rec : Record) → recordFrom (length constants) s ≡ got rec → r ≡ plain (shown (written constants σ rec))
+    (rec : Record) → record_from (length constants) s ≡ got rec → r ≡ plain (shown (written constants σ rec))

@@ -3,7 +3,7 @@ ghost use Rattle.std.specs.Prelude.{◌≡◌};
 ghost use Rattle.words.specs.Bytes.{bytes_of, words_of, stored};
 ghost use Rattle.player_machine.specs.Look as Machine;
 ghost use Rattle.look.specs.Numbers.{told};
-ghost use Rattle.look.specs.Call.{lookCall, numbers};
+ghost use Rattle.look.specs.Call.{look_call, numbers};
 
 use super::{LookAnswer, look, unshown};
 use words::{load, save};
@@ -56,7 +56,7 @@ pub extern "C" fn tulipcricket_look_unguarded(
     start: u64,
     answer: &mut [u8],
 ) -> u32
-    ensures { record { number = result; answer = answer.new } ≡ lookCall listing.now constants.now store.now start answer.old }
+    ensures { record { number = result; answer = answer.new } ≡ look_call listing.now constants.now store.now start answer.old }
 {
     if answer.len() != 64 {
         return 8;

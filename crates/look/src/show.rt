@@ -1,6 +1,6 @@
 // The words that a record would write: it is played on a copy of the store, and what it fills is read there.
 ghost use Rattle.std.specs.Prelude.{◌≡◌, length};
-ghost use Rattle.player_work.specs.Encoded.{saveEncoded, saveComplexEncoded, encoded};
+ghost use Rattle.player_work.specs.Encoded.{save_encoded, save_complex_encoded, encoded};
 ghost use Rattle.look.specs.Standing.{FillsOf, ShownOf};
 
 use mir::fields::{Place, byte, read_place, u16_at};
@@ -40,7 +40,7 @@ fn two(i: usize, j: usize) -> Filled
 
 // What a Save fills.
 fn save_fills(s: &[u8]) -> Filled
-    ensures { FillsOf (saveEncoded s.now) result }
+    ensures { FillsOf (save_encoded s.now) result }
 {
     match read_place(s, 5) {
         Place::At(loc) => one(place(loc)),
@@ -50,7 +50,7 @@ fn save_fills(s: &[u8]) -> Filled
 
 // What a SaveComplex fills.
 fn save_complex_fills(s: &[u8]) -> Filled
-    ensures { FillsOf (saveComplexEncoded s.now) result }
+    ensures { FillsOf (save_complex_encoded s.now) result }
 {
     match read_place(s, 6) {
         Place::At(loc) => {

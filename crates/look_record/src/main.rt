@@ -4,7 +4,7 @@ ghost use Rattle.std.proofs.Math.ListN.{get_elem?};
 ghost use Rattle.records.specs.Record.{records};
 ghost use Rattle.text.specs.Line.{Prints};
 ghost use Rattle.text.specs.Puts.{Puts};
-ghost use Rattle.look_record.specs.Looks.{recordPart, wordPart, nextLine, lookText, printed};
+ghost use Rattle.look_record.specs.Looks.{record_part, word_part, next_line, look_text, printed};
 
 use files::start::start_of;
 use look::call::tulipcricket_look_unguarded;
@@ -17,7 +17,7 @@ use words::word_at;
 
 // The line of the record with an index.
 fn record_part(listing: &[u8], count: usize, start: u64) -> Line
-    ensures { Prints (recordPart (get_elem? (records count listing.now).items start)) result }
+    ensures { Prints (record_part (get_elem? (records count listing.now).items start)) result }
 {
     let mut at: usize = 0;
     let mut left = start;
@@ -37,7 +37,7 @@ fn record_part(listing: &[u8], count: usize, start: u64) -> Line
 
 // The line of a word that is shown.
 fn word_part(n: u64, k: u64, index: u64, bits: u64) -> Line
-    ensures { Prints (wordPart n k index bits) result }
+    ensures { Prints (word_part n k index bits) result }
 {
     if k < n {
         return word_line(index, bits);
@@ -47,7 +47,7 @@ fn word_part(n: u64, k: u64, index: u64, bits: u64) -> Line
 
 // The line of the record that follows.
 fn next_line(follows: u64, count: u64) -> Line
-    ensures { Prints (nextLine follows count) result }
+    ensures { Prints (next_line follows count) result }
 {
     if follows == count {
         return empty_line().text(b"end\n");
@@ -58,7 +58,7 @@ fn next_line(follows: u64, count: u64) -> Line
 // The text for an answer.
 fn put_look(out: &mut [u8], listing: &[u8], count: usize, start: u64, answer: &[u8]) -> usize
     requires { 320 ≤ length out.old }
-    ensures { Puts out.old 0 (lookText listing.now count start answer.now) out.new result }
+    ensures { Puts out.old 0 (look_text listing.now count start answer.now) out.new result }
 {
     let number = word_at(answer, 0);
     let index = word_at(answer, 8);

@@ -13,66 +13,66 @@ use Rattle.text.specs.Text.{ascii, decimal, space, register, name_of, line}
 use Rattle.words.specs.Bytes.{word_at}
 use Rattle.text.specs.declared.line.Line.{Line}
 use Rattle.text.specs.Line.{Prints}
-use Rattle.text.specs.Puts.{lineText}
-use Rattle.text.proofs.Short.{name-short}
+use Rattle.text.specs.Puts.{line_text}
+use Rattle.text.proofs.Short.{name_short}
 use Rattle.reports.proofs.Brief.{number_short}
-use Rattle.lower_sheet.specs.Lowers.{answerLine, markedNames, orNothing, drawnLine, answerText, untidyWords}
+use Rattle.lower_sheet.specs.Lowers.{answer_line, marked_names, or_nothing, drawn_line, answer_text, untidy_words}
 
 -- one mark more, and none left
 module _ (marks : List ℕ) (i : ℕ) where
   pub names-on : i < length marks
-      → markedNames i (drop i marks) ≡ cond (eqb (get_or marks i 0) 0) [] (space (register i)) ++ markedNames (i + 1) (drop (i + 1) marks)
-  unfolding markedNames
+      → marked_names i (drop i marks) ≡ cond (eqb (get_or marks i 0) 0) [] (space (register i)) ++ marked_names (i + 1) (drop (i + 1) marks)
+  unfolding marked_names
   names-on h =
-      ap (markedNames i) (drop-cons marks i 0 h)
-      ∙ ap (λ k. cond (eqb (get_or marks i 0) 0) [] (space (register i)) ++ markedNames k (drop k marks)) (sym (add-one i))
+      ap (marked_names i) (drop-cons marks i 0 h)
+      ∙ ap (λ k. cond (eqb (get_or marks i 0) 0) [] (space (register i)) ++ marked_names k (drop k marks)) (sym (add-one i))
 
-  pub names-end : length marks ≤ i → markedNames i (drop i marks) ≡ []
-  unfolding markedNames
-  names-end h = ap (markedNames i) (drop_of_length-le marks h)
+  pub names-end : length marks ≤ i → marked_names i (drop i marks) ≡ []
+  unfolding marked_names
+  names-end h = ap (marked_names i) (drop_of_length-le marks h)
 
 -- the whole line, with no name and with some
-nothing_said : (names : List ℕ) → length names ≡ 0 → (ascii "draws on" ++ names) ++ ascii " nothing\n" ≡ line (ascii "draws on" ++ orNothing names)
+nothing_said : (names : List ℕ) → length names ≡ 0 → (ascii "draws on" ++ names) ++ ascii " nothing\n" ≡ line (ascii "draws on" ++ or_nothing names)
 unfolding ascii
 nothing_said [] h = refl
 nothing_said (b ∷ names) h = absurd (omega (arith, h))
 
-names-said : (names : List ℕ) → (length names ≡ 0 → ⊥) → (ascii "draws on" ++ names) ++ 10 ∷ [] ≡ line (ascii "draws on" ++ orNothing names)
+names_said : (names : List ℕ) → (length names ≡ 0 → ⊥) → (ascii "draws on" ++ names) ++ 10 ∷ [] ≡ line (ascii "draws on" ++ or_nothing names)
 unfolding ascii
-names-said [] h = absurd (h refl)
-names-said (b ∷ names) h = refl
+names_said [] h = absurd (h refl)
+names_said (b ∷ names) h = refl
 
-module _ (marks : List ℕ) {from to : ℕ} (e : to ≡ from + length (markedNames 0 marks)) where
-  pub with_nothing : to ≡ from → (ascii "draws on" ++ markedNames 0 marks) ++ ascii " nothing\n" ≡ drawnLine marks
-  unfolding drawnLine
-  with_nothing h = nothing_said (markedNames 0 marks) (omega (arith, e, h))
+module _ (marks : List ℕ) {from to : ℕ} (e : to ≡ from + length (marked_names 0 marks)) where
+  pub with_nothing : to ≡ from → (ascii "draws on" ++ marked_names 0 marks) ++ ascii " nothing\n" ≡ drawn_line marks
+  unfolding drawn_line
+  with_nothing h = nothing_said (marked_names 0 marks) (omega (arith, e, h))
 
-  pub with-names : (to ≡ from → ⊥) → (ascii "draws on" ++ markedNames 0 marks) ++ 10 ∷ [] ≡ drawnLine marks
-  unfolding drawnLine
-  with-names h = names-said (markedNames 0 marks) (λ z. h (omega (arith, e, z)))
+  pub with-names : (to ≡ from → ⊥) → (ascii "draws on" ++ marked_names 0 marks) ++ 10 ∷ [] ≡ drawn_line marks
+  unfolding drawn_line
+  with-names h = names_said (marked_names 0 marks) (λ z. h (omega (arith, e, z)))
 
 -- by the answer's number
 module _ (answer : List ℕ) {n : ℕ} (e : n ≡ word_at answer 0) where
-  pub setup-wrong : n ≡ 8 → answerLine answer ≡ answerText answer
-  unfolding answerText
+  pub setup-wrong : n ≡ 8 → answer_line answer ≡ answer_text answer
+  unfolding answer_text
   setup-wrong h = sym (simp (eq-eqb (word_at answer 0) 8 (sym e ∙ h)))
 
-  pub setup-right : (n ≡ 8 → ⊥) → answerLine answer ++ drawnLine (take 66 (drop 194 answer)) ≡ answerText answer
-  unfolding answerText
+  pub setup-right : (n ≡ 8 → ⊥) → answer_line answer ++ drawn_line (take 66 (drop 194 answer)) ≡ answer_text answer
+  unfolding answer_text
   setup-right h = sym (simp (ne_eqb (word_at answer 0) 8 (λ k. h (e ∙ k))))
 
 -- the line that tells whether a sheet is tidy is not cut
-pub tidy-short : length (line (ascii "tidy: each saved word is the formula's value, each operation rounded once")) ≤ 80
+pub tidy_short : length (line (ascii "tidy: each saved word is the formula's value, each operation rounded once")) ≤ 80
 unfolding ascii
-tidy-short = lit≤ tt
+tidy_short = lit≤ tt
 
-pub untidy-short : (index test : ℕ) → length (line (ascii "tidy: not instruction" ++ space (decimal index) ++ ascii ": " ++ name_of untidyWords test)) ≤ 80
+pub untidy_short : (index test : ℕ) → length (line (ascii "tidy: not instruction" ++ space (decimal index) ++ ascii ": " ++ name_of untidy_words test)) ≤ 80
 unfolding ascii
-untidy-short index test =
+untidy_short index test =
     let d = number_short index in
-    let w = name-short 34 untidyWords tt test in
+    let w = name_short 34 untidy_words tt test in
     simp length-append (omega (arith, d, w))
 
 -- a line's text is what it prints
-pub said : {text : List ℕ} {l : Line} → Prints text l → lineText l ≡ text
+pub said : {text : List ℕ} {l : Line} → Prints text l → line_text l ≡ text
 said {text} {l} p = ap (λ n. take n l.bytes) p.whole.count ∙ p.whole.bytes

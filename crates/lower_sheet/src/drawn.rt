@@ -3,7 +3,7 @@ ghost use Rattle.std.specs.Prelude.{◌+◌, ◌*◌, ◌≤◌, cond, [], eqb, 
 ghost use Rattle.text.specs.Line.{Prints};
 ghost use Rattle.text.specs.Puts.{Puts};
 ghost use Rattle.text.specs.Text.{space, register};
-ghost use Rattle.lower_sheet.specs.Lowers.{markedNames, drawnLine};
+ghost use Rattle.lower_sheet.specs.Lowers.{marked_names, drawn_line};
 
 use text::line::{Line, empty_line};
 use text::put::{put, put_line};
@@ -22,7 +22,7 @@ fn name_or_none(mark: u8, i: u8) -> Line
 fn put_names(out: &mut [u8], start: usize, marks: &[u8]) -> usize
     requires marks_len_bound { length marks.now ≤ 66 }
     requires marks_in_bounds { start + 80 * length marks.now ≤ length out.old }
-    ensures { (Puts out.old start (markedNames 0 marks.now) out.new result) × (result ≤ start + 80 * length marks.now) }
+    ensures { (Puts out.old start (marked_names 0 marks.now) out.new result) × (result ≤ start + 80 * length marks.now) }
 {
     let mut at = start;
     let mut i: u8 = 0;
@@ -39,7 +39,7 @@ fn put_names(out: &mut [u8], start: usize, marks: &[u8]) -> usize
 pub(crate) fn put_drawn(out: &mut [u8], start: usize, marks: &[u8]) -> usize
     requires marks_len_bound { length marks.now ≤ 66 }
     requires start_in_bounds { start + 6000 ≤ length out.old }
-    ensures { Puts out.old start (drawnLine marks.now) out.new result }
+    ensures { Puts out.old start (drawn_line marks.now) out.new result }
 {
     let from = put(out, start, b"draws on");
     let to = put_names(out, from, marks);

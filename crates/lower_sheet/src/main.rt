@@ -3,8 +3,8 @@
 ghost use Rattle.std.specs.Prelude.{◌≤◌, ◌≡◌, length};
 ghost use Rattle.text.specs.Line.{Prints};
 ghost use Rattle.text.specs.Puts.{Puts};
-ghost use Rattle.interface.specs.Calls.{lowerCall};
-ghost use Rattle.lower_sheet.specs.Lowers.{answerLine, answerText, Lowers};
+ghost use Rattle.interface.specs.Calls.{lower_call};
+ghost use Rattle.lower_sheet.specs.Lowers.{answer_line, answer_text, Lowers};
 
 mod drawn;
 mod told;
@@ -19,7 +19,7 @@ use words::word_at;
 
 // The line for an answer of lowering.
 fn answer_line(answer: &[u8]) -> Line
-    ensures { Prints (answerLine answer.now) result }
+    ensures { Prints (answer_line answer.now) result }
 {
     lowered_line(
         word_at(answer, 0),
@@ -33,7 +33,7 @@ fn answer_line(answer: &[u8]) -> Line
 fn put_answer(out: &mut [u8], answer: &[u8]) -> usize
     requires in_bounds { 8192 ≤ length out.old }
     requires answer_len { length answer.now ≡ 260 }
-    ensures { Puts out.old 0 (answerText answer.now) out.new result }
+    ensures { Puts out.old 0 (answer_text answer.now) out.new result }
 {
     let at = put_line(out, 0, answer_line(answer));
     if word_at(answer, 0) == 8 {
@@ -53,7 +53,7 @@ fn lower_bytes(
 ) -> usize
     requires in_bounds { 8192 ≤ length out.old }
     requires answer_len { length answer.old ≡ 260 }
-    ensures { Lowers (lowerCall sheet.now listing.old constants.old origins.old answer.old) out.old listing.new constants.new origins.new answer.new out.new result }
+    ensures { Lowers (lower_call sheet.now listing.old constants.old origins.old answer.old) out.old listing.new constants.new origins.new answer.new out.new result }
 {
     tulipcricket_lower_unguarded(sheet, listing, constants, origins, answer);
     put_answer(out, answer)

@@ -3,7 +3,7 @@ ghost use Rattle.std.specs.Prelude.{◌≡◌};
 ghost use Rattle.mir.specs.Encode.{buf, placed};
 ghost use Rattle.text.specs.Line.{Prints};
 ghost use Rattle.tidy.specs.First as First;
-ghost use Rattle.lower_sheet.specs.Lowers.{tidyLine};
+ghost use Rattle.lower_sheet.specs.Lowers.{tidy_line};
 
 use text::line::{Line, empty_line};
 use text::put::put_line;
@@ -11,7 +11,7 @@ use tidy::entry::tidy;
 
 // By the index of the first instruction that is not tidy, and the number of the test that it fails; 0: each is tidy.
 fn tidy_line(index: u64, test: u64) -> Line
-    ensures { Prints (tidyLine index test) result }
+    ensures { Prints (tidy_line index test) result }
 {
     if test == 0 {
         return empty_line().text(
@@ -32,7 +32,7 @@ fn tidy_line(index: u64, test: u64) -> Line
 
 // Puts the line of an accepted sheet from a position on. Where there is no room nothing changes.
 pub(crate) fn put_tidy(out: &mut [u8], at: usize, sheet: &[u8]) -> usize
-    ensures { buf out.new result ≡ placed (buf out.old at) (tidyLine (First.tidy sheet.now).index (First.tidy sheet.now).test) }
+    ensures { buf out.new result ≡ placed (buf out.old at) (tidy_line (First.tidy sheet.now).index (First.tidy sheet.now).test) }
 {
     let t = tidy(sheet);
     put_line(out, at, tidy_line(t.index as u64, t.test as u64))

@@ -10,7 +10,7 @@ use lib.ListN.{length, get_or, set, get_or-eq_default}
 use lib.Seq.{set-get_or, set_out}
 use lib.Pow.{pow_pos}
 use lib.Dec.{eqb}
-use Rattle.lowering.specs.Realness.{byte_of, bit_at, clearAt}
+use Rattle.lowering.specs.Realness.{byte_of, bit_at, clear_at}
 
 -- the table's rule
 pub powers : (k : ℕ) → k < 8 → get_or (1 ∷ 2 ∷ 4 ∷ 8 ∷ 16 ∷ 32 ∷ 64 ∷ 128 ∷ []) k 0 ≡ 2 ^ k
@@ -35,10 +35,10 @@ module _ (l : List ℕ) (i : ℕ) where
   pub bit : (p : ℕ) → p ≡ 2 ^ (i % 8) → eqb (byte_of l i / p % 2) 1 ≡ bit_at l i
   bit p e = ap (λ p. eqb (byte_of l i / p % 2) 1) e
 
-  pub cleared : (p : ℕ) → p ≡ 2 ^ (i % 8) → byte_of l i / p % 2 ≡ 1 → set l (i / 8) (byte_of l i - p) ≡ clearAt l i
+  pub cleared : (p : ℕ) → p ≡ 2 ^ (i % 8) → byte_of l i / p % 2 ≡ 1 → set l (i / 8) (byte_of l i - p) ≡ clear_at l i
   cleared p e h = simp (← e, eq-eqb _ _ h)
 
-  pub kept : (p : ℕ) → p ≡ 2 ^ (i % 8) → (byte_of l i / p % 2 ≡ 1 → ⊥) → l ≡ clearAt l i
+  pub kept : (p : ℕ) → p ≡ 2 ^ (i % 8) → (byte_of l i / p % 2 ≡ 1 → ⊥) → l ≡ clear_at l i
   kept p e h = sym (simp (← e, ne_eqb _ _ h) (set-get_or l (i / 8) 0))
 
   past : length l ≤ i / 8 → byte_of l i ≡ 0
@@ -47,5 +47,5 @@ module _ (l : List ℕ) (i : ℕ) where
   pub no-bit : length l ≤ i / 8 → false ≡ bit_at l i
   no-bit h = sym (simp (past h, zero-div))
 
-  pub outside : length l ≤ i / 8 → l ≡ clearAt l i
+  pub outside : length l ≤ i / 8 → l ≡ clear_at l i
   outside h = sym (set_out l (i / 8) _ h)

@@ -7,19 +7,19 @@ use Rattle.mir.specs.declared.records.Work.{Work}
 use Rattle.mir.specs.declared.records.Record.{Record}
 use Rattle.mir.specs.Register.{re, Ret, Temp}
 use Rattle.sheet.specs.declared.setup.Mode.{Mode}
-use Rattle.sheet.specs.Setup.{isMinding}
+use Rattle.sheet.specs.Setup.{is_minding}
 use Rattle.lowering.specs.declared.realness.Realness.{Realness}
-use Rattle.lowering.specs.Realness.{real, complex, isRealReg, isRealLoc, setReg, setLocComplex}
+use Rattle.lowering.specs.Realness.{real, complex, is_real_reg, is_real_loc, set_reg, set_loc_complex}
 use Rattle.lowering.specs.Pushes as mir
-use Rattle.lowering.specs.Lines.{ensureLines, stableDivideLines, stableRecipLines, stableAbsLines, stableRootMagnitude, fmovLines}
-use Rattle.lowering.specs.Lines.{loadLines, saveLines, eachLines, absLines, abs2Lines, timesILines, timesNegILines, plainRootMagnitude}
-use Rattle.lowering.specs.Lines.{rootBlock, realRootLines, recipLines, halfLines, mindingHalfLines, plusLines, minusLines, timesLines, divideLines}
-use Rattle.lowering.specs.Lines.{realLines, imaginaryLines, conjugateLines, complexLines, orderLines, compareLines, bitsLines, notLines, ifelseLines}
+use Rattle.lowering.specs.Lines.{ensure_lines, stable_divide_lines, stable_recip_lines, stable_abs_lines, stable_root_magnitude, fmov_lines}
+use Rattle.lowering.specs.Lines.{load_lines, save_lines, each_lines, abs_lines, abs2_lines, timesILines, timesNegILines, plain_root_magnitude}
+use Rattle.lowering.specs.Lines.{root_block, real_root_lines, recip_lines, half_lines, minding_half_lines, plus_lines, minus_lines, times_lines, divide_lines}
+use Rattle.lowering.specs.Lines.{real_lines, imaginary_lines, conjugate_lines, complex_lines, order_lines, compare_lines, bits_lines, not_lines, ifelse_lines}
 
 -- the fields of `Complexifier` that change: `real_regs` with `real_locs`, `root_defined`, and the constants of its `mir`
 pub record State : Type 0 where
   pub real : Realness
-  pub rootDefined : Bool
+  pub is_root_defined : Bool
   pub consts : List ℕ
 
 -- what a method lists, and the state that it leaves
@@ -28,8 +28,8 @@ pub record Out : Type 0 where
   pub after : State
 
 -- the state with another record of realness
-abbrev pub withReal : State → Realness → State
-withReal s ρ = record { real = ρ; rootDefined = s.rootDefined; consts = s.consts }
+abbrev pub with_real : State → Realness → State
+with_real s ρ = record { real = ρ; is_root_defined = s.is_root_defined; consts = s.consts }
 
 -- two methods one after the other
 unfoldable pub then : Out → (State → Out) → Out
@@ -43,52 +43,52 @@ unlisted s = record { records = []; after = s }
 unfoldable pub directed : Record → State → Out
 directed r s = record { records = r ∷ []; after = s }
 
-abbrev pub setLabel : ℕ → State → Out
-setLabel l s = directed (Record.Label l) s
+abbrev pub set_label : ℕ → State → Out
+set_label l s = directed (Record.Label l) s
 
 abbrev pub branch : ℕ → State → Out
 branch l s = directed (Record.Branch l) s
 
-abbrev pub branchIf : ℕ → ℕ → Bool → State → Out
-branchIf c l e s = directed (Record.BranchIf (re c) l e) s
+abbrev pub branch_if : ℕ → ℕ → Bool → State → Out
+branch_if c l e s = directed (Record.BranchIf (re c) l e) s
 
 -- lines listed, and register d recorded as real or complex
 unfoldable pub emit : State → List Work → ℕ → Bool → Out
-emit s lines d f = record { records = map Record.Work lines; after = withReal s (setReg s.real d f) }
+emit s lines d f = record { records = map Record.Work lines; after = with_real s (set_reg s.real d f) }
 
 -- lines by the realness of one or of two operands, and what is then recorded for d by the same
-unfoldable pub byOne : (Bool → ℕ → ℕ → List Work) → (Bool → Bool) → ℕ → ℕ → State → Out
+unfoldable pub one_by_one : (Bool → ℕ → ℕ → List Work) → (Bool → Bool) → ℕ → ℕ → State → Out
 unfolding emit
-byOne lines recorded d a s = emit s (lines (isRealReg s.real a) d a) d (recorded (isRealReg s.real a))
+one_by_one lines recorded d a s = emit s (lines (is_real_reg s.real a) d a) d (recorded (is_real_reg s.real a))
 
-unfoldable pub byTwo : (Bool → Bool → ℕ → ℕ → ℕ → List Work) → (Bool → Bool → Bool) → ℕ → ℕ → ℕ → State → Out
+unfoldable pub by_two : (Bool → Bool → ℕ → ℕ → ℕ → List Work) → (Bool → Bool → Bool) → ℕ → ℕ → ℕ → State → Out
 unfolding emit
-byTwo lines recorded d a b s =
-    emit s (lines (isRealReg s.real a) (isRealReg s.real b) d a b) d (recorded (isRealReg s.real a) (isRealReg s.real b))
+by_two lines recorded d a b s =
+    emit s (lines (is_real_reg s.real a) (is_real_reg s.real b) d a b) d (recorded (is_real_reg s.real a) (is_real_reg s.real b))
 
 -- `copy_real`, `set_reg_real`, `set_reg_complex` by the operand; `promote_real`, and the same two, by both operands
 abbrev pub copied : Bool → Bool
 copied x = x
 
-abbrev pub asReal : Bool → Bool
-asReal x = real
+abbrev pub as_real : Bool → Bool
+as_real x = real
 
-abbrev pub asComplex : Bool → Bool
-asComplex x = complex
+abbrev pub as_complex : Bool → Bool
+as_complex x = complex
 
 abbrev pub promoted : Bool → Bool → Bool
 promoted x y = x && y
 
-abbrev pub bothAsReal : Bool → Bool → Bool
-bothAsReal x y = real
+abbrev pub both_as_real : Bool → Bool → Bool
+both_as_real x y = real
 
-abbrev pub bothAsComplex : Bool → Bool → Bool
-bothAsComplex x y = complex
+abbrev pub both_as_complex : Bool → Bool → Bool
+both_as_complex x y = complex
 
 -- `ensure_complex`
-unfoldable pub ensureComplex : ℕ → State → Out
-unfolding emit ensureLines
-ensureComplex d s = emit s (ensureLines (isRealReg s.real d) d) d complex
+unfoldable pub ensure_complex : ℕ → State → Out
+unfolding emit ensure_lines
+ensure_complex d s = emit s (ensure_lines (is_real_reg s.real d) d) d complex
 
 -- ---- stable_math
 
@@ -103,9 +103,9 @@ appends v consts = not (ltb (position v consts) (length consts))
 
 -- `stable_const`: "Constants added by stable mode are appended unless equal bits stand earlier": the constants then, where v stands at
 -- `position v`
-unfoldable pub stableConst : ℕ → List ℕ → List ℕ
+unfoldable pub stable_const : ℕ → List ℕ → List ℕ
 unfolding position
-stableConst v consts = cond (appends v consts) (consts ++ v ∷ []) consts
+stable_const v consts = cond (appends v consts) (consts ++ v ∷ []) consts
 
 -- f64::MIN_POSITIVE, f64::INFINITY and 0.25
 abbrev pub MIN_POSITIVE : ℕ
@@ -125,215 +125,215 @@ abbrev pub FLOOR_FINITE : ℕ
 FLOOR_FINITE = 0x0020_0000_0000_0000
 
 -- three constants sought one after the other: the constants after each
-abbrev pub withConsts : State → List ℕ → State
-withConsts s k = record { real = s.real; rootDefined = s.rootDefined; consts = k }
+abbrev pub with_consts : State → List ℕ → State
+with_consts s k = record { real = s.real; is_root_defined = s.is_root_defined; consts = k }
 
-abbrev pub threeConsts : ℕ → ℕ → ℕ → List ℕ → List ℕ
-threeConsts u v w k = stableConst w (stableConst v (stableConst u k))
+abbrev pub three_consts : ℕ → ℕ → ℕ → List ℕ → List ℕ
+three_consts u v w k = stable_const w (stable_const v (stable_const u k))
 
 -- lines that name three constants, each sought after the one before it
-abbrev pub threeLines : {A : Type 0} → ℕ → ℕ → ℕ → (ℕ → ℕ → ℕ → A) → List ℕ → A
-threeLines u v w lines k =
-    let k1 = stableConst u k in
-    let k2 = stableConst v k1 in
-    let k3 = stableConst w k2 in
+abbrev pub three_lines : {A : Type 0} → ℕ → ℕ → ℕ → (ℕ → ℕ → ℕ → A) → List ℕ → A
+three_lines u v w lines k =
+    let k1 = stable_const u k in
+    let k2 = stable_const v k1 in
+    let k3 = stable_const w k2 in
     lines (position u k1) (position v k2) (position w k3)
 
-unfoldable pub withThree : ℕ → ℕ → ℕ → (ℕ → ℕ → ℕ → List Work) → ℕ → State → Out
-unfolding emit stableConst
-withThree u v w lines d s =
-    emit (withConsts s (threeConsts u v w s.consts)) (threeLines u v w lines s.consts) d complex
+unfoldable pub with_three : ℕ → ℕ → ℕ → (ℕ → ℕ → ℕ → List Work) → ℕ → State → Out
+unfolding emit stable_const
+with_three u v w lines d s =
+    emit (with_consts s (three_consts u v w s.consts)) (three_lines u v w lines s.consts) d complex
 
 -- `stable_divide`, `stable_recip`, and `stable_abs` with the record that `abs` leaves; x: a is recorded as real
-unfoldable pub stableDivide : Bool → ℕ → ℕ → ℕ → State → Out
-unfolding withThree stableDivideLines
-stableDivide x d a b s = withThree MIN_POSITIVE INFINITY QUARTER (stableDivideLines (ltb d 30) x d a b) d s
+unfoldable pub stable_divide : Bool → ℕ → ℕ → ℕ → State → Out
+unfolding with_three stable_divide_lines
+stable_divide x d a b s = with_three MIN_POSITIVE INFINITY QUARTER (stable_divide_lines (ltb d 30) x d a b) d s
 
-unfoldable pub stableRecip : ℕ → ℕ → State → Out
-unfolding withThree stableRecipLines
-stableRecip d a s = withThree MIN_POSITIVE INFINITY QUARTER (stableRecipLines d a) d s
+unfoldable pub stable_recip : ℕ → ℕ → State → Out
+unfolding with_three stable_recip_lines
+stable_recip d a s = with_three MIN_POSITIVE INFINITY QUARTER (stable_recip_lines d a) d s
 
-unfoldable pub stableAbs : ℕ → ℕ → State → Out
-unfolding withThree stableAbsLines
-stableAbs d a s = withThree FLOOR_FINITE EXP_MASK_FINITE INFINITY (stableAbsLines d a) d s
+unfoldable pub stable_abs : ℕ → ℕ → State → Out
+unfolding with_three stable_abs_lines
+stable_abs d a s = with_three FLOOR_FINITE EXP_MASK_FINITE INFINITY (stable_abs_lines d a) d s
 
 -- ---- impl Generator
 
 -- `fmov`
 unfoldable pub fmov : ℕ → ℕ → State → Out
-unfolding byOne fmovLines
-fmov d a s = byOne fmovLines copied d a s
+unfolding one_by_one fmov_lines
+fmov d a s = one_by_one fmov_lines copied d a s
 
 -- ---- mode 2 (document 02, n): what it lists and records otherwise than mode 1; the Rust has no such mode
 
--- "Half lists its imaginary line only for a register recorded as complex, and for either record copies it to the destination"
-unfoldable pub mindingHalf : ℕ → ℕ → State → Out
-unfolding byOne mindingHalfLines
-mindingHalf d a s = byOne mindingHalfLines copied d a s
+-- "Half lists its imaginary line only for a register recorded as complex, and for Either record copies it to the destination"
+unfoldable pub minding_half : ℕ → ℕ → State → Out
+unfolding one_by_one minding_half_lines
+minding_half d a s = one_by_one minding_half_lines copied d a s
 
 -- "a Divide by a complex register into Temp is listed as one into Ret followed by a move to Temp [..]; the record of Ret is then complex",
 -- by whether d is Temp; x: a is recorded as real
-unfoldable pub mindingDivide : Bool → Bool → ℕ → ℕ → ℕ → State → Out
-unfolding then stableDivide fmov
-mindingDivide true x d a b s = then (stableDivide x Ret a b s) (fmov Temp Ret)
-mindingDivide false x d a b s = stableDivide x d a b s
+unfoldable pub minding_divide : Bool → Bool → ℕ → ℕ → ℕ → State → Out
+unfolding then stable_divide fmov
+minding_divide true x d a b s = then (stable_divide x Ret a b s) (fmov Temp Ret)
+minding_divide false x d a b s = stable_divide x d a b s
 
 -- ---- impl Generator, continued
 
 -- `load_const`
-unfoldable pub loadConst : ℕ → ℕ → State → Out
+unfoldable pub load_const : ℕ → ℕ → State → Out
 unfolding emit
-loadConst d idx s = emit s (mir.loadConst (re d) idx ∷ []) d real
+load_const d idx s = emit s (mir.load_const (re d) idx ∷ []) d real
 
 -- `load_mem`, `load_param`, `load_stack`
-unfoldable pub loadFrom : ℕ → Loc → State → Out
-unfolding emit loadLines isRealLoc
-loadFrom d p s = emit s (loadLines (isRealLoc s.real.places p) d p) d (isRealLoc s.real.places p)
+unfoldable pub load_from : ℕ → Loc → State → Out
+unfolding emit load_lines is_real_loc
+load_from d p s = emit s (load_lines (is_real_loc s.real.places p) d p) d (is_real_loc s.real.places p)
 
 -- `save_mem`, `save_stack`: only a Stack place is recorded, and so removed
-abbrev pub savedReal : Loc → Realness → Realness
-savedReal (Loc.Stack i) ρ = setLocComplex ρ (Loc.Stack i)
-savedReal (Loc.Mem i) ρ = ρ
-savedReal (Loc.Param i) ρ = ρ
+abbrev pub saved_realness : Loc → Realness → Realness
+saved_realness (Loc.Stack i) ρ = set_loc_complex ρ (Loc.Stack i)
+saved_realness (Loc.Mem i) ρ = ρ
+saved_realness (Loc.Param i) ρ = ρ
 
-unfoldable pub saveTo : ℕ → Loc → State → Out
-unfolding then ensureComplex saveLines
-saveTo a p s =
-    then (ensureComplex a s)
-    (λ s. record { records = map Record.Work (saveLines a p); after = withReal s (savedReal p s.real) })
+unfoldable pub save_to : ℕ → Loc → State → Out
+unfolding then ensure_complex save_lines
+save_to a p s =
+    then (ensure_complex a s)
+    (λ s. record { records = map Record.Work (save_lines a p); after = with_real s (saved_realness p s.real) })
 
 -- `abs`, by mode (true: stable) and by the realness of a: "Abs of a complex register yields a complex record"
-unfoldable pub absBy : Bool → Bool → ℕ → ℕ → State → Out
-unfolding emit absLines stableAbs
-absBy stable true d a s = emit s (absLines true d a) d real
-absBy true false d a s = stableAbs d a s
-absBy false false d a s = emit s (absLines false d a) d complex
+unfoldable pub abs_by : Bool → Bool → ℕ → ℕ → State → Out
+unfolding emit abs_lines stable_abs
+abs_by stable true d a s = emit s (abs_lines true d a) d real
+abs_by true false d a s = stable_abs d a s
+abs_by false false d a s = emit s (abs_lines false d a) d complex
 
 unfoldable pub abs : Bool → ℕ → ℕ → State → Out
-unfolding absBy
-abs stable d a s = absBy stable (isRealReg s.real a) d a s
+unfolding abs_by
+abs stable d a s = abs_by stable (is_real_reg s.real a) d a s
 
 -- `call_funclet("@complex_root")`
-unfoldable pub callRoot : State → Out
-callRoot s = record { records = Record.Call 1 ∷ []; after = withReal s (setReg s.real Ret complex) }
+unfoldable pub call_root : State → Out
+call_root s = record { records = Record.Call 1 ∷ []; after = with_real s (set_reg s.real Ret complex) }
 
 -- the block of `root` between its labels: Branch 2, Label 1, the block, Branch 0, Label 2
-abbrev pub aroundBlock : List Work → List Record
-aroundBlock block = Record.Branch 2 ∷ Record.Label 1 ∷ (map Record.Work block ++ Record.Branch 0 ∷ Record.Label 2 ∷ [])
+abbrev pub around_block : List Work → List Record
+around_block block = Record.Branch 2 ∷ Record.Label 1 ∷ (map Record.Work block ++ Record.Branch 0 ∷ Record.Label 2 ∷ [])
 
 -- the block by mode, and the constants with those that it names
 unfoldable pub block_of : Bool → List ℕ → List Work
-unfolding rootBlock stableRootMagnitude plainRootMagnitude stableConst
-block_of true k = rootBlock (threeLines FLOOR_FINITE EXP_MASK_FINITE INFINITY stableRootMagnitude k)
-block_of false k = rootBlock plainRootMagnitude
+unfolding root_block stable_root_magnitude plain_root_magnitude stable_const
+block_of true k = root_block (three_lines FLOOR_FINITE EXP_MASK_FINITE INFINITY stable_root_magnitude k)
+block_of false k = root_block plain_root_magnitude
 
-unfoldable pub blockConsts : Bool → List ℕ → List ℕ
-unfolding stableConst
-blockConsts true k = threeConsts FLOOR_FINITE EXP_MASK_FINITE INFINITY k
-blockConsts false k = k
+unfoldable pub block_consts : Bool → List ℕ → List ℕ
+unfolding stable_const
+block_consts true k = three_consts FLOOR_FINITE EXP_MASK_FINITE INFINITY k
+block_consts false k = k
 
 -- "The first Root, or RealRoot of a complex register, appends the root block after its call and moves; later ones only call it." The
 -- block's `ret` begins with `ensure_complex` of Ret, which here lists nothing and records nothing: the call recorded Ret as complex, and
 -- the move of it to the destination, be that Ret itself, left it so.
-unfoldable pub defineRoot : Bool → Bool → State → Out
-unfolding block_of blockConsts unlisted
-defineRoot true stable s = unlisted s
-defineRoot false stable s =
+unfoldable pub define_root : Bool → Bool → State → Out
+unfolding block_of block_consts unlisted
+define_root true stable s = unlisted s
+define_root false stable s =
     record {
-      records = aroundBlock (block_of stable s.consts);
-      after = record { real = s.real; rootDefined = true; consts = blockConsts stable s.consts };
+      records = around_block (block_of stable s.consts);
+      after = record { real = s.real; is_root_defined = true; consts = block_consts stable s.consts };
     }
 
 -- `root`
 unfoldable pub root : Bool → ℕ → ℕ → State → Out
-unfolding then ensureComplex fmov callRoot defineRoot
+unfolding then ensure_complex fmov call_root define_root
 root stable d a s =
-    then (then (then (then (ensureComplex a s) (fmov Temp a)) callRoot) (fmov d Ret)) (λ s. defineRoot s.rootDefined stable s)
+    then (then (then (then (ensure_complex a s) (fmov Temp a)) call_root) (fmov d Ret)) (λ s. define_root s.is_root_defined stable s)
 
 -- `real_root`, by the realness of a
-unfoldable pub realRootBy : Bool → Bool → ℕ → ℕ → State → Out
-unfolding emit realRootLines root
-realRootBy stable true d a s = emit s (realRootLines d a) d real
-realRootBy stable false d a s = root stable d a s
+unfoldable pub real_root_by : Bool → Bool → ℕ → ℕ → State → Out
+unfolding emit real_root_lines root
+real_root_by stable true d a s = emit s (real_root_lines d a) d real
+real_root_by stable false d a s = root stable d a s
 
-unfoldable pub realRoot : Bool → ℕ → ℕ → State → Out
-unfolding realRootBy
-realRoot stable d a s = realRootBy stable (isRealReg s.real a) d a s
+unfoldable pub real_root : Bool → ℕ → ℕ → State → Out
+unfolding real_root_by
+real_root stable d a s = real_root_by stable (is_real_reg s.real a) d a s
 
 -- `recip`, by mode and by the realness of a
-unfoldable pub recipBy : Bool → Bool → ℕ → ℕ → State → Out
-unfolding emit recipLines stableRecip
-recipBy stable true d a s = emit s (recipLines true d a) d real
-recipBy true false d a s = stableRecip d a s
-recipBy false false d a s = emit s (recipLines false d a) d complex
+unfoldable pub recip_by : Bool → Bool → ℕ → ℕ → State → Out
+unfolding emit recip_lines stable_recip
+recip_by stable true d a s = emit s (recip_lines true d a) d real
+recip_by true false d a s = stable_recip d a s
+recip_by false false d a s = emit s (recip_lines false d a) d complex
 
 unfoldable pub recip : Bool → ℕ → ℕ → State → Out
-unfolding recipBy
-recip stable d a s = recipBy stable (isRealReg s.real a) d a s
+unfolding recip_by
+recip stable d a s = recip_by stable (is_real_reg s.real a) d a s
 
 -- `half`, by whether it is mode 2; in the Rust's modes "Half never changes a record"
-unfoldable pub halfBy : Bool → ℕ → ℕ → State → Out
-unfolding halfLines mindingHalf
-halfBy false d a s = record { records = map Record.Work (halfLines d a); after = s }
-halfBy true d a s = mindingHalf d a s
+unfoldable pub half_by : Bool → ℕ → ℕ → State → Out
+unfolding half_lines minding_half
+half_by false d a s = record { records = map Record.Work (half_lines d a); after = s }
+half_by true d a s = minding_half d a s
 
 unfoldable pub half : Mode → ℕ → ℕ → State → Out
-unfolding halfBy
-half mode d a s = halfBy (isMinding mode) d a s
+unfolding half_by
+half mode d a s = half_by (is_minding mode) d a s
 
 -- `plus`, `minus`, `times`
 unfoldable pub plus : ℕ → ℕ → ℕ → State → Out
-unfolding byTwo plusLines
-plus d a b s = byTwo plusLines promoted d a b s
+unfolding by_two plus_lines
+plus d a b s = by_two plus_lines promoted d a b s
 
 unfoldable pub minus : ℕ → ℕ → ℕ → State → Out
-unfolding byTwo minusLines
-minus d a b s = byTwo minusLines promoted d a b s
+unfolding by_two minus_lines
+minus d a b s = by_two minus_lines promoted d a b s
 
 unfoldable pub times : ℕ → ℕ → ℕ → State → Out
-unfolding byTwo timesLines
-times d a b s = byTwo timesLines promoted d a b s
+unfolding by_two times_lines
+times d a b s = by_two times_lines promoted d a b s
 
 -- `divide`, by mode and by the realness of a and b
-unfoldable pub divideBy : Mode → Bool → Bool → ℕ → ℕ → ℕ → State → Out
-unfolding emit divideLines stableDivide mindingDivide
-divideBy mode x true d a b s = emit s (divideLines x true d a b) d x
-divideBy Mode.Minding x false d a b s = mindingDivide (eqb d Temp) x d a b s
-divideBy Mode.Stable x false d a b s = stableDivide x d a b s
-divideBy Mode.Plain x false d a b s = emit s (divideLines x false d a b) d complex
+unfoldable pub divide_by : Mode → Bool → Bool → ℕ → ℕ → ℕ → State → Out
+unfolding emit divide_lines stable_divide minding_divide
+divide_by mode x true d a b s = emit s (divide_lines x true d a b) d x
+divide_by Mode.Minding x false d a b s = minding_divide (eqb d Temp) x d a b s
+divide_by Mode.Stable x false d a b s = stable_divide x d a b s
+divide_by Mode.Plain x false d a b s = emit s (divide_lines x false d a b) d complex
 
 unfoldable pub divide : Mode → ℕ → ℕ → ℕ → State → Out
-unfolding divideBy
-divide mode d a b s = divideBy mode (isRealReg s.real a) (isRealReg s.real b) d a b s
+unfolding divide_by
+divide mode d a b s = divide_by mode (is_real_reg s.real a) (is_real_reg s.real b) d a b s
 
 -- `eq`, `neq`, by the comparison and what joins the halves
 unfoldable pub compare : BinOp → BinOp → ℕ → ℕ → ℕ → State → Out
-unfolding then ensureComplex emit compareLines
-compare op join d a b s = then (then (ensureComplex a s) (ensureComplex b)) (λ s. emit s (compareLines op join d a b) d real)
+unfolding then ensure_complex emit compare_lines
+compare op join d a b s = then (then (ensure_complex a s) (ensure_complex b)) (λ s. emit s (compare_lines op join d a b) d real)
 
 -- `and`, `or`, `xor`
 unfoldable pub bits : BinOp → ℕ → ℕ → ℕ → State → Out
-unfolding byTwo bitsLines
-bits op d a b s = byTwo (bitsLines op) promoted d a b s
+unfolding by_two bits_lines
+bits op d a b s = by_two (bits_lines op) promoted d a b s
 
 -- `fused_mul_add`, `fused_mul_sub`, `fused_neg_mul_add`, `fused_neg_mul_sub`
-unfoldable pub fusedMulAdd : ℕ → ℕ → ℕ → ℕ → State → Out
+unfoldable pub fused_mul_add : ℕ → ℕ → ℕ → ℕ → State → Out
 unfolding then times plus
-fusedMulAdd d a b c s = then (times Ret a b s) (plus d Ret c)
+fused_mul_add d a b c s = then (times Ret a b s) (plus d Ret c)
 
-unfoldable pub fusedMulSub : ℕ → ℕ → ℕ → ℕ → State → Out
+unfoldable pub fused_mul_sub : ℕ → ℕ → ℕ → ℕ → State → Out
 unfolding then times minus
-fusedMulSub d a b c s = then (times Ret a b s) (minus d Ret c)
+fused_mul_sub d a b c s = then (times Ret a b s) (minus d Ret c)
 
-unfoldable pub fusedNegMulAdd : ℕ → ℕ → ℕ → ℕ → State → Out
+unfoldable pub fused_neg_mul_add : ℕ → ℕ → ℕ → ℕ → State → Out
 unfolding then times minus
-fusedNegMulAdd d a b c s = then (times Ret a b s) (minus d c Ret)
+fused_neg_mul_add d a b c s = then (times Ret a b s) (minus d c Ret)
 
-unfoldable pub fusedNegMulSub : ℕ → ℕ → ℕ → ℕ → State → Out
-unfolding then times plus byOne eachLines
-fusedNegMulSub d a b c s = then (then (times Ret a b s) (plus d Ret c)) (byOne (eachLines UniOp.Neg) copied d d)
+unfoldable pub fused_neg_mul_sub : ℕ → ℕ → ℕ → ℕ → State → Out
+unfolding then times plus one_by_one each_lines
+fused_neg_mul_sub d a b c s = then (then (times Ret a b s) (plus d Ret c)) (one_by_one (each_lines UniOp.Neg) copied d d)
 
 -- `ifelse`
 unfoldable pub ifelse : ℕ → ℕ → ℕ → Loc → State → Out
-unfolding then ensureComplex emit ifelseLines
-ifelse d a b p s = then (then (ensureComplex a s) (ensureComplex b)) (λ s. emit s (ifelseLines d a b p) d complex)
+unfolding then ensure_complex emit ifelse_lines
+ifelse d a b p s = then (then (ensure_complex a s) (ensure_complex b)) (λ s. emit s (ifelse_lines d a b p) d complex)

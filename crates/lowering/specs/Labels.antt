@@ -5,7 +5,7 @@ use Rattle.std.proofs.Math.Option.{Option, none, some}
 use Rattle.mir.specs.declared.records.Instruction.{Instruction}
 use Rattle.mir.specs.Length.{length_of}
 use Rattle.mir.specs.Read.{Read, got, refuse}
-use Rattle.mir.specs.Field.{byte_at, u16At, takesKind}
+use Rattle.mir.specs.Field.{byte_at, u16_at, takes_kind}
 use Rattle.mir.specs.Decode.{decoded}
 use Rattle.lowering.specs.declared.realness.Realness.{Realness}
 
@@ -42,35 +42,35 @@ pub record Standing : Type 0 where
   pub branches : List Sent
 
 -- before the first instruction
-abbrev pub noneStanding : Standing
-noneStanding = record { labels = []; branches = [] }
+abbrev pub none_standing : Standing
+none_standing = record { labels = []; branches = [] }
 
 -- ---- looking ahead
 
 -- A record by its length: "Looking ahead for a label stops at the first torn record", one that earns 1. What is seen of it is the label,
 -- where it is a Label.
-unfoldable pub labelSeen : List ℕ → Read (Option ℕ)
-unfolding u16At takesKind length_of
-labelSeen s =
+unfoldable pub label_seen : List ℕ → Read (Option ℕ)
+unfolding u16_at takes_kind length_of
+label_seen s =
     refuse (ltb (length s) 4) 1
-    (refuse (ltb (u16At s 0) 4) 1
-    (refuse (ltb (length s) (u16At s 0)) 1
-    (refuse (takesKind false (u16At s 2) && not (eqb (length_of (u16At s 2)) (u16At s 0))) 1
-    (got (cond (eqb (u16At s 2) 14) (some (byte_at s 4)) none)))))
+    (refuse (ltb (u16_at s 0) 4) 1
+    (refuse (ltb (length s) (u16_at s 0)) 1
+    (refuse (takes_kind false (u16_at s 2) && not (eqb (length_of (u16_at s 2)) (u16_at s 0))) 1
+    (got (cond (eqb (u16_at s 2) 14) (some (byte_at s 4)) none)))))
 
 -- is Label l seen there, and in any of several records?
 abbrev pub sees : ℕ → Option ℕ → Bool
 sees l none = false
 sees l (some m) = eqb m l
 
-abbrev pub anySees : ℕ → List (Option ℕ) → Bool
-anySees l [] = false
-anySees l (o ∷ os) = sees l o || anySees l os
+abbrev pub any_sees : ℕ → List (Option ℕ) → Bool
+any_sees l [] = false
+any_sees l (o ∷ os) = sees l o || any_sees l os
 
 -- does Label l stand in the sheet's bytes behind an instruction?
 unfoldable pub later : ℕ → List ℕ → Bool
-unfolding labelSeen decoded
-later l behind = anySees l (decoded labelSeen behind).items
+unfolding label_seen decoded
+later l behind = any_sees l (decoded label_seen behind).items
 
 -- does it stand before?
 abbrev pub stands : ℕ → List ℕ → Bool
@@ -93,30 +93,30 @@ misplaced (branches l) b behind = astray l b behind
 -- ---- 11
 
 -- equal flags, equal bytes
-abbrev pub sameFlag : Bool → Bool → Bool
-sameFlag true g = g
-sameFlag false g = not g
+abbrev pub flag_same : Bool → Bool → Bool
+flag_same true g = g
+flag_same false g = not g
 
-abbrev pub sameFlags : List Bool → List Bool → Bool
-sameFlags [] [] = true
-sameFlags [] (g ∷ gs) = false
-sameFlags (f ∷ fs) [] = false
-sameFlags (f ∷ fs) (g ∷ gs) = sameFlag f g && sameFlags fs gs
+abbrev pub flags_same : List Bool → List Bool → Bool
+flags_same [] [] = true
+flags_same [] (g ∷ gs) = false
+flags_same (f ∷ fs) [] = false
+flags_same (f ∷ fs) (g ∷ gs) = flag_same f g && flags_same fs gs
 
-abbrev pub sameBytes : List ℕ → List ℕ → Bool
-sameBytes [] [] = true
-sameBytes [] (y ∷ ys) = false
-sameBytes (x ∷ xs) [] = false
-sameBytes (x ∷ xs) (y ∷ ys) = eqb x y && sameBytes xs ys
+abbrev pub bytes_same : List ℕ → List ℕ → Bool
+bytes_same [] [] = true
+bytes_same [] (y ∷ ys) = false
+bytes_same (x ∷ xs) [] = false
+bytes_same (x ∷ xs) (y ∷ ys) = eqb x y && bytes_same xs ys
 
 -- "the records of all registers and places" are equal
-abbrev pub sameRecords : Realness → Realness → Bool
-sameRecords ρ ρ' = sameFlags ρ.regs ρ'.regs && sameBytes ρ.places ρ'.places
+abbrev pub same_records : Realness → Realness → Bool
+same_records ρ ρ' = flags_same ρ.regs ρ'.regs && bytes_same ρ.places ρ'.places
 
 -- a branch to l at which they are not
 abbrev pub differs : ℕ → Realness → List Sent → Bool
 differs l ρ [] = false
-differs l ρ (x ∷ xs) = eqb x.label l && not (sameRecords x.real ρ) || differs l ρ xs
+differs l ρ (x ∷ xs) = eqb x.label l && not (same_records x.real ρ) || differs l ρ xs
 
 -- 11 "for unequal records, given at the label": "At each label, the records of all registers and places must equal those at every branch to
 -- it"

@@ -55,8 +55,8 @@ xor dst s1 s2 = Work.Bi BinOp.Xor dst s1 s2
 abbrev pub fmov : ℕ → ℕ → Work
 fmov dst s1 = Work.Mov dst s1
 
-abbrev pub loadConst : ℕ → ℕ → Work
-loadConst dst idx = Work.LoadConst dst idx
+abbrev pub load_const : ℕ → ℕ → Work
+load_const dst idx = Work.LoadConst dst idx
 
 abbrev pub load : ℕ → Loc → Work
 load dst p = Work.Load dst p
@@ -64,26 +64,26 @@ load dst p = Work.Load dst p
 abbrev pub save : ℕ → Loc → Work
 save src p = Work.Save src p
 
-abbrev pub loadComplex : ℕ → ℕ → Loc → Work
-loadComplex xd yd p = Work.LoadComplex xd yd p
+abbrev pub load_complex : ℕ → ℕ → Loc → Work
+load_complex xd yd p = Work.LoadComplex xd yd p
 
-abbrev pub saveComplex : ℕ → ℕ → Loc → Work
-saveComplex xs ys p = Work.SaveComplex xs ys p
+abbrev pub save_complex : ℕ → ℕ → Loc → Work
+save_complex xs ys p = Work.SaveComplex xs ys p
 
-abbrev pub fusedMulAdd : ℕ → ℕ → ℕ → ℕ → Work
-fusedMulAdd dst a b c = Work.Fused FusedOp.MulAdd dst a b c
+abbrev pub fused_mul_add : ℕ → ℕ → ℕ → ℕ → Work
+fused_mul_add dst a b c = Work.Fused FusedOp.MulAdd dst a b c
 
 abbrev pub ifelse : ℕ → ℕ → ℕ → Loc → Work
 ifelse dst t f p = Work.IfElse dst t f p
 
-abbrev pub plusComplex : ℕ → ℕ → ℕ → ℕ → ℕ → ℕ → Work
-plusComplex xd yd x1 y1 x2 y2 = Work.ComplexBi ArithOp.Plus xd yd x1 y1 x2 y2
+abbrev pub plus_complex : ℕ → ℕ → ℕ → ℕ → ℕ → ℕ → Work
+plus_complex xd yd x1 y1 x2 y2 = Work.ComplexBi ArithOp.Plus xd yd x1 y1 x2 y2
 
-abbrev pub minusComplex : ℕ → ℕ → ℕ → ℕ → ℕ → ℕ → Work
-minusComplex xd yd x1 y1 x2 y2 = Work.ComplexBi ArithOp.Minus xd yd x1 y1 x2 y2
+abbrev pub minus_complex : ℕ → ℕ → ℕ → ℕ → ℕ → ℕ → Work
+minus_complex xd yd x1 y1 x2 y2 = Work.ComplexBi ArithOp.Minus xd yd x1 y1 x2 y2
 
-abbrev pub timesComplex : ℕ → ℕ → ℕ → ℕ → ℕ → ℕ → Work
-timesComplex xd yd x1 y1 x2 y2 = Work.ComplexBi ArithOp.Times xd yd x1 y1 x2 y2
+abbrev pub times_complex : ℕ → ℕ → ℕ → ℕ → ℕ → ℕ → Work
+times_complex xd yd x1 y1 x2 y2 = Work.ComplexBi ArithOp.Times xd yd x1 y1 x2 y2
 
-abbrev pub divideComplex : ℕ → ℕ → ℕ → ℕ → ℕ → ℕ → Work
-divideComplex xd yd x1 y1 x2 y2 = Work.ComplexBi ArithOp.Divide xd yd x1 y1 x2 y2
+abbrev pub divide_complex : ℕ → ℕ → ℕ → ℕ → ℕ → ℕ → Work
+divide_complex xd yd x1 y1 x2 y2 = Work.ComplexBi ArithOp.Divide xd yd x1 y1 x2 y2

@@ -1,8 +1,8 @@
 // A record of realness as bytes.
 ghost use Rattle.std.specs.Prelude.{◌≡◌, map};
 ghost use Rattle.words.specs.Bytes.{stored};
-ghost use Rattle.mir.specs.Encode.{flagByte};
-ghost use Rattle.lowering.specs.RecordBytes.{recordBytes};
+ghost use Rattle.mir.specs.Encode.{flag_byte};
+ghost use Rattle.lowering.specs.RecordBytes.{record_bytes};
 
 use crate::realness::Realness;
 use mir::writer::flag_byte;
@@ -10,7 +10,7 @@ use words::put_bytes;
 
 // Flags as bytes, 1 where one is set, stored from at on, where they fit.
 pub fn put_flags(out: &mut [u8], at: usize, flags: &[bool])
-    ensures { out.new ≡ stored out.old at (map flagByte flags.now) }
+    ensures { out.new ≡ stored out.old at (map flag_byte flags.now) }
 {
     if out.len() < flags.len() {
         return;
@@ -27,7 +27,7 @@ pub fn put_flags(out: &mut [u8], at: usize, flags: &[bool])
 
 // The registers' flags, then the places.
 pub fn record_bytes(real: Realness) -> [u8; 96]
-    ensures { result ≡ recordBytes real }
+    ensures { result ≡ record_bytes real }
 {
     let mut bytes = [0u8; 96];
     let regs = real.regs;

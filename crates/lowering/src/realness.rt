@@ -36,7 +36,7 @@ pub fn bit_at(places: [u8; 64], i: usize) -> bool
 
 // The bytes with that bit cleared.
 pub fn clear_at(mut places: [u8; 64], i: usize) -> [u8; 64]
-    ensures { result ≡ Spec.clearAt places i }
+    ensures { result ≡ Spec.clear_at places i }
 {
     let at = i / 8;
     if at < 64 {
@@ -67,14 +67,14 @@ impl Realness {
     }
 
     pub fn is_real_reg(self, r: u8) -> bool
-        ensures { result ≡ Spec.isRealReg self r }
+        ensures { result ≡ Spec.is_real_reg self r }
     {
         let i = r as usize;
         if i < 32 { self.regs[i] } else { false }
     }
 
     pub fn is_real_loc(self, loc: Loc) -> bool
-        ensures { result ≡ Spec.isRealLoc self.places loc }
+        ensures { result ≡ Spec.is_real_loc self.places loc }
     {
         let places = self.places;
         match loc {
@@ -86,7 +86,7 @@ impl Realness {
 
     // A register recorded as real, or as complex.
     pub fn set_reg(mut self, r: u8, real: bool) -> Realness
-        ensures { result ≡ Spec.setReg self r real }
+        ensures { result ≡ Spec.set_reg self r real }
     {
         let i = r as usize;
         if i < 32 {
@@ -96,26 +96,26 @@ impl Realness {
     }
 
     pub fn set_reg_real(mut self, dst: u8) -> Realness
-        ensures { result ≡ Spec.setRegReal self dst }
+        ensures { result ≡ Spec.set_reg_real self dst }
     {
         self.set_reg(dst, true)
     }
 
     pub fn set_reg_complex(mut self, dst: u8) -> Realness
-        ensures { result ≡ Spec.setRegComplex self dst }
+        ensures { result ≡ Spec.set_reg_complex self dst }
     {
         self.set_reg(dst, false)
     }
 
     pub fn copy_real(mut self, dst: u8, s1: u8) -> Realness
-        ensures { result ≡ Spec.copyReal self dst s1 }
+        ensures { result ≡ Spec.copy_real self dst s1 }
     {
         let x = self.is_real_reg(s1);
         self.set_reg(dst, x)
     }
 
     pub fn promote_real(mut self, dst: u8, s1: u8, s2: u8) -> Realness
-        ensures { result ≡ Spec.promoteReal self dst s1 s2 }
+        ensures { result ≡ Spec.promote_real self dst s1 s2 }
     {
         let x = self.is_real_reg(s1);
         let y = self.is_real_reg(s2);
@@ -123,7 +123,7 @@ impl Realness {
     }
 
     pub fn set_loc_complex(mut self, loc: Loc) -> Realness
-        ensures { result ≡ Spec.setLocComplex self loc }
+        ensures { result ≡ Spec.set_loc_complex self loc }
     {
         let places = self.places;
         match loc {

@@ -9,11 +9,11 @@ use Rattle.player_machine.specs.Draws.{draws, fills}
 use Rattle.marks.specs.Marks.{Set, among, Marking, start, working, through}
 
 -- what a row draws on before filling it, and fills, from nothing
-abbrev pub blockDrawn : List Work → Set
-blockDrawn ws = (through ws start).drawn
+abbrev pub block_drawn : List Work → Set
+block_drawn ws = (through ws start).drawn
 
-abbrev pub blockFilled : List Work → Set
-blockFilled ws = (through ws start).filled
+abbrev pub block_filled : List Work → Set
+block_filled ws = (through ws start).filled
 
 filled_on : (f a g : Bool) → ((f || a) || g) ≡ (f || (a || g))
 filled_on true a g = refl
@@ -32,24 +32,24 @@ drawn-on false false false false true = refl
 drawn-on false false true g false = refl
 drawn-on false false false g false = refl
 
-none-r : (a : Bool) → a ≡ (a || false)
-none-r true = refl
-none-r false = refl
+none_r : (a : Bool) → a ≡ (a || false)
+none_r true = refl
+none_r false = refl
 
-all-r : (a : Bool) → (a && true) ≡ a
-all-r true = refl
-all-r false = refl
+all_r : (a : Bool) → (a && true) ≡ a
+all_r true = refl
+all_r false = refl
 
-pub through-filled : (ws : List Work) (s : Marking) (i : ℕ) → (through ws s).filled i ≡ (s.filled i || blockFilled ws i)
-through-filled [] s i = none-r (s.filled i)
-through-filled (w ∷ ws) s i =
-    through-filled ws (working w s) i ∙ filled_on (s.filled i) (among (fills w) i) (blockFilled ws i)
-    ∙ ap (λ (x : Bool). s.filled i || x) (sym (through-filled ws (working w start) i))
+pub through_filled : (ws : List Work) (s : Marking) (i : ℕ) → (through ws s).filled i ≡ (s.filled i || block_filled ws i)
+through_filled [] s i = none_r (s.filled i)
+through_filled (w ∷ ws) s i =
+    through_filled ws (working w s) i ∙ filled_on (s.filled i) (among (fills w) i) (block_filled ws i)
+    ∙ ap (λ (x : Bool). s.filled i || x) (sym (through_filled ws (working w start) i))
 
-pub through-drawn : (ws : List Work) (s : Marking) (i : ℕ) → (through ws s).drawn i ≡ (s.drawn i || (blockDrawn ws i && not (s.filled i)))
-through-drawn [] s i = none-r (s.drawn i)
-through-drawn (w ∷ ws) s i =
-    through-drawn ws (working w s) i
-    ∙ drawn-on (s.drawn i) (among (draws w) i) (s.filled i) (among (fills w) i) (blockDrawn ws i)
+pub through_drawn : (ws : List Work) (s : Marking) (i : ℕ) → (through ws s).drawn i ≡ (s.drawn i || (block_drawn ws i && not (s.filled i)))
+through_drawn [] s i = none_r (s.drawn i)
+through_drawn (w ∷ ws) s i =
+    through_drawn ws (working w s) i
+    ∙ drawn-on (s.drawn i) (among (draws w) i) (s.filled i) (among (fills w) i) (block_drawn ws i)
     ∙ ap (λ (x : Bool). s.drawn i || (x && not (s.filled i)))
-    (sym (through-drawn ws (working w start) i ∙ ap (λ (x : Bool). x || (blockDrawn ws i && not (among (fills w) i))) (all-r (among (draws w) i))))
+    (sym (through_drawn ws (working w start) i ∙ ap (λ (x : Bool). x || (block_drawn ws i && not (among (fills w) i))) (all_r (among (draws w) i))))

@@ -12,12 +12,12 @@ use Rattle.player_machine.specs.Machine.{Store, at, exec, execs, branches, Way, 
 use Rattle.player_machine.specs.Draws.{draws, fills}
 use Rattle.mir.proofs.Tables.{and_left, and_right}
 use Rattle.player_machine.proofs.Agreeing.{Agree, weaken, or_cases, or_l, or_r}
-use Rattle.marks.specs.Marks.{Set, among, join, Marking, drawOn, working, through, enter, branch, way, step, scan}
+use Rattle.marks.specs.Marks.{Set, among, join, Marking, draw_on, working, through, enter, branch, way, step, scan}
 use Rattle.marks.proofs.Stores.{exec_agree}
-use Rattle.marks.proofs.Growing.{through-more, scan-more, noted-own, step-ways}
+use Rattle.marks.proofs.Growing.{through_more, scan_more, noted_own, step_ways}
 
 module _ (D : ℕ → Type 0) where
-  -- what is filled, or given from drawnOn
+  -- what is filled, or given from drawn_on
   pub data Known (F : Set) (i : ℕ) : Type 0 where
     held : T (F i) → Known F i
     given : D i → Known F i
@@ -33,7 +33,7 @@ module _ (D : ℕ → Type 0) where
       go i (given d) = given d
 
   -- what is drawn on is filled or marked
-  drawn-known : (is : List ℕ) (s : Marking) → Below (drawOn is s).drawn → (i : ℕ) → T (among is i) → Known s.filled i
+  drawn-known : (is : List ℕ) (s : Marking) → Below (draw_on is s).drawn → (i : ℕ) → T (among is i) → Known s.filled i
   drawn-known is s k i h = go (s.filled i) refl
     where
       go : (q : Bool) → s.filled i ≡ q → Known s.filled i
@@ -57,7 +57,7 @@ module _ (D : ℕ → Type 0) where
     unfolding execs
     through-agree [] s k g = g
     through-agree (w ∷ ws) s k g =
-        through-agree ws (working w s) k (working-agree w s (λ i h. k i (through-more ws (working w s) i h)) g)
+        through-agree ws (working w s) k (working-agree w s (λ i h. k i (through_more ws (working w s) i h)) g)
 
     -- the invariant
     abbrev pub Ready : Way → Marking → Store → Store → Type 0
@@ -75,9 +75,9 @@ module _ (D : ℕ → Type 0) where
     ended : {F : Set} {σ τ : Store} (n : ℕ) → Agree (Known F) σ τ → Same (record { store = σ; played = n }) (record { store = τ; played = n })
     ended n g = record { played = refl; on = weaken (λ i d. given d) g }
 
-    either : (q : Bool) {e e' f f' : End} → Same e e' → Same f f' → Same (cond q e f) (cond q e' f')
-    either true h k = h
-    either false h k = k
+    Either : (q : Bool) {e e' f f' : End} → Same e e' → Same f f' → Same (cond q e f) (cond q e' f')
+    Either true h k = h
+    Either false h k = k
 
     -- at a label: the one sought, or another
     at_label : (l m : ℕ) (s : Marking) {σ τ : Store} (q : Bool) → eqb m l ≡ q → {e e' f f' : End} → Agree (Known (s.ways l)) σ τ
@@ -93,27 +93,27 @@ module _ (D : ℕ → Type 0) where
     plays b going [] s σ τ k g = ended 0 g
     plays b going (Record.Work w ∷ rs) s σ τ k g =
         same-ticks 1 (plays b going rs (working w s) (exec constants w σ) (exec constants w τ) k
-        (working-agree w s (λ i h. k i (scan-more b rs (working w s) i h)) g))
+        (working-agree w s (λ i h. k i (scan_more b rs (working w s) i h)) g))
     plays b going (Record.Label l ∷ rs) s σ τ k g =
         same-ticks 1 (plays b going rs (enter l s) σ τ k (less (λ i h. and_left (s.filled i) (s.ways l i) h) g))
     plays b going (Record.Branch l ∷ rs) s σ τ k g =
-        either (eqb l 0) (ended 1 g)
-        (same-ticks 1 (plays b (seeking l) rs (branch l s) σ τ k (less (λ i h. noted-own l s.filled s.ways i h) g)))
+        Either (eqb l 0) (ended 1 g)
+        (same-ticks 1 (plays b (seeking l) rs (branch l s) σ τ k (less (λ i h. noted_own l s.filled s.ways i h) g)))
     plays b going (Record.Call l ∷ rs) s σ τ k g =
         same-ticks _ (plays b going rs (through b s) (execs constants b σ) (execs constants b τ) k
-        (through-agree b s (λ i h. k i (scan-more b rs (through b s) i h)) g))
+        (through-agree b s (λ i h. k i (scan_more b rs (through b s) i h)) g))
     plays b going (Record.BranchIf c l e ∷ rs) s σ τ k g =
-        let t = way l (drawOn (c ∷ []) s) in
-        let q = g.on c (drawn-known (c ∷ []) s (λ i h. k i (scan-more b rs t i h)) c (or_l (eqb c c) false (eqb_refl c))) in
-        rw q (same-ticks 1 (either (branches e (at τ c))
-        (plays b (seeking l) rs t σ τ k (less (λ i h. noted-own l s.filled s.ways i h) g)) (plays b going rs t σ τ k g)))
+        let t = way l (draw_on (c ∷ []) s) in
+        let q = g.on c (drawn-known (c ∷ []) s (λ i h. k i (scan_more b rs t i h)) c (or_l (eqb c c) false (eqb_refl c))) in
+        rw q (same-ticks 1 (Either (branches e (at τ c))
+        (plays b (seeking l) rs t σ τ k (less (λ i h. noted_own l s.filled s.ways i h) g)) (plays b going rs t σ τ k g)))
     plays b (seeking l) [] s σ τ k g = ended 0 g
     plays b (seeking l) (Record.Work w ∷ rs) s σ τ k g = plays b (seeking l) rs (working w s) σ τ k g
     plays b (seeking l) (Record.Label m ∷ rs) s σ τ k g =
         at_label l m s (eqb m l) refl g (λ h. same-ticks 1 (plays b going rs (enter m s) σ τ k h)) (plays b (seeking l) rs (enter m s) σ τ k g)
     plays b (seeking l) (Record.Branch m ∷ rs) s σ τ k g =
-        plays b (seeking l) rs (branch m s) σ τ k (less (λ i h. step-ways b (Record.Branch m) s l i h) g)
+        plays b (seeking l) rs (branch m s) σ τ k (less (λ i h. step_ways b (Record.Branch m) s l i h) g)
     plays b (seeking l) (Record.Call m ∷ rs) s σ τ k g =
-        plays b (seeking l) rs (through b s) σ τ k (less (λ i h. step-ways b (Record.Call m) s l i h) g)
+        plays b (seeking l) rs (through b s) σ τ k (less (λ i h. step_ways b (Record.Call m) s l i h) g)
     plays b (seeking l) (Record.BranchIf c m e ∷ rs) s σ τ k g =
-        plays b (seeking l) rs (way m (drawOn (c ∷ []) s)) σ τ k (less (λ i h. step-ways b (Record.BranchIf c m e) s l i h) g)
+        plays b (seeking l) rs (way m (draw_on (c ∷ []) s)) σ τ k (less (λ i h. step_ways b (Record.BranchIf c m e) s l i h) g)

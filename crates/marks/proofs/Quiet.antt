@@ -21,14 +21,14 @@ unfolding scan
 scan-append b [] rs' m = refl
 scan-append b (r ∷ rs) rs' m = scan-append b rs rs' (step b r m)
 
-pub quiet-append : {b : List Work} {i : ℕ} {rs rs' : List Record} → Quiet b i rs → Quiet b i rs' → Quiet b i (rs ++ rs')
-quiet-append {b} {i} {rs} {rs'} p q =
+pub quiet_append : {b : List Work} {i : ℕ} {rs rs' : List Record} → Quiet b i rs → Quiet b i rs' → Quiet b i (rs ++ rs')
+quiet_append {b} {i} {rs} {rs'} p q =
     record { before = λ m t. p.before m (q.before (scan b rs m) (subst (λ (n : Marking). T (n.drawn i)) (scan-append b rs rs' m) t)) }
 
-scan-works : (b ws : List Work) (m : Marking) → scan b (map Record.Work ws) m ≡ through ws m
+scan_works : (b ws : List Work) (m : Marking) → scan b (map Record.Work ws) m ≡ through ws m
 unfolding scan step
-scan-works b [] m = refl
-scan-works b (w ∷ ws) m = scan-works b ws (working w m)
+scan_works b [] m = refl
+scan_works b (w ∷ ws) m = scan_works b ws (working w m)
 
 module _ (b : List Work) (i : ℕ) where
   -- a row that does not draw on the word before it fills it
@@ -37,7 +37,7 @@ module _ (b : List Work) (i : ℕ) where
 
   pub quiet-works : (ws : List Work) → (DrawnFirst i ws → ⊥) → Quiet b i (map Record.Work ws)
   quiet-works ws n =
-      record { before = λ m t. row ws n m (subst (λ (k : Marking). T (k.drawn i)) (scan-works b ws m) t) }
+      record { before = λ m t. row ws n m (subst (λ (k : Marking). T (k.drawn i)) (scan_works b ws m) t) }
 
   pub quiet-call : (l : ℕ) → (DrawnFirst i b → ⊥) → Quiet b i (Record.Call l ∷ [])
   unfolding scan step

@@ -12,8 +12,8 @@ use Rattle.player_machine.specs.Machine.{Store, at, block, going}
 use Rattle.player_machine.specs.Jumps.{breach}
 use Rattle.player_machine.specs.Answer.{Answer, refuse, answer}
 use Rattle.player_machine.proofs.Agreeing.{Agree, weaken}
-use Rattle.marks.specs.Marks.{Set, start, drawnOn, flags}
-use Rattle.marks.specs.Claims.{listingRecords, Unmarked, DrawnAlone}
+use Rattle.marks.specs.Marks.{Set, start, drawn_on, flags}
+use Rattle.marks.specs.Claims.{listing_records, Unmarked, DrawnAlone}
 use Rattle.marks.proofs.Playing.{Known, held, given, plays}
 
 -- ---- answers
@@ -34,7 +34,7 @@ refused true false number index e g h = absurd (true≢false e)
 refused false true number index e g h = absurd (true≢false (sym e))
 
 -- for any words D among which the marked ones are
-answers : (D : ℕ → Type 0) (listing constants : List ℕ) (σ τ : Store) → ((i : ℕ) → T (drawnOn (listingRecords listing constants) i) → D i) → Agree D σ τ
+answers : (D : ℕ → Type 0) (listing constants : List ℕ) (σ τ : Store) → ((i : ℕ) → T (drawn_on (listing_records listing constants) i) → D i) → Agree D σ τ
     → Alike D (answer listing constants 0 σ) (answer listing constants 0 τ)
 unfolding answer
 answers D listing constants σ τ k g =
@@ -67,7 +67,7 @@ drawn-alone listing constants σ τ a m =
     }
   where
     A : Set
-    A = drawnOn (listingRecords listing constants)
+    A = drawn_on (listing_records listing constants)
 
     go : (i : ℕ) → Outside A i → at σ i ≡ at τ i
     go i (mark t) = m i t
@@ -81,18 +81,18 @@ flag_at zero A i h = absurd (omega arith)
 flag_at (suc n) A zero h = refl
 flag_at (suc n) A (suc i) h = flag_at n (λ j. A (suc j)) i (omega arith)
 
-none-set : (n i : ℕ) → get_or (replicate n false) i false ≡ false
-none-set zero i = refl
-none-set (suc n) zero = refl
-none-set (suc n) (suc i) = none-set n i
+none_set : (n i : ℕ) → get_or (replicate n false) i false ≡ false
+none_set zero i = refl
+none_set (suc n) zero = refl
+none_set (suc n) (suc i) = none_set n i
 
 pub unmarked : Unmarked
 unmarked listing constants σ τ e a =
     (drawn-alone listing constants σ τ a (λ i t. go i t (dec_lt i 66))).equal
   where
     A : Set
-    A = drawnOn (listingRecords listing constants)
+    A = drawn_on (listing_records listing constants)
 
     go : (i : ℕ) → T (A i) → Dec (i < 66) → at σ i ≡ at τ i
-    go i t (yes h) = absurd (rw (sym (flag_at 66 A i h) ∙ ap (λ (l : List Bool). get_or l i false) e ∙ none-set 66 i) at t)
+    go i t (yes h) = absurd (rw (sym (flag_at 66 A i h) ∙ ap (λ (l : List Bool). get_or l i false) e ∙ none_set 66 i) at t)
     go i t (no h) = a.places i (omega arith)

@@ -5,8 +5,8 @@ use Rattle.mir.specs.declared.ops.BinOp.{BinOp}
 use Rattle.mir.specs.declared.records.Loc.{Loc}
 use Rattle.mir.specs.declared.records.Work.{Work}
 use Rattle.mir.specs.declared.records.Record.{Record}
-use Rattle.player_machine.specs.Machine.{works, isLabel, seek, block}
-use Rattle.marks.specs.Marks.{step, scan, drawnOn, filledBy, registers}
+use Rattle.player_machine.specs.Machine.{works, is_label, seek, block}
+use Rattle.marks.specs.Marks.{step, scan, drawn_on, filled_by, registers}
 
 -- the numbers of the marks that are set, the first of them being n
 abbrev pub numbers : ℕ → List Bool → List ℕ
@@ -15,7 +15,7 @@ numbers n (true ∷ ms) = n ∷ numbers (suc n) ms
 numbers n (false ∷ ms) = numbers (suc n) ms
 
 abbrev marked : List Record → List ℕ
-marked rs = numbers 0 (registers (drawnOn rs))
+marked rs = numbers 0 (registers (drawn_on rs))
 
 -- records: a constant loaded, a register negated, a register saved to Mem 0
 abbrev const : ℕ → Record
@@ -68,10 +68,10 @@ rows =
     ∷ []
 
 pub holds : map (λ row. marked row.0) rows ≡ map (λ row. row.1) rows
-unfolding step scan works isLabel seek block
+unfolding step scan works is_label seek block
 holds = refl
 
 -- what is filled after the records: "Only a written word fills one", "only if it is filled on every way in"
-pub fills-on-both : numbers 0 (registers (filledBy (const 4 ∷ Record.BranchIf 4 3 false ∷ const 5 ∷ Record.Label 3 ∷ neg 6 4 ∷ []))) ≡ 4 ∷ 6 ∷ []
-unfolding step scan works isLabel seek block
-fills-on-both = refl
+pub fills_on_both : numbers 0 (registers (filled_by (const 4 ∷ Record.BranchIf 4 3 false ∷ const 5 ∷ Record.Label 3 ∷ neg 6 4 ∷ []))) ≡ 4 ∷ 6 ∷ []
+unfolding step scan works is_label seek block
+fills_on_both = refl

@@ -7,7 +7,7 @@ use Rattle.mir.specs.declared.records.Record.{Record}
 use Rattle.player_machine.specs.Machine.{block, Way, going, seeking}
 use Rattle.player_machine.specs.Jumps.{breach}
 use Rattle.player_machine.specs.Draws.{draws, fills}
-use Rattle.marks.specs.Marks.{among, drawnOn}
+use Rattle.marks.specs.Marks.{among, drawn_on}
 
 -- a working record draws on register i; it does not fill i
 abbrev pub DrawsOn : ℕ → Work → Type 0
@@ -26,9 +26,9 @@ NoneFilled i [] = Unit {0}
 NoneFilled i (w ∷ ws) = NotFilled i w × NoneFilled i ws
 
 -- the first where a test holds, else the second
-abbrev pub either : Bool → Type 0 → Type 0 → Type 0
-either true A B = A
-either false A B = B
+abbrev pub Either : Bool → Type 0 → Type 0 → Type 0
+Either true A B = A
+Either false A B = B
 
 -- Some way leads through these records to one that draws on i: from the first of them, or from the Label that a branch seeks. A Call goes
 -- through the block b. A Branch 0 leads to none, since no Label 0 stands.
@@ -41,7 +41,7 @@ Leads b i going (Record.Call l ∷ rs) = DrawnFirst i b ⊎ (NoneFilled i b × L
 Leads b i going (Record.BranchIf c l e ∷ rs) = T (eqb i c) ⊎ (Leads b i (seeking l) rs ⊎ Leads b i going rs)
 Leads b i (seeking l) [] = ⊥
 Leads b i (seeking l) (Record.Work w ∷ rs) = Leads b i (seeking l) rs
-Leads b i (seeking l) (Record.Label m ∷ rs) = either (eqb m l) (Leads b i going rs) (Leads b i (seeking l) rs)
+Leads b i (seeking l) (Record.Label m ∷ rs) = Either (eqb m l) (Leads b i going rs) (Leads b i (seeking l) rs)
 Leads b i (seeking l) (Record.Branch m ∷ rs) = Leads b i (seeking l) rs
 Leads b i (seeking l) (Record.Call m ∷ rs) = Leads b i (seeking l) rs
 Leads b i (seeking l) (Record.BranchIf c m e ∷ rs) = Leads b i (seeking l) rs
@@ -50,6 +50,6 @@ Leads b i (seeking l) (Record.BranchIf c m e ∷ rs) = Leads b i (seeking l) rs
 abbrev pub LeadsTo : List Record → ℕ → Type 0
 LeadsTo rs i = Leads (block rs) i going rs
 
--- of records that keep the jump rules a register is marked just where a way leads (theorem `ledTo`)
+-- of records that keep the jump rules a register is marked just where a way leads (theorem `led_to`)
 abbrev pub LedTo : Type 0
-LedTo = (rs : List Record) (i : ℕ) → breach rs ≡ length rs → T (drawnOn rs i) ↔ LeadsTo rs i
+LedTo = (rs : List Record) (i : ℕ) → breach rs ≡ length rs → T (drawn_on rs i) ↔ LeadsTo rs i

@@ -42,8 +42,8 @@ abbrev pub start : Marking
 start = record { filled = nothing; drawn = nothing; ways = λ l. everything }
 
 -- "registers drawn on before being filled"
-abbrev pub drawOn : List ℕ → Marking → Marking
-drawOn is m = record { filled = m.filled; drawn = join m.drawn (without (among is) m.filled); ways = m.ways }
+abbrev pub draw_on : List ℕ → Marking → Marking
+draw_on is m = record { filled = m.filled; drawn = join m.drawn (without (among is) m.filled); ways = m.ways }
 
 -- "Only a written word fills one"
 abbrev pub fill : List ℕ → Marking → Marking
@@ -51,7 +51,7 @@ fill is m = record { filled = join m.filled (among is); drawn = m.drawn; ways = 
 
 -- a working record draws, then fills; "a Xor of one register with itself draws on nothing" (`draws`)
 abbrev pub working : Work → Marking → Marking
-working w m = fill (fills w) (drawOn (draws w) m)
+working w m = fill (fills w) (draw_on (draws w) m)
 
 -- "Each Call goes through the block with its own marks."
 abbrev pub through : List Work → Marking → Marking
@@ -80,7 +80,7 @@ step b (Record.Work w) m = working w m
 step b (Record.Label l) m = enter l m
 step b (Record.Branch l) m = branch l m
 step b (Record.Call l) m = through b m
-step b (Record.BranchIf c l e) m = way l (drawOn (c ∷ []) m)
+step b (Record.BranchIf c l e) m = way l (draw_on (c ∷ []) m)
 
 -- records one after the other
 unfoldable pub scan : List Work → List Record → Marking → Marking
@@ -93,11 +93,11 @@ abbrev pub marking : List Record → Marking
 marking rs = scan (block rs) rs start
 
 -- what they draw on before it is filled, and what is filled after them
-abbrev pub drawnOn : List Record → Set
-drawnOn rs = (marking rs).drawn
+abbrev pub drawn_on : List Record → Set
+drawn_on rs = (marking rs).drawn
 
-abbrev pub filledBy : List Record → Set
-filledBy rs = (marking rs).filled
+abbrev pub filled_by : List Record → Set
+filled_by rs = (marking rs).filled
 
 -- the first n words of a set, as marks
 abbrev pub flags : ℕ → Set → List Bool

@@ -77,8 +77,8 @@ pub record Same (is js : List ℕ) : Type 0 where
 pub drawn-as : {F D D' : List Bool} {is js : List ℕ} → Same is js → Drawn F D is D' → Drawn F D js D'
 drawn-as {F} {D} s d = record { each = λ i l. d.each i l ∙ ap (λ (x : Bool). get_or D i false || (x && not (get_or F i false))) (s.each i l) }
 
-pub filled-as : {F F' : List Bool} {is js : List ℕ} → Same is js → Filled F is F' → Filled F js F'
-filled-as {F} s d = record { each = λ i l. d.each i l ∙ ap (λ (x : Bool). get_or F i false || x) (s.each i l) }
+pub filled_as : {F F' : List Bool} {is js : List ℕ} → Same is js → Filled F is F' → Filled F js F'
+filled_as {F} s d = record { each = λ i l. d.each i l ∙ ap (λ (x : Bool). get_or F i false || x) (s.each i l) }
 
 -- a run of marks, one more
 module _ (from : ℕ) (A : Set) (before : List Bool) where

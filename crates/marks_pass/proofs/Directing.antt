@@ -10,28 +10,28 @@ use lib.Dec.{leb, ltb, eqb}
 use borrow.Author.Tests.{eq-eqb, ne_eqb, lt-ltb, le-ltb, le-leb, lt-leb, leb-true}
 use Rattle.mir.specs.declared.records.Work.{Work}
 use Rattle.mir.specs.declared.records.Record.{Record}
-use Rattle.mir.specs.Field.{u16At}
-use Rattle.mir.specs.Encode.{recordOf, encode, encodeAll}
+use Rattle.mir.specs.Field.{u16_at}
+use Rattle.mir.specs.Encode.{record_of, encode, encode_all}
 use Rattle.player_machine.specs.Machine.{block}
 use Rattle.marks.specs.Marks.{Set, everything, meet, among, Marking, start, working, through, noted, step}
-use Rattle.marks.proofs.Masks.{through-filled, through-drawn}
+use Rattle.marks.proofs.Masks.{through_filled, through_drawn}
 use Rattle.marks_pass.specs.Standing.{Stands, Ways, Made, Drawn, Called, Noted, Entered, Branched, Directs, Jumped, BlockMarked, Knows, CallsBlock, NoWork, All, Directed}
 use Rattle.marks_pass.proofs.Arrays.{flat, clash, made-66}
-use Rattle.marks_pass.proofs.Rows.{label-kind, branch-kind, call-kind, branch-if-kind}
+use Rattle.marks_pass.proofs.Rows.{label_kind, branch_kind, call_kind, branch_if_kind}
 
 -- ---- a Call
 
 -- working records change no way
-pub through-ways : (b : List Work) (m : Marking) → (through b m).ways ≡ m.ways
-through-ways [] m = refl
-through-ways (w ∷ b) m = through-ways b (working w m)
+pub through_ways : (b : List Work) (m : Marking) → (through b m).ways ≡ m.ways
+through_ways [] m = refl
+through_ways (w ∷ b) m = through_ways b (working w m)
 
 pub calls : {F D fills draws F' D' : List Bool} (b : List Work) (m : Marking) → Called F D fills draws F' D' → Stands fills draws (through b start)
     → Stands F D m → Stands F' D' (through b m)
 calls b m c k s =
     record {
-      filled = λ i h. made-66 _ _ c.filled i h ∙ ap₂ ◌||◌ (s.filled i h) (k.filled i h) ∙ sym (through-filled b m i);
-      drawn = λ i h. made-66 _ _ c.drawn i h ∙ ap₂ ◌||◌ (s.drawn i h) (ap₂ (λ (u v : Bool). u && not v) (k.drawn i h) (s.filled i h)) ∙ sym (through-drawn b m i);
+      filled = λ i h. made-66 _ _ c.filled i h ∙ ap₂ ◌||◌ (s.filled i h) (k.filled i h) ∙ sym (through_filled b m i);
+      drawn = λ i h. made-66 _ _ c.drawn i h ∙ ap₂ ◌||◌ (s.drawn i h) (ap₂ (λ (u v : Bool). u && not v) (k.drawn i h) (s.filled i h)) ∙ sym (through_drawn b m i);
     }
 
 module _ {F D fills draws F' D' : List Bool} (s : List ℕ) (known : Bool) where
@@ -53,13 +53,13 @@ module _ {F D fills draws F' D' : List Bool} (s : List ℕ) (known : Bool) where
 -- ---- a Label, a Branch, a BranchIf
 
 -- a kind that is not this record's
-other : {A : Type 0} (s : List ℕ) (kind j i : ℕ) (r : Record) (rest : List ℕ) → kind ≡ u16At s 2 → kind ≡ j → s ≡ encode r ++ rest
-    → u16At (encode r ++ rest) 2 ≡ i → (j ≡ i → ⊥) → A
-other s kind j i r rest k kj e q n = absurd (n (sym kj ∙ k ∙ ap (λ (x : List ℕ). u16At x 2) e ∙ q))
+other : {A : Type 0} (s : List ℕ) (kind j i : ℕ) (r : Record) (rest : List ℕ) → kind ≡ u16_at s 2 → kind ≡ j → s ≡ encode r ++ rest
+    → u16_at (encode r ++ rest) 2 ≡ i → (j ≡ i → ⊥) → A
+other s kind j i r rest k kj e q n = absurd (n (sym kj ∙ k ∙ ap (λ (x : List ℕ). u16_at x 2) e ∙ q))
 
-noted-ways : {F D W W' : List Bool} {r : Bool} (l : ℕ) (m : Marking) → length W' ≡ length W → Noted W l F W' r → r ≡ true → Stands F D m → Ways W m.ways
+noted_ways : {F D W W' : List Bool} {r : Bool} (l : ℕ) (m : Marking) → length W' ≡ length W → Noted W l F W' r → r ≡ true → Stands F D m → Ways W m.ways
     → Ways W' (noted l m.filled m.ways)
-noted-ways {F} {D} {W} {W'} l m long n t s w = record { each = λ k i b h. go k i (omega (arith, long)) h (ℕ_discrete k l) (dec_lt k l) }
+noted_ways {F} {D} {W} {W'} l m long n t s w = record { each = λ k i b h. go k i (omega (arith, long)) h (ℕ_discrete k l) (dec_lt k l) }
   where
     within : ℕ → ℕ → Bool
     within k i = leb (66 * l) (66 * k + i) && ltb (66 * k + i) (66 * l + 66)
@@ -91,22 +91,22 @@ whole_by : (W : List Bool) (l : ℕ) {r : Bool} → r ≡ leb (66 * l + 66) (len
 whole_by W l e b h = e ∙ le-leb (66 * l + 66) (length W) (omega arith)
 
 label_at : (l : ℕ) (rest : List ℕ) → get_or (encode (Record.Label l) ++ rest) 4 0 ≡ l
-unfolding recordOf
+unfolding record_of
 label_at l rest = refl
 
-branch-at : (l : ℕ) (rest : List ℕ) → get_or (encode (Record.Branch l) ++ rest) 4 0 ≡ l
-unfolding recordOf
-branch-at l rest = refl
+branch_at : (l : ℕ) (rest : List ℕ) → get_or (encode (Record.Branch l) ++ rest) 4 0 ≡ l
+unfolding record_of
+branch_at l rest = refl
 
-cond-at : (c l : ℕ) (e : Bool) (rest : List ℕ) → get_or (encode (Record.BranchIf c l e) ++ rest) 4 0 ≡ c
-unfolding recordOf
-cond-at c l e rest = refl
+cond_at : (c l : ℕ) (e : Bool) (rest : List ℕ) → get_or (encode (Record.BranchIf c l e) ++ rest) 4 0 ≡ c
+unfolding record_of
+cond_at c l e rest = refl
 
 to_at : (c l : ℕ) (e : Bool) (rest : List ℕ) → get_or (encode (Record.BranchIf c l e) ++ rest) 5 0 ≡ l
-unfolding recordOf
+unfolding record_of
 to_at c l e rest = refl
 
-module _ (s : List ℕ) (kind l : ℕ) (k : kind ≡ u16At s 2) (g : l ≡ get_or s 4 0) (b : l < 256) where
+module _ (s : List ℕ) (kind l : ℕ) (k : kind ≡ u16_at s 2) (g : l ≡ get_or s 4 0) (b : l < 256) where
   read : (j : ℕ) (rec : Record) (rest : List ℕ) → s ≡ encode rec ++ rest → get_or (encode rec ++ rest) 4 0 ≡ j → l ≡ j
   read j rec rest e q = g ∙ ap (λ (x : List ℕ). get_or x 4 0) e ∙ q
 
@@ -122,17 +122,17 @@ module _ (s : List ℕ) (kind l : ℕ) (k : kind ≡ u16At s 2) (g : l ≡ get_o
             filled = λ i h. made-66 _ _ (n.made t) i h ∙ ap₂ ◌&&◌ (st.filled i h) (w'.each l i (leb-true (66 * l + 66) (length W) (sym n.has ∙ t)) h ∙ ap (λ (x : ℕ). m.ways x i) (read j (Record.Label j) rest e (label_at j rest)));
             drawn = st.drawn;
           }
-      go (Record.Branch j) rest c m e d t st w' = other s kind 14 15 (Record.Branch j) rest k z e (branch-kind j rest) (λ p. omega arith)
+      go (Record.Branch j) rest c m e d t st w' = other s kind 14 15 (Record.Branch j) rest k z e (branch_kind j rest) (λ p. omega arith)
       go (Record.Call j) rest c m e d t st w' = absurd d
-      go (Record.BranchIf a j x) rest c m e d t st w' = other s kind 14 17 (Record.BranchIf a j x) rest k z e (branch-if-kind a j x rest) (λ p. omega arith)
+      go (Record.BranchIf a j x) rest c m e d t st w' = other s kind 14 17 (Record.BranchIf a j x) rest k z e (branch_if_kind a j x rest) (λ p. omega arith)
 
       same : (rec : Record) (rest : List ℕ) (c : List Work) (m : Marking) → s ≡ encode rec ++ rest → Directs rec → r ≡ true → Stands F D m → Ways W m.ways
           → Ways W (step c rec m).ways
       same (Record.Work w) rest c m e d t st w' = absurd d
       same (Record.Label j) rest c m e d t st w' = w'
-      same (Record.Branch j) rest c m e d t st w' = other s kind 14 15 (Record.Branch j) rest k z e (branch-kind j rest) (λ p. omega arith)
+      same (Record.Branch j) rest c m e d t st w' = other s kind 14 15 (Record.Branch j) rest k z e (branch_kind j rest) (λ p. omega arith)
       same (Record.Call j) rest c m e d t st w' = absurd d
-      same (Record.BranchIf a j x) rest c m e d t st w' = other s kind 14 17 (Record.BranchIf a j x) rest k z e (branch-if-kind a j x rest) (λ p. omega arith)
+      same (Record.BranchIf a j x) rest c m e d t st w' = other s kind 14 17 (Record.BranchIf a j x) rest k z e (branch_if_kind a j x rest) (λ p. omega arith)
 
       whole : (rec : Record) (rest : List ℕ) → s ≡ encode rec ++ rest → Directs rec → 16896 ≤ length W → r ≡ true
       whole rec rest e d h = whole_by W l n.has b h
@@ -148,23 +148,23 @@ module _ (s : List ℕ) (kind l : ℕ) (k : kind ≡ u16At s 2) (g : l ≡ get_o
       go : (rec : Record) (rest : List ℕ) (c : List Work) (m : Marking) → s ≡ encode rec ++ rest → Directs rec → r ≡ true → Stands F D m → Ways W m.ways
           → Stands F' D (step c rec m)
       go (Record.Work w) rest c m e d t st w' = absurd d
-      go (Record.Label j) rest c m e d t st w' = other s kind 15 14 (Record.Label j) rest k z e (label-kind j rest) (λ p. omega arith)
+      go (Record.Label j) rest c m e d t st w' = other s kind 15 14 (Record.Label j) rest k z e (label_kind j rest) (λ p. omega arith)
       go (Record.Branch j) rest c m e d t st w' =
           record {
-            filled = λ i h. n.filled i h ∙ ap (λ (x : ℕ). cond (ltb x 3) true (get_or F i false)) (read j (Record.Branch j) rest e (branch-at j rest)) ∙ branched-at (ltb j 3) m.filled i (st.filled i h);
+            filled = λ i h. n.filled i h ∙ ap (λ (x : ℕ). cond (ltb x 3) true (get_or F i false)) (read j (Record.Branch j) rest e (branch_at j rest)) ∙ branched-at (ltb j 3) m.filled i (st.filled i h);
             drawn = st.drawn;
           }
       go (Record.Call j) rest c m e d t st w' = absurd d
-      go (Record.BranchIf a j x) rest c m e d t st w' = other s kind 15 17 (Record.BranchIf a j x) rest k z e (branch-if-kind a j x rest) (λ p. omega arith)
+      go (Record.BranchIf a j x) rest c m e d t st w' = other s kind 15 17 (Record.BranchIf a j x) rest k z e (branch_if_kind a j x rest) (λ p. omega arith)
 
       same : (rec : Record) (rest : List ℕ) (c : List Work) (m : Marking) → s ≡ encode rec ++ rest → Directs rec → r ≡ true → Stands F D m → Ways W m.ways
           → Ways W' (step c rec m).ways
       same (Record.Work w) rest c m e d t st w' = absurd d
-      same (Record.Label j) rest c m e d t st w' = other s kind 15 14 (Record.Label j) rest k z e (label-kind j rest) (λ p. omega arith)
+      same (Record.Label j) rest c m e d t st w' = other s kind 15 14 (Record.Label j) rest k z e (label_kind j rest) (λ p. omega arith)
       same (Record.Branch j) rest c m e d t st w' =
-          subst (λ (x : ℕ). Ways W' (noted x m.filled m.ways)) (read j (Record.Branch j) rest e (branch-at j rest)) (noted-ways l m long n.noted t st w')
+          subst (λ (x : ℕ). Ways W' (noted x m.filled m.ways)) (read j (Record.Branch j) rest e (branch_at j rest)) (noted_ways l m long n.noted t st w')
       same (Record.Call j) rest c m e d t st w' = absurd d
-      same (Record.BranchIf a j x) rest c m e d t st w' = other s kind 15 17 (Record.BranchIf a j x) rest k z e (branch-if-kind a j x rest) (λ p. omega arith)
+      same (Record.BranchIf a j x) rest c m e d t st w' = other s kind 15 17 (Record.BranchIf a j x) rest k z e (branch_if_kind a j x rest) (λ p. omega arith)
 
       whole : (rec : Record) (rest : List ℕ) → s ≡ encode rec ++ rest → Directs rec → 16896 ≤ length W → r ≡ true
       whole rec rest e d h = whole_by W l n.noted.has b h
@@ -177,8 +177,8 @@ module _ (s : List ℕ) (kind l : ℕ) (k : kind ≡ u16At s 2) (g : l ≡ get_o
       go : (rec : Record) (rest : List ℕ) (c : List Work) (m : Marking) → s ≡ encode rec ++ rest → Directs rec → r ≡ true → Stands F D m → Ways W m.ways
           → Stands F D' (step c rec m)
       go (Record.Work w) rest c m e d t st w' = absurd d
-      go (Record.Label j) rest c m e d t st w' = other s kind 17 14 (Record.Label j) rest k z e (label-kind j rest) (λ p. omega arith)
-      go (Record.Branch j) rest c m e d t st w' = other s kind 17 15 (Record.Branch j) rest k z e (branch-kind j rest) (λ p. omega arith)
+      go (Record.Label j) rest c m e d t st w' = other s kind 17 14 (Record.Label j) rest k z e (label_kind j rest) (λ p. omega arith)
+      go (Record.Branch j) rest c m e d t st w' = other s kind 17 15 (Record.Branch j) rest k z e (branch_kind j rest) (λ p. omega arith)
       go (Record.Call j) rest c m e d t st w' = absurd d
       go (Record.BranchIf a j x) rest c m e d t st w' =
           record {
@@ -186,32 +186,32 @@ module _ (s : List ℕ) (kind l : ℕ) (k : kind ≡ u16At s 2) (g : l ≡ get_o
             drawn = λ i h.
                 dr.each i h
                 ∙ ap₂ (λ (u v : Bool). u || (among (l ∷ []) i && not v)) (st.drawn i h) (st.filled i h)
-                ∙ ap (λ (y : ℕ). m.drawn i || (among (y ∷ []) i && not (m.filled i))) (read a (Record.BranchIf a j x) rest e (cond-at a j x rest));
+                ∙ ap (λ (y : ℕ). m.drawn i || (among (y ∷ []) i && not (m.filled i))) (read a (Record.BranchIf a j x) rest e (cond_at a j x rest));
           }
 
       same : (rec : Record) (rest : List ℕ) (c : List Work) (m : Marking) → s ≡ encode rec ++ rest → Directs rec → r ≡ true → Stands F D m → Ways W m.ways
           → Ways W' (step c rec m).ways
       same (Record.Work w) rest c m e d t st w' = absurd d
-      same (Record.Label j) rest c m e d t st w' = other s kind 17 14 (Record.Label j) rest k z e (label-kind j rest) (λ p. omega arith)
-      same (Record.Branch j) rest c m e d t st w' = other s kind 17 15 (Record.Branch j) rest k z e (branch-kind j rest) (λ p. omega arith)
+      same (Record.Label j) rest c m e d t st w' = other s kind 17 14 (Record.Label j) rest k z e (label_kind j rest) (λ p. omega arith)
+      same (Record.Branch j) rest c m e d t st w' = other s kind 17 15 (Record.Branch j) rest k z e (branch_kind j rest) (λ p. omega arith)
       same (Record.Call j) rest c m e d t st w' = absurd d
       same (Record.BranchIf a j x) rest c m e d t st w' =
-          subst (λ (y : ℕ). Ways W' (noted y m.filled m.ways)) (gt ∙ ap (λ (y : List ℕ). get_or y 5 0) e ∙ to_at a j x rest) (noted-ways to m long n t st w')
+          subst (λ (y : ℕ). Ways W' (noted y m.filled m.ways)) (gt ∙ ap (λ (y : List ℕ). get_or y 5 0) e ∙ to_at a j x rest) (noted_ways to m long n t st w')
 
       whole : (rec : Record) (rest : List ℕ) → s ≡ encode rec ++ rest → Directs rec → 16896 ≤ length W → r ≡ true
       whole rec rest e d h = whole_by W to n.has bt h
 
-pub jumped-none : {F D W : List Bool} (s : List ℕ) (kind : ℕ) → kind ≡ u16At s 2 → (kind ≡ 14 → ⊥) → (kind ≡ 15 → ⊥) → (kind ≡ 17 → ⊥)
+pub jumped_none : {F D W : List Bool} (s : List ℕ) (kind : ℕ) → kind ≡ u16_at s 2 → (kind ≡ 14 → ⊥) → (kind ≡ 15 → ⊥) → (kind ≡ 17 → ⊥)
     → Jumped s F D W F D W false
-jumped-none {F} {D} {W} s kind k a b c =
+jumped_none {F} {D} {W} s kind k a b c =
     record { stands = λ rec rest x m e d t. clash t; ways = λ rec rest x m e d t. clash t; whole = go }
   where
     go : (rec : Record) (rest : List ℕ) → s ≡ encode rec ++ rest → Directs rec → 16896 ≤ length W → false ≡ true
     go (Record.Work w) rest e d h = absurd d
-    go (Record.Label j) rest e d h = absurd (a (k ∙ ap (λ (x : List ℕ). u16At x 2) e ∙ label-kind j rest))
-    go (Record.Branch j) rest e d h = absurd (b (k ∙ ap (λ (x : List ℕ). u16At x 2) e ∙ branch-kind j rest))
+    go (Record.Label j) rest e d h = absurd (a (k ∙ ap (λ (x : List ℕ). u16_at x 2) e ∙ label_kind j rest))
+    go (Record.Branch j) rest e d h = absurd (b (k ∙ ap (λ (x : List ℕ). u16_at x 2) e ∙ branch_kind j rest))
     go (Record.Call j) rest e d h = absurd d
-    go (Record.BranchIf i j x) rest e d h = absurd (c (k ∙ ap (λ (y : List ℕ). u16At y 2) e ∙ branch-if-kind i j x rest))
+    go (Record.BranchIf i j x) rest e d h = absurd (c (k ∙ ap (λ (y : List ℕ). u16_at y 2) e ∙ branch_if_kind i j x rest))
 
 -- ---- any record that is no working record
 
@@ -219,24 +219,24 @@ or-true : (q : Bool) → (q || true) ≡ true
 or-true true = refl
 or-true false = refl
 
-module _ (listing s : List ℕ) (known : Bool) (kind : ℕ) (k : kind ≡ u16At s 2) where
+module _ (listing s : List ℕ) (known : Bool) (kind : ℕ) (k : kind ≡ u16_at s 2) where
   pub directed-call : {fills draws F D W fills' draws' F' D' : List Bool} → kind ≡ 16 → CallsBlock listing known fills draws F D fills' draws' F' D'
       → Directed listing s known fills draws F D W fills' draws' F' D' W 2
   unfolding step
   directed-call {fills} {draws} {F} {D} {W} {fills'} {draws'} {F'} {D'} z c = record { all = go; whole = λ rec rest e w h x. absurd (omega arith) }
     where
-      go : (rs : List Record) (rec : Record) (rest : List ℕ) (m : Marking) → listing ≡ encodeAll rs → s ≡ encode rec ++ rest → NoWork rec
+      go : (rs : List Record) (rec : Record) (rest : List ℕ) (m : Marking) → listing ≡ encode_all rs → s ≡ encode rec ++ rest → NoWork rec
           → (◌≡◌ {A = ℕ} 2 0 → ⊥) → All rs known fills draws F D W m → All rs (known || true) fills' draws' F' D' W (step (block rs) rec m)
       go rs (Record.Work w) rest m l e n x a = absurd n
-      go rs (Record.Label j) rest m l e n x a = other s kind 16 14 (Record.Label j) rest k z e (label-kind j rest) (λ p. omega arith)
-      go rs (Record.Branch j) rest m l e n x a = other s kind 16 15 (Record.Branch j) rest k z e (branch-kind j rest) (λ p. omega arith)
+      go rs (Record.Label j) rest m l e n x a = other s kind 16 14 (Record.Label j) rest k z e (label_kind j rest) (λ p. omega arith)
+      go rs (Record.Branch j) rest m l e n x a = other s kind 16 15 (Record.Branch j) rest k z e (branch_kind j rest) (λ p. omega arith)
       go rs (Record.Call j) rest m l e n x a =
           record {
             knows = subst (λ (q : Bool). Knows rs q fills' draws') (sym (or-true known)) (c.knows rs l a.knows);
             stands = c.stands rs m l a.knows a.stands;
-            ways = subst (Ways W) (sym (through-ways (block rs) m)) a.ways;
+            ways = subst (Ways W) (sym (through_ways (block rs) m)) a.ways;
           }
-      go rs (Record.BranchIf i j y) rest m l e n x a = other s kind 16 17 (Record.BranchIf i j y) rest k z e (branch-if-kind i j y rest) (λ p. omega arith)
+      go rs (Record.BranchIf i j y) rest m l e n x a = other s kind 16 17 (Record.BranchIf i j y) rest k z e (branch_if_kind i j y rest) (λ p. omega arith)
 
   pub directed-jump : {fills draws F D W F' D' W' : List Bool} {r : Bool} → (kind ≡ 16 → ⊥) → r ≡ true → Jumped s F D W F' D' W' r
       → Directed listing s known fills draws F D W fills draws F' D' W' 1
@@ -251,12 +251,12 @@ module _ (listing s : List ℕ) (known : Bool) (kind : ℕ) (k : kind ≡ u16At 
             ways = j.ways rec rest (block rs) m e d t a.stands a.ways;
           }
 
-      go : (rs : List Record) (rec : Record) (rest : List ℕ) (m : Marking) → listing ≡ encodeAll rs → s ≡ encode rec ++ rest → NoWork rec
+      go : (rs : List Record) (rec : Record) (rest : List ℕ) (m : Marking) → listing ≡ encode_all rs → s ≡ encode rec ++ rest → NoWork rec
           → (◌≡◌ {A = ℕ} 1 0 → ⊥) → All rs known fills draws F D W m → All rs (known || false) fills draws F' D' W' (step (block rs) rec m)
       go rs (Record.Work w) rest m l e n x a = absurd n
       go rs (Record.Label i) rest m l e n x a = by rs (Record.Label i) rest m e tt a
       go rs (Record.Branch i) rest m l e n x a = by rs (Record.Branch i) rest m e tt a
-      go rs (Record.Call i) rest m l e n x a = absurd (z (k ∙ ap (λ (y : List ℕ). u16At y 2) e ∙ call-kind i rest))
+      go rs (Record.Call i) rest m l e n x a = absurd (z (k ∙ ap (λ (y : List ℕ). u16_at y 2) e ∙ call_kind i rest))
       go rs (Record.BranchIf c i y) rest m l e n x a = by rs (Record.BranchIf c i y) rest m e tt a
 
   pub directed-none : {fills draws F D W F' D' W' : List Bool} {r : Bool} → (kind ≡ 16 → ⊥) → r ≡ false → Jumped s F D W F' D' W' r
@@ -270,5 +270,5 @@ module _ (listing s : List ℕ) (known : Bool) (kind : ℕ) (k : kind ≡ u16At 
       go (Record.Work w) rest e n h x = absurd n
       go (Record.Label i) rest e n h x = by (Record.Label i) rest e tt h
       go (Record.Branch i) rest e n h x = by (Record.Branch i) rest e tt h
-      go (Record.Call i) rest e n h x = absurd (z (k ∙ ap (λ (y : List ℕ). u16At y 2) e ∙ call-kind i rest))
+      go (Record.Call i) rest e n h x = absurd (z (k ∙ ap (λ (y : List ℕ). u16_at y 2) e ∙ call_kind i rest))
       go (Record.BranchIf c i y) rest e n h x = by (Record.BranchIf c i y) rest e tt h

@@ -10,55 +10,55 @@ use lib.Dec.{eqb}
 use Rattle.mir.specs.declared.records.Work.{Work}
 use Rattle.mir.specs.declared.records.Record.{Record}
 use Rattle.mir.specs.Length.{length_of}
-use Rattle.mir.specs.Field.{u16At}
-use Rattle.mir.specs.Encode.{recordOf, encode, encodeWork, encodeAll}
+use Rattle.mir.specs.Field.{u16_at}
+use Rattle.mir.specs.Encode.{record_of, encode, encode_work, encode_all}
 use Rattle.mir.proofs.Parts.{part}
 use Rattle.records.proofs.Round.{encoded-length}
-use Rattle.player_machine.specs.Machine.{works, isLabel, seek, block}
+use Rattle.player_machine.specs.Machine.{works, is_label, seek, block}
 use Rattle.player_machine.specs.Draws.{draws, fills}
 use Rattle.marks.specs.Marks.{Marking, among, start, working, through, step, scan}
 use Rattle.marks.specs.Marks as Marks
 use Rattle.marks_pass.specs.Standing.{Stands, Ways, Worked, Still, Done, Does, Led, Straight, BlockAt, BlockMarked}
 
 -- a record has bytes, as many as it says
-pub encode-long : (r : Record) → 5 ≤ length (encode r)
-unfolding recordOf
-encode-long (Record.Work (Work.Uni op dst s1)) = omega arith
-encode-long (Record.Work (Work.Bi op dst s1 s2)) = omega arith
-encode-long (Record.Work (Work.Mov dst s1)) = omega arith
-encode-long (Record.Work (Work.Load dst p)) = omega arith
-encode-long (Record.Work (Work.Save src p)) = omega arith
-encode-long (Record.Work (Work.LoadConst dst idx)) = omega arith
-encode-long (Record.Work (Work.Fused op dst a b c)) = omega arith
-encode-long (Record.Work (Work.IfElse dst t f p)) = omega arith
-encode-long (Record.Work (Work.LoadComplex xd yd p)) = omega arith
-encode-long (Record.Work (Work.SaveComplex xs ys p)) = omega arith
-encode-long (Record.Work (Work.ComplexBi op xd yd x1 y1 x2 y2)) = omega arith
-encode-long (Record.Label l) = omega arith
-encode-long (Record.Branch l) = omega arith
-encode-long (Record.Call l) = omega arith
-encode-long (Record.BranchIf c l e) = omega arith
+pub encode_long : (r : Record) → 5 ≤ length (encode r)
+unfolding record_of
+encode_long (Record.Work (Work.Uni op dst s1)) = omega arith
+encode_long (Record.Work (Work.Bi op dst s1 s2)) = omega arith
+encode_long (Record.Work (Work.Mov dst s1)) = omega arith
+encode_long (Record.Work (Work.Load dst p)) = omega arith
+encode_long (Record.Work (Work.Save src p)) = omega arith
+encode_long (Record.Work (Work.LoadConst dst idx)) = omega arith
+encode_long (Record.Work (Work.Fused op dst a b c)) = omega arith
+encode_long (Record.Work (Work.IfElse dst t f p)) = omega arith
+encode_long (Record.Work (Work.LoadComplex xd yd p)) = omega arith
+encode_long (Record.Work (Work.SaveComplex xs ys p)) = omega arith
+encode_long (Record.Work (Work.ComplexBi op xd yd x1 y1 x2 y2)) = omega arith
+encode_long (Record.Label l) = omega arith
+encode_long (Record.Branch l) = omega arith
+encode_long (Record.Call l) = omega arith
+encode_long (Record.BranchIf c l e) = omega arith
 
 -- behind the first record
-pub behind : (s : List ℕ) (at n : ℕ) (r : Record) (rs : List Record) → drop at s ≡ encodeAll (r ∷ rs) → n ≡ length (encode r)
-    → drop (at + n) s ≡ encodeAll rs
+pub behind : (s : List ℕ) (at n : ℕ) (r : Record) (rs : List Record) → drop at s ≡ encode_all (r ∷ rs) → n ≡ length (encode r)
+    → drop (at + n) s ≡ encode_all rs
 behind s at n r rs e l =
-    sym (drop-drop n at s) ∙ ap₂ drop l e ∙ drop-append_seam (encode r) (encodeAll rs)
+    sym (drop-drop n at s) ∙ ap₂ drop l e ∙ drop-append_seam (encode r) (encode_all rs)
 
 -- where bytes are left, so are records; and where none are, none
-pub left-none : {A : Type 0} (s : List ℕ) (at : ℕ) → drop at s ≡ encodeAll [] → at < length s → A
+pub left-none : {A : Type 0} (s : List ℕ) (at : ℕ) → drop at s ≡ encode_all [] → at < length s → A
 left-none s at e h = let l = length-drop at s in let z = ap length e in absurd (omega (arith, l, z))
 
-pub left-some : {A : Type 0} (s : List ℕ) (at : ℕ) (r : Record) (rs : List Record) → drop at s ≡ encodeAll (r ∷ rs) → length s ≤ at → A
-left-some s at r rs e h =
+pub left_some : {A : Type 0} (s : List ℕ) (at : ℕ) (r : Record) (rs : List Record) → drop at s ≡ encode_all (r ∷ rs) → length s ≤ at → A
+left_some s at r rs e h =
     let l = length-drop at s in
-    let z = ap length e ∙ length-append (encode r) (encodeAll rs) in
-    let k = encode-long r in
+    let z = ap length e ∙ length-append (encode r) (encode_all rs) in
+    let k = encode_long r in
     absurd (omega (arith, l, z, k))
 
 -- a working record done
-pub stands-work : {F D F' D' : List Bool} {n : ℕ} (w : Work) (m : Marking) → Worked w F D F' D' n → Stands F D m → Stands F' D' (working w m)
-stands-work w m k s =
+pub stands_work : {F D F' D' : List Bool} {n : ℕ} (w : Work) (m : Marking) → Worked w F D F' D' n → Stands F D m → Stands F' D' (working w m)
+stands_work w m k s =
     record {
       filled = λ i h. k.filled.each i h ∙ ap (λ (x : Bool). x || among (fills w) i) (s.filled i h);
       drawn = λ i h. k.drawn.each i h ∙ ap₂ (λ (x y : Bool). x || (among (draws w) i && not y)) (s.drawn i h) (s.filled i h);
@@ -67,13 +67,13 @@ stands-work w m k s =
 -- on the way over working records
 pub record Going (s : List ℕ) (rest : List Record) (m : Marking) (F D : List Bool) (at : ℕ) : Type 0 where
   pub left : List Record
-  pub there : drop at s ≡ encodeAll left
+  pub there : drop at s ≡ encode_all left
   pub behind : Marking
   pub stands : Stands F D behind
   pub scans : (b : List Work) → scan b rest m ≡ scan b left behind
   pub passes : through (works rest) m ≡ through (works left) behind
 
-pub going_start : {F D : List Bool} (s : List ℕ) (at : ℕ) (rest : List Record) (m : Marking) → drop at s ≡ encodeAll rest → Stands F D m → Going s rest m F D at
+pub going_start : {F D : List Bool} (s : List ℕ) (at : ℕ) (rest : List Record) (m : Marking) → drop at s ≡ encode_all rest → Stands F D m → Going s rest m F D at
 going_start s at rest m e st = record { left = rest; there = e; behind = m; stands = st; scans = λ b. refl; passes = refl }
 
 -- the code's part of a slice, from a position on
@@ -91,29 +91,29 @@ module _ {F D F' D' : List Bool} (s : List ℕ) (rest : List Record) (m : Markin
       other : {A : Type 0} → Still F D F' D' n → A
       other k = absurd (z k.none)
 
-      go : (left : List Record) → drop at s ≡ encodeAll left → ((b : List Work) → scan b rest m ≡ scan b left g.behind)
+      go : (left : List Record) → drop at s ≡ encode_all left → ((b : List Work) → scan b rest m ≡ scan b left g.behind)
           → through (works rest) m ≡ through (works left) g.behind → Going s rest m F' D' (at + n)
       go [] e c p = left-none s at e h
       go (Record.Work w ∷ rs) e c p =
-          let k = d.does (Record.Work w) (encodeAll rs) e in
+          let k = d.does (Record.Work w) (encode_all rs) e in
           record {
             left = rs;
             there = behind s at n (Record.Work w) rs e k.long;
             behind = working w g.behind;
-            stands = stands-work w g.behind k g.stands;
+            stands = stands_work w g.behind k g.stands;
             scans = c;
             passes = p;
           }
-      go (Record.Label l ∷ rs) e c p = other (d.does (Record.Label l) (encodeAll rs) e)
-      go (Record.Branch l ∷ rs) e c p = other (d.does (Record.Branch l) (encodeAll rs) e)
-      go (Record.Call l ∷ rs) e c p = other (d.does (Record.Call l) (encodeAll rs) e)
-      go (Record.BranchIf a l b ∷ rs) e c p = other (d.does (Record.BranchIf a l b) (encodeAll rs) e)
+      go (Record.Label l ∷ rs) e c p = other (d.does (Record.Label l) (encode_all rs) e)
+      go (Record.Branch l ∷ rs) e c p = other (d.does (Record.Branch l) (encode_all rs) e)
+      go (Record.Call l ∷ rs) e c p = other (d.does (Record.Call l) (encode_all rs) e)
+      go (Record.BranchIf a l b ∷ rs) e c p = other (d.does (Record.BranchIf a l b) (encode_all rs) e)
 
   pub going-stops : n ≡ 0 → Going s rest m F D at → Led s rest m F' D' at
   unfolding works
   going-stops z g = go g.left g.there g.scans g.passes
     where
-      stop : (left : List Record) → drop at s ≡ encodeAll left → works left ≡ [] → ((b : List Work) → scan b rest m ≡ scan b left g.behind)
+      stop : (left : List Record) → drop at s ≡ encode_all left → works left ≡ [] → ((b : List Work) → scan b rest m ≡ scan b left g.behind)
           → through (works rest) m ≡ g.behind → Still F D F' D' n → Led s rest m F' D' at
       stop left e w c p k =
           record {
@@ -126,64 +126,64 @@ module _ {F D F' D' : List Bool} (s : List ℕ) (rest : List Record) (m : Markin
             passes = p;
           }
 
-      go : (left : List Record) → drop at s ≡ encodeAll left → ((b : List Work) → scan b rest m ≡ scan b left g.behind)
+      go : (left : List Record) → drop at s ≡ encode_all left → ((b : List Work) → scan b rest m ≡ scan b left g.behind)
           → through (works rest) m ≡ through (works left) g.behind → Led s rest m F' D' at
       go [] e c p = left-none s at e h
       go (Record.Work w ∷ rs) e c p =
-          let k = (d.does (Record.Work w) (encodeAll rs) e).long in
-          let l = encode-long (Record.Work w) in
+          let k = (d.does (Record.Work w) (encode_all rs) e).long in
+          let l = encode_long (Record.Work w) in
           absurd (omega (arith, k, l))
-      go (Record.Label l ∷ rs) e c p = stop (Record.Label l ∷ rs) e refl c p (d.does (Record.Label l) (encodeAll rs) e)
-      go (Record.Branch l ∷ rs) e c p = stop (Record.Branch l ∷ rs) e refl c p (d.does (Record.Branch l) (encodeAll rs) e)
-      go (Record.Call l ∷ rs) e c p = stop (Record.Call l ∷ rs) e refl c p (d.does (Record.Call l) (encodeAll rs) e)
-      go (Record.BranchIf a l b ∷ rs) e c p = stop (Record.BranchIf a l b ∷ rs) e refl c p (d.does (Record.BranchIf a l b) (encodeAll rs) e)
+      go (Record.Label l ∷ rs) e c p = stop (Record.Label l ∷ rs) e refl c p (d.does (Record.Label l) (encode_all rs) e)
+      go (Record.Branch l ∷ rs) e c p = stop (Record.Branch l ∷ rs) e refl c p (d.does (Record.Branch l) (encode_all rs) e)
+      go (Record.Call l ∷ rs) e c p = stop (Record.Call l ∷ rs) e refl c p (d.does (Record.Call l) (encode_all rs) e)
+      go (Record.BranchIf a l b ∷ rs) e c p = stop (Record.BranchIf a l b ∷ rs) e refl c p (d.does (Record.BranchIf a l b) (encode_all rs) e)
 
-pub going-ends : {F D : List Bool} (s : List ℕ) (rest : List Record) (m : Marking) (at : ℕ) → length s ≤ at → Going s rest m F D at → Led s rest m F D at
+pub going_ends : {F D : List Bool} (s : List ℕ) (rest : List Record) (m : Marking) (at : ℕ) → length s ≤ at → Going s rest m F D at → Led s rest m F D at
 unfolding works
-going-ends {F} {D} s rest m at h g = go g.left g.there g.scans g.passes
+going_ends {F} {D} s rest m at h g = go g.left g.there g.scans g.passes
   where
-    go : (left : List Record) → drop at s ≡ encodeAll left → ((b : List Work) → scan b rest m ≡ scan b left g.behind)
+    go : (left : List Record) → drop at s ≡ encode_all left → ((b : List Work) → scan b rest m ≡ scan b left g.behind)
         → through (works rest) m ≡ through (works left) g.behind → Led s rest m F D at
     go [] e c p = record { left = []; there = e; stopped = refl; behind = g.behind; stands = g.stands; scans = c; passes = p }
-    go (r ∷ rs) e c p = left-some s at r rs e h
+    go (r ∷ rs) e c p = left_some s at r rs e h
 
 -- the first Label 1
-pub block-test : (r : Record) (rest : List ℕ) → (eqb (u16At (encode r ++ rest) 2) 14 && eqb (get_or (encode r ++ rest) 4 0) 1) ≡ isLabel 1 r
-unfolding recordOf u16At isLabel
-block-test (Record.Work (Work.Uni op dst s1)) rest = refl
-block-test (Record.Work (Work.Bi op dst s1 s2)) rest = refl
-block-test (Record.Work (Work.Mov dst s1)) rest = refl
-block-test (Record.Work (Work.Load dst p)) rest = refl
-block-test (Record.Work (Work.Save src p)) rest = refl
-block-test (Record.Work (Work.LoadConst dst idx)) rest = refl
-block-test (Record.Work (Work.Fused op dst a b c)) rest = refl
-block-test (Record.Work (Work.IfElse dst t f p)) rest = refl
-block-test (Record.Work (Work.LoadComplex xd yd p)) rest = refl
-block-test (Record.Work (Work.SaveComplex xs ys p)) rest = refl
-block-test (Record.Work (Work.ComplexBi op xd yd x1 y1 x2 y2)) rest = refl
-block-test (Record.Label l) rest = refl
-block-test (Record.Branch l) rest = refl
-block-test (Record.Call l) rest = refl
-block-test (Record.BranchIf c l e) rest = refl
+pub block_test : (r : Record) (rest : List ℕ) → (eqb (u16_at (encode r ++ rest) 2) 14 && eqb (get_or (encode r ++ rest) 4 0) 1) ≡ is_label 1 r
+unfolding record_of u16_at is_label
+block_test (Record.Work (Work.Uni op dst s1)) rest = refl
+block_test (Record.Work (Work.Bi op dst s1 s2)) rest = refl
+block_test (Record.Work (Work.Mov dst s1)) rest = refl
+block_test (Record.Work (Work.Load dst p)) rest = refl
+block_test (Record.Work (Work.Save src p)) rest = refl
+block_test (Record.Work (Work.LoadConst dst idx)) rest = refl
+block_test (Record.Work (Work.Fused op dst a b c)) rest = refl
+block_test (Record.Work (Work.IfElse dst t f p)) rest = refl
+block_test (Record.Work (Work.LoadComplex xd yd p)) rest = refl
+block_test (Record.Work (Work.SaveComplex xs ys p)) rest = refl
+block_test (Record.Work (Work.ComplexBi op xd yd x1 y1 x2 y2)) rest = refl
+block_test (Record.Label l) rest = refl
+block_test (Record.Branch l) rest = refl
+block_test (Record.Call l) rest = refl
+block_test (Record.BranchIf c l e) rest = refl
 
 pub record Seeking (s : List ℕ) (rs : List Record) (at : ℕ) : Type 0 where
   pub left : List Record
-  pub there : drop at s ≡ encodeAll left
+  pub there : drop at s ≡ encode_all left
   pub ahead : drop 1 (seek 1 rs) ≡ drop 1 (seek 1 left)
 
-module _ (s : List ℕ) (rs : List Record) (at n : ℕ) (t : Bool) (l : n ≡ u16At (from s at) 0)
-    (b : t ≡ (eqb (u16At (from s at) 2) 14 && eqb (get_or (from s at) 4 0) 1)) (h : at < length s) where
-  long-by : (r : Record) (q : List Record) → drop at s ≡ encodeAll (r ∷ q) → n ≡ length (encode r)
-  long-by r q e = l ∙ ap (λ (x : List ℕ). u16At x 0) (part s at ∙ e) ∙ encoded-length r (encodeAll q)
+module _ (s : List ℕ) (rs : List Record) (at n : ℕ) (t : Bool) (l : n ≡ u16_at (from s at) 0)
+    (b : t ≡ (eqb (u16_at (from s at) 2) 14 && eqb (get_or (from s at) 4 0) 1)) (h : at < length s) where
+  long-by : (r : Record) (q : List Record) → drop at s ≡ encode_all (r ∷ q) → n ≡ length (encode r)
+  long-by r q e = l ∙ ap (λ (x : List ℕ). u16_at x 0) (part s at ∙ e) ∙ encoded-length r (encode_all q)
 
-  test_by : (r : Record) (q : List Record) → drop at s ≡ encodeAll (r ∷ q) → t ≡ isLabel 1 r
-  test_by r q e = b ∙ ap (λ (x : List ℕ). eqb (u16At x 2) 14 && eqb (get_or x 4 0) 1) (part s at ∙ e) ∙ block-test r (encodeAll q)
+  test_by : (r : Record) (q : List Record) → drop at s ≡ encode_all (r ∷ q) → t ≡ is_label 1 r
+  test_by r q e = b ∙ ap (λ (x : List ℕ). eqb (u16_at x 2) 14 && eqb (get_or x 4 0) 1) (part s at ∙ e) ∙ block_test r (encode_all q)
 
   pub seeking-on : t ≡ false → Seeking s rs at → Seeking s rs (at + n)
   unfolding seek
   seeking-on f g = go g.left g.there g.ahead
     where
-      go : (left : List Record) → drop at s ≡ encodeAll left → drop 1 (seek 1 rs) ≡ drop 1 (seek 1 left) → Seeking s rs (at + n)
+      go : (left : List Record) → drop at s ≡ encode_all left → drop 1 (seek 1 rs) ≡ drop 1 (seek 1 left) → Seeking s rs (at + n)
       go [] e a = left-none s at e h
       go (r ∷ q) e a =
           record {
@@ -192,34 +192,34 @@ module _ (s : List ℕ) (rs : List Record) (at n : ℕ) (t : Bool) (l : n ≡ u1
             ahead = a ∙ ap (λ (x : Bool). drop 1 (cond x (r ∷ q) (seek 1 q))) (sym (test_by r q e) ∙ f);
           }
 
-  pub seeking-found : t ≡ true → Seeking s rs at → drop (at + n) s ≡ encodeAll (drop 1 (seek 1 rs))
+  pub seeking-found : t ≡ true → Seeking s rs at → drop (at + n) s ≡ encode_all (drop 1 (seek 1 rs))
   unfolding seek
   seeking-found f g = go g.left g.there g.ahead
     where
-      go : (left : List Record) → drop at s ≡ encodeAll left → drop 1 (seek 1 rs) ≡ drop 1 (seek 1 left) → drop (at + n) s ≡ encodeAll (drop 1 (seek 1 rs))
+      go : (left : List Record) → drop at s ≡ encode_all left → drop 1 (seek 1 rs) ≡ drop 1 (seek 1 left) → drop (at + n) s ≡ encode_all (drop 1 (seek 1 rs))
       go [] e a = left-none s at e h
       go (r ∷ q) e a =
           behind s at n r q e (long-by r q e)
-          ∙ ap encodeAll (sym (a ∙ ap (λ (x : Bool). drop 1 (cond x (r ∷ q) (seek 1 q))) (sym (test_by r q e) ∙ f)))
+          ∙ ap encode_all (sym (a ∙ ap (λ (x : Bool). drop 1 (cond x (r ∷ q) (seek 1 q))) (sym (test_by r q e) ∙ f)))
 
   pub seeking-long : Seeking s rs at → n ≡ 0 → ⊥
   seeking-long g z = go g.left g.there
     where
-      go : (left : List Record) → drop at s ≡ encodeAll left → ⊥
+      go : (left : List Record) → drop at s ≡ encode_all left → ⊥
       go [] e = left-none s at e h
-      go (r ∷ q) e = let k = long-by r q e in let j = encode-long r in absurd (omega (arith, k, j))
+      go (r ∷ q) e = let k = long-by r q e in let j = encode_long r in absurd (omega (arith, k, j))
 
-pub seeking-none : (s : List ℕ) (rs : List Record) (at : ℕ) → length s ≤ at → Seeking s rs at → drop at s ≡ encodeAll (drop 1 (seek 1 rs))
+pub seeking_none : (s : List ℕ) (rs : List Record) (at : ℕ) → length s ≤ at → Seeking s rs at → drop at s ≡ encode_all (drop 1 (seek 1 rs))
 unfolding seek
-seeking-none s rs at h g = go g.left g.there g.ahead
+seeking_none s rs at h g = go g.left g.there g.ahead
   where
-    go : (left : List Record) → drop at s ≡ encodeAll left → drop 1 (seek 1 rs) ≡ drop 1 (seek 1 left) → drop at s ≡ encodeAll (drop 1 (seek 1 rs))
-    go [] e a = e ∙ ap encodeAll (sym a)
-    go (r ∷ q) e a = left-some s at r q e h
+    go : (left : List Record) → drop at s ≡ encode_all left → drop 1 (seek 1 rs) ≡ drop 1 (seek 1 left) → drop at s ≡ encode_all (drop 1 (seek 1 rs))
+    go [] e a = e ∙ ap encode_all (sym a)
+    go (r ∷ q) e a = left_some s at r q e h
 
 -- the block's marks
-pub block-by : {F D F' D' : List Bool} (s : List ℕ) (from at : ℕ) → BlockAt s from → Straight s from F D F' D' at → BlockMarked s F D F' D'
+pub block_by : {F D F' D' : List Bool} (s : List ℕ) (from at : ℕ) → BlockAt s from → Straight s from F D F' D' at → BlockMarked s F D F' D'
 unfolding block
-block-by {F} {D} {F'} {D'} s from at b t rs e st =
+block_by {F} {D} {F'} {D'} s from at b t rs e st =
     let l = t.leads (drop 1 (seek 1 rs)) start (b rs e) st in
     subst (Stands F' D') (sym l.passes) l.stands

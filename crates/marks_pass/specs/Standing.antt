@@ -4,13 +4,13 @@ use Rattle.std.specs.Prelude.{ℕ, zero, suc, ◌+◌, ◌*◌, ◌-◌, ◌<◌
 use Rattle.std.specs.Int.Bits.{bit_or}
 use Rattle.mir.specs.declared.records.Work.{Work}
 use Rattle.mir.specs.declared.records.Record.{Record}
-use Rattle.mir.specs.Encode.{encode, encodeWork, encodeAll}
+use Rattle.mir.specs.Encode.{encode, encode_work, encode_all}
 use Rattle.player_machine.specs.Machine.{works, seek, block}
 use Rattle.player_machine.specs.Draws.{draws, fills}
 use Rattle.marks.specs.Marks.{Set, among, everything, join, meet, without, Marking, start, through, noted, step, scan}
 use Rattle.marks.specs.Marks as Def
 use Rattle.marks_pass.specs.declared.Marks.{Marks}
-use Rattle.marks_pass.specs.Pass.{marksOf}
+use Rattle.marks_pass.specs.Pass.{marks_of}
 
 -- an array as a set, and the table of ways as the sets of labels
 abbrev pub held : List Bool → Set
@@ -45,12 +45,12 @@ pub record Marked (m n a b c d x y : ℕ) (F D F' D' : List Bool) : Type 0 where
   pub filled : Filled F (bit_or x n ∷ bit_or y n ∷ []) F'
 
 -- six registers are filled
-abbrev pub allHeld : List Bool → ℕ → ℕ → ℕ → ℕ → ℕ → ℕ → Bool
-allHeld F a b c d x y = held F a && held F b && held F c && held F d && held F x && held F y
+abbrev pub all_held : List Bool → ℕ → ℕ → ℕ → ℕ → ℕ → ℕ → Bool
+all_held F a b c d x y = held F a && held F b && held F c && held F d && held F x && held F y
 
 -- a working record that bytes begin with, by its length; any other changes nothing
 pub record Worked (w : Work) (F D F' D' : List Bool) (n : ℕ) : Type 0 where
-  pub long : n ≡ length (encodeWork w)
+  pub long : n ≡ length (encode_work w)
   pub drawn : Drawn F D (draws w) D'
   pub filled : Filled F (fills w) F'
 
@@ -73,7 +73,7 @@ pub record Does (s : List ℕ) (F D F' D' : List Bool) (n : ℕ) : Type 0 where
 -- behind the working records that stand first
 pub record Led (s : List ℕ) (rest : List Record) (m : Marking) (F D : List Bool) (at : ℕ) : Type 0 where
   pub left : List Record
-  pub there : drop at s ≡ encodeAll left
+  pub there : drop at s ≡ encode_all left
   pub stopped : works left ≡ []
   pub behind : Marking
   pub stands : Stands F D behind
@@ -82,14 +82,14 @@ pub record Led (s : List ℕ) (rest : List Record) (m : Marking) (F D : List Boo
 
 pub record Straight (s : List ℕ) (from : ℕ) (F D F' D' : List Bool) (at : ℕ) : Type 0 where
   pub on : from ≤ at
-  pub leads : (rest : List Record) (m : Marking) → drop from s ≡ encodeAll rest → Stands F D m → Led s rest m F' D' at
+  pub leads : (rest : List Record) (m : Marking) → drop from s ≡ encode_all rest → Stands F D m → Led s rest m F' D' at
 
 -- where the block begins, and its marks from the start
 abbrev pub BlockAt : List ℕ → ℕ → Type 0
-BlockAt s at = (rs : List Record) → s ≡ encodeAll rs → drop at s ≡ encodeAll (drop 1 (seek 1 rs))
+BlockAt s at = (rs : List Record) → s ≡ encode_all rs → drop at s ≡ encode_all (drop 1 (seek 1 rs))
 
 abbrev pub BlockMarked : List ℕ → List Bool → List Bool → List Bool → List Bool → Type 0
-BlockMarked s F D F' D' = (rs : List Record) → s ≡ encodeAll rs → Stands F D start → Stands F' D' (through (block rs) start)
+BlockMarked s F D F' D' = (rs : List Record) → s ≡ encode_all rs → Stands F D start → Stands F' D' (through (block rs) start)
 
 -- a Call by the block's marks
 pub record Called (F D fills draws F' D' : List Bool) : Type 0 where
@@ -131,8 +131,8 @@ abbrev pub Knows : List Record → Bool → List Bool → List Bool → Type 0
 Knows rs known F D = Stands F D (cond known (through (block rs) start) start)
 
 pub record CallsBlock (s : List ℕ) (known : Bool) (fills draws F D fills' draws' F' D' : List Bool) : Type 0 where
-  pub knows : (rs : List Record) → s ≡ encodeAll rs → Knows rs known fills draws → Knows rs true fills' draws'
-  pub stands : (rs : List Record) (m : Marking) → s ≡ encodeAll rs → Knows rs known fills draws → Stands F D m
+  pub knows : (rs : List Record) → s ≡ encode_all rs → Knows rs known fills draws → Knows rs true fills' draws'
+  pub stands : (rs : List Record) (m : Marking) → s ≡ encode_all rs → Knows rs known fills draws → Stands F D m
       → Stands F' D' (through (block rs) m)
 
 -- a record that is no working record
@@ -150,24 +150,24 @@ pub record All (rs : List Record) (known : Bool) (fills draws F D W : List Bool)
   pub ways : Ways W m.ways
 
 pub record Directed (listing s : List ℕ) (known : Bool) (fills draws F D W fills' draws' F' D' W' : List Bool) (r : ℕ) : Type 0 where
-  pub all : (rs : List Record) (rec : Record) (rest : List ℕ) (m : Marking) → listing ≡ encodeAll rs → s ≡ encode rec ++ rest → NoWork rec
+  pub all : (rs : List Record) (rec : Record) (rest : List ℕ) (m : Marking) → listing ≡ encode_all rs → s ≡ encode rec ++ rest → NoWork rec
       → (r ≡ 0 → ⊥) → All rs known fills draws F D W m → All rs (known || eqb r 2) fills' draws' F' D' W' (step (block rs) rec m)
   pub whole : (rec : Record) (rest : List ℕ) → s ≡ encode rec ++ rest → NoWork rec → 16896 ≤ length W → r ≡ 0 → ⊥
 
 -- behind the working records that stand first in a listing, and no branch so far
 abbrev pub Begun : List ℕ → List Bool → List Bool → ℕ → Type 0
-Begun s F D at = (rs : List Record) → s ≡ encodeAll rs → Led s rs start F D at
+Begun s F D at = (rs : List Record) → s ≡ encode_all rs → Led s rs start F D at
 
 abbrev pub NoWays : List Bool → Type 0
 NoWays W = Ways W start.ways
 
 -- all records
 pub record Passed (s : List ℕ) (W F' D' : List Bool) (r : Bool) : Type 0 where
-  pub marks : (rs : List Record) → s ≡ encodeAll rs → r ≡ true → Stands F' D' (Def.marking rs)
-  pub whole : (rs : List Record) → s ≡ encodeAll rs → 16896 ≤ length W → r ≡ true
+  pub marks : (rs : List Record) → s ≡ encode_all rs → r ≡ true → Stands F' D' (Def.marking rs)
+  pub whole : (rs : List Record) → s ≡ encode_all rs → 16896 ≤ length W → r ≡ true
 
 abbrev pub Ended : List ℕ → List Bool → List Bool → Bool → Type 0
-Ended s F D r = (rs : List Record) → s ≡ encodeAll rs → r ≡ true → Stands F D (Def.marking rs)
+Ended s F D r = (rs : List Record) → s ≡ encode_all rs → r ≡ true → Stands F D (Def.marking rs)
 
 -- the 66 marks of an array
 pub record First (all r : List Bool) : Type 0 where
@@ -175,4 +175,4 @@ pub record First (all r : List Bool) : Type 0 where
 
 -- what two arrays hold, where that are the marks of records
 abbrev pub AreMarks : List Bool → List Bool → Marks → Type 0
-AreMarks F D r = (rs : List Record) → Stands F D (Def.marking rs) → r ≡ marksOf rs
+AreMarks F D r = (rs : List Record) → Stands F D (Def.marking rs) → r ≡ marks_of rs

@@ -1,8 +1,8 @@
 // Which registers a listing draws on before they are filled, in one pass over its bytes.
 ghost use Rattle.std.specs.Prelude.{◌≡◌, List, length};
 ghost use Rattle.mir.specs.declared.records.Record.{Record};
-ghost use Rattle.mir.specs.Encode.{encodeAll};
-ghost use Rattle.marks_pass.specs.Pass.{marksOf};
+ghost use Rattle.mir.specs.Encode.{encode_all};
+ghost use Rattle.marks_pass.specs.Pass.{marks_of};
 ghost use Rattle.marks_pass.specs.Standing.{Begun, Ended, First, AreMarks};
 
 mod pass;
@@ -58,7 +58,7 @@ fn few_ways(listing: &[u8], from: usize, filled: &mut [bool], drawn: &mut [bool]
 
 // The marks with ways kept for every label.
 fn all_ways(listing: &[u8]) -> Marks
-    ensures { (rs : List Record) → listing.now ≡ encodeAll rs → result ≡ marksOf rs }
+    ensures { (rs : List Record) → listing.now ≡ encode_all rs → result ≡ marks_of rs }
 {
     let mut filled = [false; 256];
     let mut drawn = [false; 256];
@@ -70,7 +70,7 @@ fn all_ways(listing: &[u8]) -> Marks
 
 // The marks of the records whose bytes these are. Where only working records stand no ways are kept, and else those of labels 0 to 2 at first.
 pub fn marks_of(listing: &[u8]) -> Marks
-    ensures { (rs : List Record) → listing.now ≡ encodeAll rs → result ≡ marksOf rs }
+    ensures { (rs : List Record) → listing.now ≡ encode_all rs → result ≡ marks_of rs }
 {
     let mut filled = [false; 256];
     let mut drawn = [false; 256];

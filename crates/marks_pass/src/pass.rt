@@ -1,6 +1,6 @@
 // One pass over the records of a listing.
 ghost use Rattle.std.specs.Prelude.{◌≡◌, ◌&&◌, length, eqb};
-ghost use Rattle.mir.specs.Field.{byte_at, u16At};
+ghost use Rattle.mir.specs.Field.{byte_at, u16_at};
 ghost use Rattle.marks_pass.specs.Standing.{BlockAt, BlockMarked, CallsBlock, Directed, Begun, NoWays, Passed};
 
 use super::steps::{call, jump};
@@ -9,7 +9,7 @@ use mir::fields::{byte, u16_at};
 
 // Whether bytes begin with Label 1.
 fn at_block(s: &[u8]) -> bool
-    ensures { result ≡ (eqb (u16At s.now 2) 14 && eqb (byte_at s.now 4) 1) }
+    ensures { result ≡ (eqb (u16_at s.now 2) 14 && eqb (byte_at s.now 4) 1) }
 {
     if u16_at(s, 2) == 14 {
         byte(s, 4) == 1

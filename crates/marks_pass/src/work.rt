@@ -2,7 +2,7 @@
 // of registers is kept as 256 marks, one for each byte, of which the first 66 count.
 ghost use Rattle.std.specs.Prelude.{◌≤◌, ◌<◌, ◌+◌, ◌≡◌, cond, ◌&&◌, [], ◌∷◌, length, get_or, eqb};
 ghost use Rattle.marks_pass.specs.Table.{table};
-ghost use Rattle.marks_pass.specs.Standing.{Drawn, Filled, Marked, allHeld, Does, Straight};
+ghost use Rattle.marks_pass.specs.Standing.{Drawn, Filled, Marked, all_held, Does, Straight};
 
 use mir::fields::byte;
 
@@ -44,7 +44,7 @@ fn fill(filled: &mut [bool], r: u8)
 // Whether six registers are filled.
 fn quiet(a: u8, b: u8, c: u8, d: u8, x: u8, y: u8, filled: &[bool]) -> bool
     requires { length filled.now ≡ 256 }
-    ensures { result ≡ allHeld filled.now a b c d x y }
+    ensures { result ≡ all_held filled.now a b c d x y }
 {
     filled[a as usize]
         & filled[b as usize]

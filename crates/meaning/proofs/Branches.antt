@@ -11,10 +11,10 @@ use Rattle.mir.specs.declared.records.Record.{Record}
 use Rattle.mir.specs.declared.records.Instruction.{Instruction}
 use Rattle.mir.specs.Register.{re, im}
 use Rattle.sheet.specs.declared.setup.Mode.{Mode}
-use Rattle.sheet.specs.Setup.{isStable}
-use Rattle.player_machine.specs.Machine.{Store, at, isLabel, branches, End, ticks, Way, going, seeking, play, reach}
+use Rattle.sheet.specs.Setup.{is_stable}
+use Rattle.player_machine.specs.Machine.{Store, at, is_label, branches, End, ticks, Way, going, seeking, play, reach}
 use Rattle.lowering.specs.declared.realness.Realness.{Realness}
-use Rattle.lowering.specs.Realness.{isRealReg}
+use Rattle.lowering.specs.Realness.{is_real_reg}
 use Rattle.lowering.specs.Complexifier as c
 use Rattle.lowering.specs.Complexifier.{State, then, unlisted}
 use Rattle.lowering.specs.Rerun.{rerun, complexify}
@@ -24,13 +24,13 @@ use Rattle.leftovers.proofs.Sought.{some_inj}
 use Rattle.leftovers.proofs.Moves.{OwnWay, working, labelled, branched, decided}
 use Rattle.leftovers.proofs.Instructions.{AllIn, Works}
 use Rattle.leftovers.proofs.Listing.{grows, stays}
-use Rattle.leftovers.proofs.Branches.{Kind, works, label, branch, branchIf, moves, Kinds, Meets, meetsBy, either, Sound, standsAt, stands-suc, works-role}
-use Rattle.meaning.specs.Value.{R, reOf}
+use Rattle.leftovers.proofs.Branches.{Kind, works, label, branch, branch_if, moves, Kinds, Meets, MeetsBy, Either, Sound, stands_at, stands-suc, works_role}
+use Rattle.meaning.specs.Value.{R, re_of}
 use Rattle.meaning.specs.Means as Means
-use Rattle.meaning.specs.Means.{Values, means, goes, isLabelBy, walked, stands}
+use Rattle.meaning.specs.Means.{Values, means, goes, is_label_by, walked, stands}
 use Rattle.meaning.proofs.Leaf.{Ready}
 use Rattle.meaning.proofs.Stretch.{real-word}
-use Rattle.meaning.proofs.Table.{Begins, begins-then, begins-grown}
+use Rattle.meaning.proofs.Table.{Begins, begins_then, begins_grown}
 use Rattle.meaning.proofs.Rooting.{RootBlock}
 use Rattle.meaning.proofs.Instructions.{Gives, rerun-tells}
 
@@ -45,27 +45,27 @@ none≢some e = subst is_some (sym e) tt
 -- no operand is barred
 abbrev pub Free : Mode → List Instruction → State → Type 0
 Free m [] s = Unit {0}
-Free m (i ∷ is) s = (barred (isStable m) i s.real ≡ false) × Free m is (rerun m i s).after
+Free m (i ∷ is) s = (barred (is_stable m) i s.real ≡ false) × Free m is (rerun m i s).after
 
-works-goes : (i : Instruction) (X : Values) → Works i → goes i X ≡ going
+works_goes : (i : Instruction) (X : Values) → Works i → goes i X ≡ going
 unfolding goes
-works-goes Instruction.Nop X z = refl
-works-goes (Instruction.Uni op d a) X z = refl
-works-goes (Instruction.Bi op d a b) X z = refl
-works-goes (Instruction.Mov d a) X z = refl
-works-goes (Instruction.Load d p) X z = refl
-works-goes (Instruction.Save a p) X z = refl
-works-goes (Instruction.LoadConst d i) X z = refl
-works-goes (Instruction.Fused op d a b c) X z = refl
-works-goes (Instruction.IfElse d a b p) X z = refl
-works-goes (Instruction.LoadMath op d a p) X z = refl
-works-goes (Instruction.LoadConstMath op d a i) X z = refl
-works-goes (Instruction.Label l) X z = absurd z
-works-goes (Instruction.Branch l) X z = absurd z
-works-goes (Instruction.BranchIf c l e) X z = absurd z
+works_goes Instruction.Nop X z = refl
+works_goes (Instruction.Uni op d a) X z = refl
+works_goes (Instruction.Bi op d a b) X z = refl
+works_goes (Instruction.Mov d a) X z = refl
+works_goes (Instruction.Load d p) X z = refl
+works_goes (Instruction.Save a p) X z = refl
+works_goes (Instruction.LoadConst d i) X z = refl
+works_goes (Instruction.Fused op d a b c) X z = refl
+works_goes (Instruction.IfElse d a b p) X z = refl
+works_goes (Instruction.LoadMath op d a p) X z = refl
+works_goes (Instruction.LoadConstMath op d a i) X z = refl
+works_goes (Instruction.Label l) X z = absurd z
+works_goes (Instruction.Branch l) X z = absurd z
+works_goes (Instruction.BranchIf c l e) X z = absurd z
 
-works-label : (i : Instruction) (l : ℕ) → Works i → Means.isLabel l i ≡ false
-works-label i l z = ap (isLabelBy l) (works-role i z)
+works_label : (i : Instruction) (l : ℕ) → Works i → Means.is_label l i ≡ false
+works_label i l z = ap (is_label_by l) (works_role i z)
 
 -- a word in front of others
 consed : ℕ → (ℕ → ℕ) → ℕ → ℕ
@@ -79,20 +79,20 @@ module _ (k : List ℕ) (B : List Work) (m : Mode) (κ : List ℕ) (front : Begi
   ReadyOn (seeking l) is s X σ = (ρ : Realness) × Meets k B m l ρ is s × Ready X ρ σ
 
   -- the way and the values behind an instruction
-  abbrev pub wayOn : Way → Instruction → Values → Way
-  wayOn going i X = goes i X
-  wayOn (seeking l) i X = cond (Means.isLabel l i) going (seeking l)
+  abbrev pub way_on : Way → Instruction → Values → Way
+  way_on going i X = goes i X
+  way_on (seeking l) i X = cond (Means.is_label l i) going (seeking l)
 
-  abbrev pub valuesOn : ℕ → Way → Instruction → Values → Values
-  valuesOn h going i X = means m κ h i X
-  valuesOn h (seeking l) i X = X
+  abbrev pub values_on : ℕ → Way → Instruction → Values → Values
+  values_on h going i X = means m κ h i X
+  values_on h (seeking l) i X = X
 
   pub record Turned {s : State} {i : Instruction} (q : Kind k B m s i) (is : List Instruction) (way : Way) (X : Values) (σ : Store) : Type 0 where
     pub lost : ℕ
-    pub way' : (moves k B m q).W way σ ≡ wayOn way i X
-    pub ready : ReadyOn (wayOn way i X) is (rerun m i s).after (valuesOn lost way i X) ((moves k B m q).F way σ)
+    pub way' : (moves k B m q).W way σ ≡ way_on way i X
+    pub ready : ReadyOn (way_on way i X) is (rerun m i s).after (values_on lost way i X) ((moves k B m q).F way σ)
 
-  at_label : (q : Bool) (l : ℕ) (is : List Instruction) (s : State) (X : Values) (σ : Store) (ρ : Realness) → either q (ρ ≡ s.real) (Meets k B m l ρ is s)
+  at_label : (q : Bool) (l : ℕ) (is : List Instruction) (s : State) (X : Values) (σ : Store) (ρ : Realness) → Either q (ρ ≡ s.real) (Meets k B m l ρ is s)
       → Ready X ρ σ → ReadyOn (cond q going (seeking l)) is s X σ
   at_label true l is s X σ ρ e g = subst (λ ρ. Ready X ρ σ) e g
   at_label false l is s X σ ρ e g = (ρ, e, g)
@@ -121,39 +121,39 @@ module _ (k : List ℕ) (B : List Work) (m : Mode) (κ : List ℕ) (front : Begi
       let T = f z g.records in
       record {
         lost = T.lost σ;
-        way' = sym (works-goes i X z);
+        way' = sym (works_goes i X z);
         ready =
-            subst (λ w. ReadyOn w is (rerun m i s).after (means m κ (T.lost σ) i X) (t.F σ)) (sym (works-goes i X z))
+            subst (λ w. ReadyOn w is (rerun m i s).after (means m κ (T.lost σ) i X) (t.F σ)) (sym (works_goes i X z))
             (subst (λ τ. Ready (means m κ (T.lost σ) i X) (rerun m i s).after.real τ)
             (one_store (rerun m i s).records T.F t.F T.stands t.stands σ) (T.ready X σ g));
       }
   turned {s} {i} (works z t) is (seeking l) X σ f d g =
       record {
         lost = 0;
-        way' = ap (λ q. cond q going (seeking l)) (sym (works-label i l z));
+        way' = ap (λ q. cond q going (seeking l)) (sym (works_label i l z));
         ready =
-            subst (λ q. ReadyOn (cond q going (seeking l)) is (rerun m i s).after X σ) (sym (works-label i l z))
-            (g.0, subst (λ r. meetsBy r l g.0 s.real (Meets k B m l g.0 is (rerun m i s).after)) (works-role i z) g.1, g.2);
+            subst (λ q. ReadyOn (cond q going (seeking l)) is (rerun m i s).after X σ) (sym (works_label i l z))
+            (g.0, subst (λ r. MeetsBy r l g.0 s.real (Meets k B m l g.0 is (rerun m i s).after)) (works_role i z) g.1, g.2);
       }
   turned (label n) is going X σ f d g = record { lost = 0; way' = refl; ready = g }
   turned {s} (label n) is (seeking l) X σ f d g =
       record { lost = 0; way' = refl; ready = at_label (eqb n l) l is s X σ g.0 g.1 g.2 }
   turned {s} (branch n v) is going X σ f d g = record { lost = 0; way' = refl; ready = (s.real, d.0, g) }
   turned (branch n v) is (seeking l) X σ f d g = record { lost = 0; way' = refl; ready = g }
-  turned {s} (branchIf r n e v w) is going X σ f d g =
+  turned {s} (branch_if r n e v w) is going X σ f d g =
       record {
         lost = 0;
         way' =
             ap (λ x. cond (branches e x) (seeking n) going)
-            (sym (real-word (isRealReg s.real r) (at σ (re r)) (at σ (im r))) ∙ ap reOf (g.holds.regs r v));
-        ready = at-branch (branches e (reOf (X.reg r))) n is s X σ d.0 g;
+            (sym (real-word (is_real_reg s.real r) (at σ (re r)) (at σ (im r))) ∙ ap re_of (g.holds.regs r v));
+        ready = at-branch (branches e (re_of (X.reg r))) n is s X σ d.0 g;
       }
-  turned (branchIf r n e v w) is (seeking l) X σ f d g = record { lost = 0; way' = refl; ready = g }
+  turned (branch_if r n e v w) is (seeking l) X σ f d g = record { lost = 0; way' = refl; ready = g }
 
   -- ---- one instruction after the other
 
   stands_on : (h : ℕ → ℕ) (way : Way) (n : ℕ) (i : Instruction) (is : List Instruction) (X : Values)
-      → stands m κ h way (suc n) (i ∷ is) X ≡ stands m κ (λ j. h (suc j)) (wayOn way i X) n is (valuesOn (h 0) way i X)
+      → stands m κ h way (suc n) (i ∷ is) X ≡ stands m κ (λ j. h (suc j)) (way_on way i X) n is (values_on (h 0) way i X)
   unfolding walked
   stands_on h going n i is X = refl
   stands_on h (seeking l) n i is X = refl
@@ -161,7 +161,7 @@ module _ (k : List ℕ) (B : List Work) (m : Mode) (κ : List ℕ) (front : Begi
   -- the play stands at a point with the values of the meaning
   pub record Holding (way : Way) (is : List Instruction) (s : State) (σ : Store) (n : ℕ) (Y : Values) : Type 0 where
     pub store : Store
-    pub reached : standsAt k B m way is s σ n ≡ some store
+    pub reached : stands_at k B m way is s σ n ≡ some store
     pub ready : Ready Y (complexify m (take n is) s).after.real store
 
   pub record Goes (way : Way) (is : List Instruction) (s : State) (X : Values) (σ : Store) : Type 0 where
@@ -174,13 +174,13 @@ module _ (k : List ℕ) (B : List Work) (m : Mode) (κ : List ℕ) (front : Begi
   -- where the first instruction stands
   at_first : {s : State} {i : Instruction} (q : Kind k B m s i) (is : List Instruction) (way : Way) (h : ℕ → ℕ) (X : Values) (σ : Store) (Y : Values)
       → ReadyOn way (i ∷ is) s X σ → stands m κ h way 0 (i ∷ is) X ≡ some Y → Holding way (i ∷ is) s σ 0 Y
-  unfolding walked complexify then unlisted reach isLabel rerun c.directed role
+  unfolding walked complexify then unlisted reach is_label rerun c.directed role
   at_first {s} q is going h X σ Y g e = record { store = σ; reached = refl; ready = subst (λ Y. Ready Y s.real σ) (some_inj e) g }
   at_first {s} {i} (works z t) is (seeking l) h X σ Y g e =
-      absurd (none≢some (ap (λ q. cond q (some X) none) (sym (works-label i l z)) ∙ e))
+      absurd (none≢some (ap (λ q. cond q (some X) none) (sym (works_label i l z)) ∙ e))
   at_first {s} (label n) is (seeking l) h X σ Y g e = go (eqb n l) refl e g.1
     where
-      go : (q : Bool) → eqb n l ≡ q → cond q (some X) none ≡ some Y → either q (g.0 ≡ s.real) (Meets k B m l g.0 is s)
+      go : (q : Bool) → eqb n l ≡ q → cond q (some X) none ≡ some Y → Either q (g.0 ≡ s.real) (Meets k B m l g.0 is s)
           → Holding (seeking l) (Instruction.Label n ∷ is) s σ 0 Y
       go true f e r =
           record {
@@ -190,12 +190,12 @@ module _ (k : List ℕ) (B : List Work) (m : Mode) (κ : List ℕ) (front : Begi
           }
       go false f e r = absurd (none≢some e)
   at_first (branch n v) is (seeking l) h X σ Y g e = absurd (none≢some e)
-  at_first (branchIf r n f v w) is (seeking l) h X σ Y g e = absurd (none≢some e)
+  at_first (branch_if r n f v w) is (seeking l) h X σ Y g e = absurd (none≢some e)
 
   -- an instruction in front
   onward : {s : State} {i : Instruction} (q : Kind k B m s i) (is : List Instruction) (way : Way) (X : Values) (σ : Store) → OwnWay way
       → ReadyOn way (i ∷ is) s X σ → (T : Turned q is way X σ)
-      → Goes (wayOn way i X) is (rerun m i s).after (valuesOn T.lost way i X) ((moves k B m q).F way σ) → Goes way (i ∷ is) s X σ
+      → Goes (way_on way i X) is (rerun m i s).after (values_on T.lost way i X) ((moves k B m q).F way σ) → Goes way (i ∷ is) s X σ
   unfolding complexify then ticks consed
   onward {s} {i} q is way X σ o g T r = record {
     lost = consed T.lost r.lost;
@@ -217,12 +217,12 @@ module _ (k : List ℕ) (B : List Work) (m : Mode) (κ : List ℕ) (front : Begi
             store = h.store;
             reached =
                 stands-suc k B m i is s q way o σ n
-                ∙ ap (λ (w : Way). standsAt k B m w is (rerun m i s).after ((moves k B m q).F way σ) n) T.way' ∙ h.reached;
+                ∙ ap (λ (w : Way). stands_at k B m w is (rerun m i s).after ((moves k B m q).F way σ) n) T.way' ∙ h.reached;
             ready = h.ready;
           }
 
   pub walks : (is : List Instruction) (s : State) → Kinds k B m is s → AllIn (length κ) is → Free m is s
-      → ((complexify m is s).after.rootDefined ≡ true → RootBlock (isStable m) k B) → Begins (complexify m is s).after.consts k
+      → ((complexify m is s).after.is_root_defined ≡ true → RootBlock (is_stable m) k B) → Begins (complexify m is s).after.consts k
       → (way : Way) (X : Values) (σ : Store) → OwnWay way → Sound k B m is s → ReadyOn way is s X σ → Goes way is s X σ
   unfolding complexify then unlisted walked play reach consed ticks
   walks [] s q v w b c going X σ o d g = record {
@@ -242,7 +242,7 @@ module _ (k : List ℕ) (B : List Work) (m : Mode) (κ : List ℕ) (front : Begi
       let M = moves k B m q.0 in
       let T = turned q.0 is way X σ
       (λ z n. unfold Tells in rerun-tells k B m κ front i s z v.0 n w.0 (λ e. b (stays m (length κ) is s' v.1 e).0)
-      (begins-then (begins-grown (grows m is s')) c)) d g in
-      let R = walks is s' q.1 v.1 w.1 b c (wayOn way i X) (valuesOn T.lost way i X) (M.F way σ)
+      (begins_then (begins_grown (grows m is s')) c)) d g in
+      let R = walks is s' q.1 v.1 w.1 b c (way_on way i X) (values_on T.lost way i X) (M.F way σ)
       (subst OwnWay T.way' (M.own way σ o)) d.1 T.ready in
       onward q.0 is way X σ o g T R

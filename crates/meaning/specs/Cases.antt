@@ -6,11 +6,11 @@ use Rattle.mir.specs.declared.ops.UniOp.{UniOp}
 use Rattle.mir.specs.declared.ops.BinOp.{BinOp}
 use Rattle.mir.specs.declared.ops.FusedOp.{FusedOp}
 use Rattle.sheet.specs.declared.setup.Mode.{Mode}
-use Rattle.float.specs.Root.{squareRoot}
-use Rattle.float.specs.Fused.{fusedMultiplyAdd}
-use Rattle.float.specs.Integral.{roundToIntegral}
+use Rattle.float.specs.Root.{square_root}
+use Rattle.float.specs.Fused.{fused_multiply_add}
+use Rattle.float.specs.Integral.{round_to_integral}
 use Rattle.meaning.specs.Value as Value
-use Rattle.meaning.specs.Value.{Value, R, C, ofOne, ofTwo, fused, chosen}
+use Rattle.meaning.specs.Value.{Value, R, C, of_one, of_two, fused, chosen}
 
 -- an operation in a mode, its operands, and the value that it must give; Fused by its product; IfElse by its condition's word
 pub data Case : Type 0 where
@@ -21,8 +21,8 @@ pub data Case : Type 0 where
 
 -- what the table gives
 unfoldable tabled : Case → Value
-tabled (one m op v r) = ofOne m op v
-tabled (two m op v w r) = ofTwo m op v w
+tabled (one m op v r) = of_one m op v
+tabled (two m op v w r) = of_two m op v w
 tabled (three op p c r) = fused op p c
 tabled (choice c v w r) = chosen c v w
 
@@ -218,6 +218,6 @@ cases =
     ∷ choice 0 (C 0x4008_0000_0000_0000 0x4010_0000_0000_0000) (R 0x4018_0000_0000_0000) (C 0x4018_0000_0000_0000 0)
     ∷ []
 
-all-worked : map tabled cases ≡ map worked cases
-unfolding cases tabled worked ofOne ofTwo fused Value.reOf Value.imOf Value.each Value.plus Value.minus Value.times Value.quotient Value.bits Value.conjugate Value.timesI Value.timesNegI Value.abs2 Value.inverse Value.quotientIn Value.inverseIn Value.modulus Value.larger Value.realRootIn of_bits to_bits is_nan add sub mul div lt le eq ne squareRoot fusedMultiplyAdd roundToIntegral
-all-worked = refl
+all_worked : map tabled cases ≡ map worked cases
+unfolding cases tabled worked of_one of_two fused Value.re_of Value.im_of Value.each Value.plus Value.minus Value.times Value.quotient Value.bits Value.conjugate Value.times_i Value.times_neg_i Value.abs2 Value.inverse Value.quotient_in Value.inverse_in Value.modulus Value.larger Value.real_root_in of_bits to_bits is_nan add sub mul div lt le eq ne square_root fused_multiply_add round_to_integral
+all_worked = refl

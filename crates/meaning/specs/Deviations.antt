@@ -11,8 +11,8 @@ use Rattle.mir.specs.declared.records.Loc.{Loc}
 use Rattle.mir.specs.declared.records.Instruction.{Instruction}
 use Rattle.mir.specs.Register.{Ret, Temp}
 use Rattle.sheet.specs.declared.setup.Mode.{Mode}
-use Rattle.float.specs.Root.{squareRoot}
-use Rattle.float.specs.Fused.{fusedMultiplyAdd}
+use Rattle.float.specs.Root.{square_root}
+use Rattle.float.specs.Fused.{fused_multiply_add}
 use Rattle.meaning.specs.Value as Value
 use Rattle.meaning.specs.Value.{Value, R, C}
 use Rattle.meaning.specs.Means as Means
@@ -34,11 +34,11 @@ three = 0x4008_0000_0000_0000
 abbrev six : ℕ
 six = 0x4018_0000_0000_0000
 
-abbrev minusOne : ℕ
-minusOne = 0xbff0_0000_0000_0000
+abbrev minus_one : ℕ
+minus_one = 0xbff0_0000_0000_0000
 
-abbrev minusThree : ℕ
-minusThree = 0xc008_0000_0000_0000
+abbrev minus_three : ℕ
+minus_three = 0xc008_0000_0000_0000
 
 abbrev ones : ℕ
 ones = 0xffff_ffff_ffff_ffff
@@ -73,13 +73,13 @@ form m vs i w c r = record { mode = m; registers = vs; instruction = i; at = w; 
 unfoldable pub forms : List Form
 forms =
     -- 1: plain Divide of a real Temp by 1 + i does not read Temp
-    form Mode.Plain ((31, R six) ∷ (0, C one one) ∷ []) (Instruction.Bi BinOp.Divide 1 31 0) (register 1) (C one minusOne) (C three minusThree)
+    form Mode.Plain ((31, R six) ∷ (0, C one one) ∷ []) (Instruction.Bi BinOp.Divide 1 31 0) (register 1) (C one minus_one) (C three minus_three)
     -- 2: plain Divide of a real register by a complex Temp: 6 / (1 + i) is 6 - 3i; so every plain LoadMath Divide of one by a complex place
-    ∷ form Mode.Plain ((0, R six) ∷ (31, C one one) ∷ []) (Instruction.Bi BinOp.Divide 1 0 31) (register 1) (C six minusThree) (C three minusThree)
-    ∷ form Mode.Plain ((0, R six) ∷ []) (Instruction.LoadMath ArithOp.Divide 1 0 (Loc.Mem 0)) (register 1) (C six minusThree) (C three minusThree)
+    ∷ form Mode.Plain ((0, R six) ∷ (31, C one one) ∷ []) (Instruction.Bi BinOp.Divide 1 0 31) (register 1) (C six minus_three) (C three minus_three)
+    ∷ form Mode.Plain ((0, R six) ∷ []) (Instruction.LoadMath ArithOp.Divide 1 0 (Loc.Mem 0)) (register 1) (C six minus_three) (C three minus_three)
     -- 3: stable Divide by a complex register into Temp does not read the dividend
     ∷ form Mode.Stable ((1, C one one) ∷ []) (Instruction.Bi BinOp.Divide 31 0 1) (register 31) (C one 0) (C six 0)
-    ∷ form Mode.Stable ((0, R six) ∷ (1, C one one) ∷ []) (Instruction.Bi BinOp.Divide 31 0 1) (register 31) (C 0x3fe9_9999_9999_999a 0xbfe9_9999_9999_999a) (C three minusThree)
+    ∷ form Mode.Stable ((0, R six) ∷ (1, C one one) ∷ []) (Instruction.Bi BinOp.Divide 31 0 1) (register 31) (C 0x3fe9_9999_9999_999a 0xbfe9_9999_9999_999a) (C three minus_three)
     -- 4: IsZero and IsNotZero of Temp
     ∷ form Mode.Plain [] (Instruction.Uni UniOp.IsZero 1 31) (register 1) (R ones) (R 0)
     ∷ form Mode.Plain [] (Instruction.Uni UniOp.IsNotZero 1 31) (register 1) (R 0) (R ones)
@@ -103,7 +103,7 @@ forms =
     ∷ form Mode.Stable ((0, R six) ∷ (1, C one one) ∷ []) (Instruction.Bi BinOp.Divide 2 0 1) (register 31) (C 0x3ff8_0000_0000_0000 0xbff8_0000_0000_0000) (C six six)
     ∷ form Mode.Stable ((1, C one one) ∷ []) (Instruction.Bi BinOp.Divide 30 0 1) (register 31) (C half half) (C six six)
     -- stable Recip of a complex register, and plain Divide of a real by a complex one, which leaves the real half alone
-    ∷ form Mode.Stable ((0, C one one) ∷ []) (Instruction.Uni UniOp.Recip 1 0) (register 31) (C one minusOne) (C six six)
+    ∷ form Mode.Stable ((0, C one one) ∷ []) (Instruction.Uni UniOp.Recip 1 0) (register 31) (C one minus_one) (C six six)
     ∷ form Mode.Plain ((0, R six) ∷ (1, C one one) ∷ []) (Instruction.Bi BinOp.Divide 2 0 1) (register 31) (C two six) (C six six)
     -- 9: what is left in Ret, by Root and RealRoot of a complex register, by Fused, in its real half by stable Abs of a complex register, and
     -- by mode 2's Divide by a complex register into Temp
@@ -121,7 +121,7 @@ forms =
 unfoldable pub mended : List Form
 mended =
     form Mode.Minding ((1, C one one) ∷ []) (Instruction.Bi BinOp.Divide 31 0 1) (register 31) (C six 0) (C six 0)
-    ∷ form Mode.Minding ((0, R six) ∷ (1, C one one) ∷ []) (Instruction.Bi BinOp.Divide 31 0 1) (register 31) (C three minusThree) (C three minusThree)
+    ∷ form Mode.Minding ((0, R six) ∷ (1, C one one) ∷ []) (Instruction.Bi BinOp.Divide 31 0 1) (register 31) (C three minus_three) (C three minus_three)
     ∷ form Mode.Minding ((1, R one) ∷ []) (Instruction.Uni UniOp.Half 1 0) (register 1) (C three three) (C three three)
     ∷ form Mode.Minding ((0, R six) ∷ []) (Instruction.Uni UniOp.Half 1 0) (register 1) (R three) (R three)
     ∷ []
@@ -134,10 +134,10 @@ defined f = (
   seen f.at (row f.mode (three ∷ []) f.instruction (before f.registers)),
 )
 
-all-deviate : map defined forms ≡ map (λ (f : Form). (f.comes, f.wanted)) forms
-unfolding forms defined before seen means row Means.uni Means.divideBy Means.halves Means.realHalf Means.absLeaves Means.recipLeaves Means.realRootLeaves Means.halved Means.divideLeaves Means.intoTemp Value.ofOne Value.ofTwo Value.fused Value.reOf Value.imOf Value.each Value.plus Value.minus Value.times Value.quotient Value.bits Value.inverse Value.quotientIn Value.inverseIn Value.modulus Value.larger Value.realRootIn of_bits to_bits is_nan add sub mul div lt eq ne squareRoot fusedMultiplyAdd
-all-deviate = refl
+all_deviate : map defined forms ≡ map (λ (f : Form). (f.comes, f.wanted)) forms
+unfolding forms defined before seen means row Means.uni Means.divide_by Means.halves Means.real_half Means.abs_leaves Means.recip_leaves Means.real_root_leaves Means.halved Means.divide_leaves Means.into_temp Value.of_one Value.of_two Value.fused Value.re_of Value.im_of Value.each Value.plus Value.minus Value.times Value.quotient Value.bits Value.inverse Value.quotient_in Value.inverse_in Value.modulus Value.larger Value.real_root_in of_bits to_bits is_nan add sub mul div lt eq ne square_root fused_multiply_add
+all_deviate = refl
 
-all-mended : map defined mended ≡ map (λ (f : Form). (f.comes, f.wanted)) mended
-unfolding mended defined before seen means row Means.uni Means.divideBy Means.halves Means.realHalf Means.absLeaves Means.recipLeaves Means.realRootLeaves Means.halved Means.divideLeaves Means.intoTemp Value.ofOne Value.ofTwo Value.fused Value.reOf Value.imOf Value.each Value.plus Value.minus Value.times Value.quotient Value.bits Value.inverse Value.quotientIn Value.inverseIn Value.modulus Value.larger Value.realRootIn of_bits to_bits is_nan add sub mul div lt eq ne squareRoot fusedMultiplyAdd
-all-mended = refl
+all_mended : map defined mended ≡ map (λ (f : Form). (f.comes, f.wanted)) mended
+unfolding mended defined before seen means row Means.uni Means.divide_by Means.halves Means.real_half Means.abs_leaves Means.recip_leaves Means.real_root_leaves Means.halved Means.divide_leaves Means.into_temp Value.of_one Value.of_two Value.fused Value.re_of Value.im_of Value.each Value.plus Value.minus Value.times Value.quotient Value.bits Value.inverse Value.quotient_in Value.inverse_in Value.modulus Value.larger Value.real_root_in of_bits to_bits is_nan add sub mul div lt eq ne square_root fused_multiply_add
+all_mended = refl

@@ -3,7 +3,7 @@ use Rattle.std.specs.Prelude.{ℕ, suc, ◌≡◌, false, List, [], ◌∷◌, �
 use Rattle.mir.specs.declared.records.Loc.{Loc}
 use Rattle.player_machine.specs.Machine.{at, place}
 use Rattle.complexify.specs.Entry.{answer}
-use Rattle.leftovers.specs.Leftovers.{sheetOf, playOn}
+use Rattle.leftovers.specs.Leftovers.{sheet_of, play_on}
 use Rattle.leftovers.specs.Examples.{header, zeros}
 use Rattle.entries.specs.Examples.{bytes, words, names, left_of}
 use Rattle.meaning.specs.Settled.{Unmixed}
@@ -24,14 +24,14 @@ dividing =
     ∷ 8 ∷ 0 ∷ 2 ∷ 0 ∷ 3 ∷ 0 ∷ 0 ∷ 1
     ∷ 8 ∷ 0 ∷ 5 ∷ 0 ∷ 0 ∷ 1 ∷ 0 ∷ 0 ∷ []
 
--- the sheet is accepted and tidy, and x + iy is what its play saves to Mem 0 (theorem `tidyMet`: 3 - 3i of `dividing`)
+-- the sheet is accepted and tidy, and x + iy is what its play saves to Mem 0 (theorem `tidy_met`: 3 - 3i of `dividing`)
 pub record TidyMet (sheet : List ℕ) (x y : ℕ) : Type 0 where
   pub accepted : (answer sheet bytes words names).number ≡ 0
-  pub tidy : TidySheet false (sheetOf sheet)
-  pub real : at (playOn (left_of sheet) 0 zeros).store (place (Loc.Mem 0)) ≡ x
-  pub imaginary : at (playOn (left_of sheet) 0 zeros).store (suc (place (Loc.Mem 0))) ≡ y
+  pub tidy : TidySheet false (sheet_of sheet)
+  pub real : at (play_on (left_of sheet) 0 zeros).store (place (Loc.Mem 0)) ≡ x
+  pub imaginary : at (play_on (left_of sheet) 0 zeros).store (suc (place (Loc.Mem 0))) ≡ y
 
--- the sheet is accepted, and no Half of it loses a word (theorem `settledMet`: the Half of `clean`, of demand 3's examples)
+-- the sheet is accepted, and no Half of it loses a word (theorem `settled_met`: the Half of `clean`, of demand 3's examples)
 pub record SettledMet (sheet : List ℕ) : Type 0 where
   pub accepted : (answer sheet bytes words names).number ≡ 0
-  pub unmixed : Unmixed (sheetOf sheet)
+  pub unmixed : Unmixed (sheet_of sheet)

@@ -6,9 +6,9 @@ use Rattle.mir.specs.Register.{re, im}
 use Rattle.mir.specs.Place.{index}
 use Rattle.player_machine.specs.Machine.{Store, at, place, going}
 use Rattle.lowering.specs.declared.realness.Realness.{Realness}
-use Rattle.lowering.specs.Realness.{isRealReg, isRealLoc}
+use Rattle.lowering.specs.Realness.{is_real_reg, is_real_loc}
 use Rattle.complexify.specs.Entry.{answer}
-use Rattle.leftovers.specs.Leftovers.{Sheet, Lowered, real_at, playOn, standing}
+use Rattle.leftovers.specs.Leftovers.{Sheet, Lowered, real_at, play_on, standing}
 use Rattle.entries.specs.Entries.{left}
 use Rattle.meaning.specs.Value.{Value, R, C}
 use Rattle.meaning.specs.Means.{Values, stands}
@@ -22,8 +22,8 @@ value_of false x y = C x y
 abbrev pub values_of : Realness → Store → Values
 values_of ρ σ =
     record {
-      reg = λ r. value_of (isRealReg ρ r) (at σ (re r)) (at σ (im r));
-      place = λ p. value_of (isRealLoc ρ.places p) (at σ (place p)) (at σ (suc (place p)));
+      reg = λ r. value_of (is_real_reg ρ r) (at σ (re r)) (at σ (im r));
+      place = λ p. value_of (is_real_loc ρ.places p) (at σ (place p)) (at σ (suc (place p)));
     }
 
 -- A store holds the words of the registers below n and of the places in P, and what is recorded is whether they are real.
@@ -54,7 +54,7 @@ pub record Preserves (l : Lowered) (σ₀ : Store) : Type 0 where
   pub points : (j : ℕ) (X : Values) → meaning l.sheet lost σ₀ j ≡ some X → StandsWith 32 Every l σ₀ j X
   pub last : Values
   pub ends : meaning l.sheet lost σ₀ (length l.sheet.instructions) ≡ some last
-  pub ending : Holds 32 Every last l.last (playOn l 0 σ₀).store
+  pub ending : Holds 32 Every last l.last (play_on l 0 σ₀).store
 
 -- for every call of `lower` that answers 0 and every store on which `play` plays what it left (theorem `preserved`)
 abbrev pub Preserved : Type 0

@@ -6,7 +6,7 @@ use Rattle.mir.specs.declared.ops.UniOp.{UniOp}
 use Rattle.mir.specs.declared.ops.BinOp.{BinOp}
 use Rattle.mir.specs.declared.ops.FusedOp.{FusedOp}
 use Rattle.sheet.specs.declared.setup.Mode.{Mode}
-use Rattle.sheet.specs.Setup.{isStable}
+use Rattle.sheet.specs.Setup.{is_stable}
 use Rattle.float.specs.Word as Word
 
 -- a real number, one word; or a complex one, its real half and its imaginary half
@@ -19,17 +19,17 @@ isR (R x) = true
 isR (C x y) = false
 
 -- its halves: a real number's imaginary half is +0
-unfoldable pub reOf : Value → ℕ
-reOf (R x) = x
-reOf (C x y) = x
+unfoldable pub re_of : Value → ℕ
+re_of (R x) = x
+re_of (C x y) = x
 
-unfoldable pub imOf : Value → ℕ
-imOf (R x) = 0
-imOf (C x y) = y
+unfoldable pub im_of : Value → ℕ
+im_of (R x) = 0
+im_of (C x y) = y
 
 -- the same number as a complex one
 abbrev pub wide : Value → Value
-wide v = C (reOf v) (imOf v)
+wide v = C (re_of v) (im_of v)
 
 -- f of each half that there is
 unfoldable pub each : (ℕ → ℕ) → Value → Value
@@ -61,8 +61,8 @@ times (C x y) (C u v) = C (Word.minus (Word.times x u) (Word.times y v)) (Word.p
 abbrev pub squares : ℕ → ℕ → ℕ
 squares u v = Word.plus (Word.times u u) (Word.times v v)
 
-abbrev pub fusedSquares : ℕ → ℕ → ℕ
-fusedSquares u v = Word.mulAdd v v (Word.times u u)
+abbrev pub fused_squares : ℕ → ℕ → ℕ
+fused_squares u v = Word.mul_add v v (Word.times u u)
 
 -- p + is divided by q
 abbrev pub over : ℕ → ℕ → ℕ → Value
@@ -71,7 +71,7 @@ over p s q = C (Word.divide p q) (Word.divide s q)
 -- (x + iy) / (u + iv) is (x + iy) (u - iv) / (u^2 + v^2)
 unfoldable pub quotient : Value → Value → Value
 quotient (R x) (R u) = R (Word.divide x u)
-quotient (R x) (C u v) = over (Word.times x u) (Word.neg (Word.times x v)) (fusedSquares u v)
+quotient (R x) (C u v) = over (Word.times x u) (Word.neg (Word.times x v)) (fused_squares u v)
 quotient (C x y) (R u) = over x y u
 quotient (C x y) (C u v) =
     over (Word.plus (Word.times x u) (Word.times y v)) (Word.minus (Word.times y u) (Word.times x v)) (squares u v)
@@ -85,15 +85,15 @@ bits f (C x y) (C u v) = C (f x u) (f y v)
 
 -- GreaterThan and the like, by the real halves alone
 abbrev pub order : (ℕ → ℕ → ℕ) → Value → Value → Value
-order f a b = R (f (reOf a) (reOf b))
+order f a b = R (f (re_of a) (re_of b))
 
 -- Equal, in which both halves must agree (joined by And), and NotEqual, in which one must differ (by Or)
 abbrev pub same : (ℕ → ℕ → ℕ) → (ℕ → ℕ → ℕ) → Value → Value → Value
-same f join a b = R (join (f (reOf a) (reOf b)) (f (imOf a) (imOf b)))
+same f join a b = R (join (f (re_of a) (re_of b)) (f (im_of a) (im_of b)))
 
 -- IfElse: each half bit by bit, from a where the condition's word has a one, else from b
 abbrev pub chosen : ℕ → Value → Value → Value
-chosen c a b = C (Word.ifElse c (reOf a) (reOf b)) (Word.ifElse c (imOf a) (imOf b))
+chosen c a b = C (Word.if_else c (re_of a) (re_of b)) (Word.if_else c (im_of a) (im_of b))
 
 -- Fused: p is the product, rounded; then it is added to c, c taken from it, it taken from c, or the sum negated
 unfoldable pub fused : FusedOp → Value → Value → Value
@@ -108,13 +108,13 @@ unfoldable pub conjugate : Value → Value
 conjugate (R x) = R x
 conjugate (C x y) = C x (Word.neg y)
 
-unfoldable pub timesI : Value → Value
-timesI (R x) = C 0 x
-timesI (C x y) = C (Word.neg y) x
+unfoldable pub times_i : Value → Value
+times_i (R x) = C 0 x
+times_i (C x y) = C (Word.neg y) x
 
-unfoldable pub timesNegI : Value → Value
-timesNegI (R x) = C 0 (Word.neg x)
-timesNegI (C x y) = C y (Word.neg x)
+unfoldable pub times_neg_i : Value → Value
+times_neg_i (R x) = C 0 (Word.neg x)
+times_neg_i (C x y) = C y (Word.neg x)
 
 -- the size squared
 unfoldable pub abs2 : Value → Value
@@ -124,7 +124,7 @@ abs2 (C x y) = C (squares x y) 0
 -- 1 / (x + iy) is (x - iy) / (x^2 + y^2)
 unfoldable pub inverse : Value → Value
 inverse (R x) = R (Word.recip x)
-inverse (C x y) = C (Word.divide x (fusedSquares x y)) (Word.neg (Word.divide y (fusedSquares x y)))
+inverse (C x y) = C (Word.divide x (fused_squares x y)) (Word.neg (Word.divide y (fused_squares x y)))
 
 -- ---- stable mode: the same, of operands scaled by powers of two, so that squares neither overflow nor vanish
 
@@ -132,116 +132,116 @@ abbrev pub INFINITY : ℕ
 INFINITY = 0x7ff0_0000_0000_0000
 
 -- half of |x| and half of |y|, added
-abbrev pub halfSize : ℕ → ℕ → ℕ
-halfSize x y = Word.plus (Word.half (Word.abs x)) (Word.half (Word.abs y))
+abbrev pub half_size : ℕ → ℕ → ℕ
+half_size x y = Word.plus (Word.half (Word.abs x)) (Word.half (Word.abs y))
 
 -- the factor for a divisor u + iv: with 2^-1022 added, its exponent alone, turned round, times 1/4; 0 where u or v is infinite or NaN
 abbrev pub scale : ℕ → ℕ → ℕ
-scale u v = Word.times (Word.xor (Word.and (Word.plus (halfSize u v) 0x0010_0000_0000_0000) INFINITY) INFINITY) 0x3fd0_0000_0000_0000
+scale u v = Word.times (Word.xor (Word.and (Word.plus (half_size u v) 0x0010_0000_0000_0000) INFINITY) INFINITY) 0x3fd0_0000_0000_0000
 
 -- a power of two of the size of x + iy: with 2^-1021 added, its exponent's bits but the lowest; and one divided by such a power
 abbrev pub power : ℕ → ℕ → ℕ
-power x y = Word.and (Word.plus (halfSize x y) 0x0020_0000_0000_0000) 0x7fe0_0000_0000_0000
+power x y = Word.and (Word.plus (half_size x y) 0x0020_0000_0000_0000) 0x7fe0_0000_0000_0000
 
-abbrev pub oneBy : ℕ → ℕ
-oneBy p = Word.half (Word.xor p INFINITY)
+abbrev pub one_by : ℕ → ℕ
+one_by p = Word.half (Word.xor p INFINITY)
 
 -- Divide, by whether the mode is stable (modes 1 and 2): by a complex divisor, stable scales both operands by its factor
-unfoldable pub quotientIn : Bool → Value → Value → Value
-quotientIn stable v (R u) = quotient v (R u)
-quotientIn false v (C u w) = quotient v (C u w)
-quotientIn true v (C u w) = let k = R (scale u w) in quotient (times v k) (times (C u w) k)
+unfoldable pub quotient_in : Bool → Value → Value → Value
+quotient_in stable v (R u) = quotient v (R u)
+quotient_in false v (C u w) = quotient v (C u w)
+quotient_in true v (C u w) = let k = R (scale u w) in quotient (times v k) (times (C u w) k)
 
 -- Recip: stable scales before and after
-unfoldable pub inverseIn : Bool → Value → Value
-inverseIn stable (R x) = inverse (R x)
-inverseIn false (C x y) = inverse (C x y)
-inverseIn true (C x y) = let k = R (scale x y) in times (inverse (times (C x y) k)) k
+unfoldable pub inverse_in : Bool → Value → Value
+inverse_in stable (R x) = inverse (R x)
+inverse_in false (C x y) = inverse (C x y)
+inverse_in true (C x y) = let k = R (scale x y) in times (inverse (times (C x y) k)) k
 
 -- Abs: stable scales by one over a power of two, and by the power after the root
-abbrev pub scaledSize : ℕ → ℕ → ℕ
-scaledSize x y = let k = oneBy (power x y) in Word.root (squares (Word.times x k) (Word.times y k))
+abbrev pub scaled_size : ℕ → ℕ → ℕ
+scaled_size x y = let k = one_by (power x y) in Word.root (squares (Word.times x k) (Word.times y k))
 
 unfoldable pub modulus : Bool → Value → Value
 modulus stable (R x) = R (Word.abs x)
 modulus false (C x y) = C (Word.root (squares x y)) 0
-modulus true (C x y) = C (Word.times (scaledSize x y) (power x y)) 0
+modulus true (C x y) = C (Word.times (scaled_size x y) (power x y)) 0
 
 -- ---- Root of z = x + iy
 
 -- the larger half of a root: the root of half of |z| + |x|; in stable mode of z scaled, and scaled back by the power's root
-abbrev pub largerPlain : ℕ → ℕ → ℕ
-largerPlain x y = Word.root (Word.half (Word.plus (Word.root (fusedSquares x y)) (Word.abs x)))
+abbrev pub larger_plain : ℕ → ℕ → ℕ
+larger_plain x y = Word.root (Word.half (Word.plus (Word.root (fused_squares x y)) (Word.abs x)))
 
 unfoldable pub larger : Bool → ℕ → ℕ → ℕ
-larger false x y = largerPlain x y
+larger false x y = larger_plain x y
 larger true x y =
     let r = Word.and (Word.root (power x y)) 0x7fe0_0000_0000_0000 in
-    let k = oneBy (Word.times r r) in
-    Word.times (largerPlain (Word.times x k) (Word.times y k)) r
+    let k = one_by (Word.times r r) in
+    Word.times (larger_plain (Word.times x k) (Word.times y k)) r
 
 -- the smaller half, y / (2 t) by the larger half t, with 0 in place of a NaN
 abbrev pub smaller : ℕ → ℕ → ℕ
 smaller y t = let s = Word.half (Word.divide y t) in Word.and s (Word.equal s s)
 
 -- one of the two roots: the larger half is the real one where x is above 0
-abbrev pub oneRoot : Bool → ℕ → ℕ → Value
-oneRoot stable x y =
+abbrev pub one_root : Bool → ℕ → ℕ → Value
+one_root stable x y =
     let t = larger stable x y in
     let s = smaller y t in
-    let q = Word.littleThan 0 x in
-    C (Word.ifElse q t s) (Word.ifElse q s t)
+    let q = Word.little_than 0 x in
+    C (Word.if_else q t s) (Word.if_else q s t)
 
 -- of w and -w the one whose real half has no sign: the root in the right half plane
 abbrev pub turned : Value → Value
-turned w = each (λ h. Word.xor h (Word.sign (reOf w))) w
+turned w = each (λ h. Word.xor h (Word.sign (re_of w))) w
 
-abbrev pub rootIn : Bool → Value → Value
-rootIn stable v = turned (oneRoot stable (reOf v) (imOf v))
+abbrev pub root_in : Bool → Value → Value
+root_in stable v = turned (one_root stable (re_of v) (im_of v))
 
 -- RealRoot is Root but of a real number
-unfoldable pub realRootIn : Bool → Value → Value
-realRootIn stable (R x) = R (Word.root x)
-realRootIn stable (C x y) = rootIn stable (C x y)
+unfoldable pub real_root_in : Bool → Value → Value
+real_root_in stable (R x) = R (Word.root x)
+real_root_in stable (C x y) = root_in stable (C x y)
 
 -- ---- the table, operation by operation
 
-unfoldable pub ofOne : Mode → UniOp → Value → Value
-ofOne m UniOp.Neg v = each Word.neg v
-ofOne m UniOp.Not v = R (Word.not (reOf v))
-ofOne m UniOp.Abs v = modulus (isStable m) v
-ofOne m UniOp.Root v = rootIn (isStable m) v
-ofOne m UniOp.RealRoot v = realRootIn (isStable m) v
-ofOne m UniOp.Recip v = inverseIn (isStable m) v
-ofOne m UniOp.Round v = each Word.round v
-ofOne m UniOp.Floor v = each Word.floor v
-ofOne m UniOp.Ceiling v = each Word.ceiling v
-ofOne m UniOp.Trunc v = each Word.trunc v
-ofOne m UniOp.Real v = R (reOf v)
-ofOne m UniOp.Imaginary v = R (imOf v)
-ofOne m UniOp.Conjugate v = conjugate v
-ofOne m UniOp.Half v = each Word.half v
-ofOne m UniOp.IsZero v = same Word.equal Word.and v (C 0 0)
-ofOne m UniOp.IsNotZero v = same Word.notEqual Word.or v (C 0 0)
-ofOne m UniOp.Sign v = each Word.sign v
-ofOne m UniOp.Abs2 v = abs2 v
-ofOne m UniOp.TimesI v = timesI v
-ofOne m UniOp.TimesNegI v = timesNegI v
+unfoldable pub of_one : Mode → UniOp → Value → Value
+of_one m UniOp.Neg v = each Word.neg v
+of_one m UniOp.Not v = R (Word.not (re_of v))
+of_one m UniOp.Abs v = modulus (is_stable m) v
+of_one m UniOp.Root v = root_in (is_stable m) v
+of_one m UniOp.RealRoot v = real_root_in (is_stable m) v
+of_one m UniOp.Recip v = inverse_in (is_stable m) v
+of_one m UniOp.Round v = each Word.round v
+of_one m UniOp.Floor v = each Word.floor v
+of_one m UniOp.Ceiling v = each Word.ceiling v
+of_one m UniOp.Trunc v = each Word.trunc v
+of_one m UniOp.Real v = R (re_of v)
+of_one m UniOp.Imaginary v = R (im_of v)
+of_one m UniOp.Conjugate v = conjugate v
+of_one m UniOp.Half v = each Word.half v
+of_one m UniOp.IsZero v = same Word.equal Word.and v (C 0 0)
+of_one m UniOp.IsNotZero v = same Word.not_equal Word.or v (C 0 0)
+of_one m UniOp.Sign v = each Word.sign v
+of_one m UniOp.Abs2 v = abs2 v
+of_one m UniOp.TimesI v = times_i v
+of_one m UniOp.TimesNegI v = times_neg_i v
 
 -- (no sheet has an AndNot)
-unfoldable pub ofTwo : Mode → BinOp → Value → Value → Value
-ofTwo m BinOp.Plus v w = plus v w
-ofTwo m BinOp.Minus v w = minus v w
-ofTwo m BinOp.Times v w = times v w
-ofTwo m BinOp.Divide v w = quotientIn (isStable m) v w
-ofTwo m BinOp.GreaterThan v w = order Word.greaterThan v w
-ofTwo m BinOp.GreaterThanEqual v w = order Word.greaterThanEqual v w
-ofTwo m BinOp.LittleThan v w = order Word.littleThan v w
-ofTwo m BinOp.LittleThanEqual v w = order Word.littleThanEqual v w
-ofTwo m BinOp.Equal v w = same Word.equal Word.and v w
-ofTwo m BinOp.NotEqual v w = same Word.notEqual Word.or v w
-ofTwo m BinOp.And v w = bits Word.and v w
-ofTwo m BinOp.AndNot v w = v
-ofTwo m BinOp.Or v w = bits Word.or v w
-ofTwo m BinOp.Xor v w = bits Word.xor v w
-ofTwo m BinOp.Complex v w = C (reOf v) (reOf w)
+unfoldable pub of_two : Mode → BinOp → Value → Value → Value
+of_two m BinOp.Plus v w = plus v w
+of_two m BinOp.Minus v w = minus v w
+of_two m BinOp.Times v w = times v w
+of_two m BinOp.Divide v w = quotient_in (is_stable m) v w
+of_two m BinOp.GreaterThan v w = order Word.greater_than v w
+of_two m BinOp.GreaterThanEqual v w = order Word.greater_than_equal v w
+of_two m BinOp.LittleThan v w = order Word.little_than v w
+of_two m BinOp.LittleThanEqual v w = order Word.little_than_equal v w
+of_two m BinOp.Equal v w = same Word.equal Word.and v w
+of_two m BinOp.NotEqual v w = same Word.not_equal Word.or v w
+of_two m BinOp.And v w = bits Word.and v w
+of_two m BinOp.AndNot v w = v
+of_two m BinOp.Or v w = bits Word.or v w
+of_two m BinOp.Xor v w = bits Word.xor v w
+of_two m BinOp.Complex v w = C (re_of v) (re_of w)

@@ -12,7 +12,7 @@ use Rattle.mir.specs.Place.{index}
 use Rattle.mir.specs.Length.{length_of}
 use Rattle.mir.specs.Operation.{taken}
 use Rattle.mir.specs.Read.{Read, got, refused, refuse, and_then, above, registers, constant}
-use Rattle.mir.specs.Field.{u16At, headFrom, placeAt, savedTo, savePlace, on_stack, condPlace}
+use Rattle.mir.specs.Field.{u16_at, head_from, place_at, saved_to, save_place, on_stack, cond_place}
 use Rattle.mir.proofs.Passing.{got_same, clash, or_left, or_right}
 use Rattle.mir.proofs.Heads.{Headed, headed}
 
@@ -21,22 +21,22 @@ pub data IfRead {A : Type 0} (P : A → Type 0) : Read A → Type 0 where
   read : {a : A} → P a → IfRead P (got a)
   told : {n : ℕ} → IfRead P (refused (suc n))
 
-pub if-got : {A : Type 0} {P : A → Type 0} {x : Read A} {a : A} → IfRead P x → x ≡ got a → P a
-if-got {P = P} (read p) e = subst P (got_same _ _ e) p
-if-got (told {n}) e = absurd (clash (suc n) _ e)
+pub if_got : {A : Type 0} {P : A → Type 0} {x : Read A} {a : A} → IfRead P x → x ≡ got a → P a
+if_got {P = P} (read p) e = subst P (got_same _ _ e) p
+if_got (told {n}) e = absurd (clash (suc n) _ e)
 
 pub not-zero : {A : Type 0} {P : A → Type 0} {x : Read A} → IfRead P x → x ≡ refused 0 → ⊥
 not-zero (read {a} p) e = clash 0 a (sym e)
 not-zero (told {n}) e = let z : suc n ≡ 0 = cc in omega arith
 
-pub if-read : {A : Type 0} {Q P : A → Type 0} {x : Read A} → ((a : A) → Q a → P a) → IfRead Q x → IfRead P x
-if-read f (read {a} q) = read (f a q)
-if-read f told = told
+pub if_read : {A : Type 0} {Q P : A → Type 0} {x : Read A} → ((a : A) → Q a → P a) → IfRead Q x → IfRead P x
+if_read f (read {a} q) = read (f a q)
+if_read f told = told
 
 -- what is read is what was read
-pub told-so : {A : Type 0} {P : A → Type 0} {x : Read A} → IfRead P x → IfRead (λ a. P a × (x ≡ got a)) x
-told-so (read p) = read (p, refl)
-told-so told = told
+pub told_so : {A : Type 0} {P : A → Type 0} {x : Read A} → IfRead P x → IfRead (λ a. P a × (x ≡ got a)) x
+told_so (read p) = read (p, refl)
+told_so told = told
 
 -- a test that was passed, a part that was read, and a kind by its number
 pub tested : {A : Type 0} {P : A → Type 0} (b : Bool) (n : ℕ) {x : Read A} → (b ≡ false → IfRead P x) → IfRead P (refuse b (suc n) x)
@@ -79,10 +79,10 @@ operation takes (op ∷ ops) zero = tested (not (takes op)) 1 (λ e. read (not-f
 operation takes (op ∷ ops) (suc n) = operation takes ops n
 
 -- places: any, one that is saved to, and that of a condition
-pub place : (s : List ℕ) (i : ℕ) → IfRead (λ p. index p ≤ 255) (placeAt s i)
-unfolding placeAt
+pub place : (s : List ℕ) (i : ℕ) → IfRead (λ p. index p ≤ 255) (place_at s i)
+unfolding place_at
 place s i =
-    let w = u16At s (i + 1) in
+    let w = u16_at s (i + 1) in
     tested (ltb 255 w) 3
     (λ e.
     let h = ltb-false 255 w e in
@@ -98,7 +98,7 @@ Stacked (Loc.Stack i) = i ≤ 255
 Stacked (Loc.Mem i) = ⊥
 Stacked (Loc.Param i) = ⊥
 
-saved : (p : Loc) → index p ≤ 255 → IfRead Saved (savedTo p)
+saved : (p : Loc) → index p ≤ 255 → IfRead Saved (saved_to p)
 saved (Loc.Stack i) h = read h
 saved (Loc.Mem i) h = read h
 saved (Loc.Param i) h = told
@@ -108,22 +108,22 @@ stacked (Loc.Stack i) h = read h
 stacked (Loc.Mem i) h = told
 stacked (Loc.Param i) h = told
 
-pub save : (s : List ℕ) (i : ℕ) → IfRead Saved (savePlace s i)
-unfolding savePlace
+pub save : (s : List ℕ) (i : ℕ) → IfRead Saved (save_place s i)
+unfolding save_place
 save s i = parted (place s i) saved
 
-pub condition : (s : List ℕ) (i : ℕ) → IfRead Stacked (condPlace s i)
-unfolding condPlace
+pub condition : (s : List ℕ) (i : ℕ) → IfRead Stacked (cond_place s i)
+unfolding cond_place
 condition s i = parted (place s i) stacked
 
 -- a head
-pub head : (takes : ℕ → Bool) (s : List ℕ) → IfRead (Headed takes s) (headFrom takes s)
-unfolding headFrom
+pub head : (takes : ℕ → Bool) (s : List ℕ) → IfRead (Headed takes s) (head_from takes s)
+unfolding head_from
 head takes s =
-    if-read (λ kind p. headed takes s kind p.1)
-    (told-so {P = λ k. Unit {0}}
+    if_read (λ kind p. headed takes s kind p.1)
+    (told_so {P = λ k. Unit {0}}
     (tested (ltb (length s) 4) 0
-    (λ e. tested (ltb (u16At s 0) 4) 0
-    (λ e. tested (ltb (length s) (u16At s 0)) 0
-    (λ e. tested (not (takes (u16At s 2))) 1
-    (λ e. tested (not (eqb (length_of (u16At s 2)) (u16At s 0))) 0 (λ e. read tt)))))))
+    (λ e. tested (ltb (u16_at s 0) 4) 0
+    (λ e. tested (ltb (length s) (u16_at s 0)) 0
+    (λ e. tested (not (takes (u16_at s 2))) 1
+    (λ e. tested (not (eqb (length_of (u16_at s 2)) (u16_at s 0))) 0 (λ e. read tt)))))))

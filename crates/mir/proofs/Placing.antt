@@ -7,11 +7,11 @@ use lib.ListN.{length}
 use lib.Seq.{sets}
 use Rattle.mir.specs.Encode.{buf, placed}
 
-pub placed-fits : (l : List ℕ) (at : ℕ) (w : List ℕ) → at + length w ≤ length l
+pub placed_fits : (l : List ℕ) (at : ℕ) (w : List ℕ) → at + length w ≤ length l
     → placed (buf l at) w ≡ buf (sets l at w) (at + length w)
 unfolding placed
-placed-fits l at w h = simp (le-leb _ _ h)
+placed_fits l at w h = simp (le-leb _ _ h)
 
-pub placed-full : (l : List ℕ) (at : ℕ) (w : List ℕ) → length l < at + length w → placed (buf l at) w ≡ buf l at
+pub placed_full : (l : List ℕ) (at : ℕ) (w : List ℕ) → length l < at + length w → placed (buf l at) w ≡ buf l at
 unfolding placed
-placed-full l at w h = simp (lt-leb _ _ h)
+placed_full l at w h = simp (lt-leb _ _ h)

@@ -7,8 +7,8 @@ use lib.ListN.{length, get_or, take, length-take}
 use lib.Dec.{leb, leb→le}
 use lib.Seq.{sets}
 use Rattle.mir.specs.Length.{lengths, length_of}
-use Rattle.mir.specs.Encode.{twoBytes, recordOf, buf, placed}
-use Rattle.mir.proofs.Placing.{placed-fits, placed-full}
+use Rattle.mir.specs.Encode.{two_bytes, record_of, buf, placed}
+use Rattle.mir.proofs.Placing.{placed_fits, placed_full}
 use Rattle.mir.proofs.Tables.{holds}
 
 -- a record has 4 to 11 bytes, by the table
@@ -34,7 +34,7 @@ seven (a ∷ b ∷ c ∷ d ∷ e ∷ g ∷ i ∷ []) h = refl
 seven (a ∷ b ∷ c ∷ d ∷ e ∷ g ∷ i ∷ j ∷ f) h = absurd (omega arith)
 
 head : (n k : ℕ) (f : List ℕ) → 4 ≤ n → n ≤ 11 → k < 18
-    → take n (n ∷ 0 ∷ k ∷ 0 ∷ f) ≡ twoBytes n ++ (twoBytes k ++ take (n - 4) f)
+    → take n (n ∷ 0 ∷ k ∷ 0 ∷ f) ≡ two_bytes n ++ (two_bytes k ++ take (n - 4) f)
 head n k f lo hi h =
     let e : n ≡ suc (suc (suc (suc (n - 4)))) = omega arith in
     let a : n % 256 ≡ n = omega arith in
@@ -46,14 +46,14 @@ head n k f lo hi h =
 pub put-bytes : (k : ℕ) (f : List ℕ) → k < 18 → length f ≡ 7
     → take (length_of k)
     (length_of k ∷ 0 ∷ k ∷ 0 ∷ get_or f 0 0 ∷ get_or f 1 0 ∷ get_or f 2 0 ∷ get_or f 3 0 ∷ get_or f 4 0 ∷ get_or f 5 0 ∷ get_or f 6 0 ∷ [])
-    ≡ recordOf k (take (length_of k - 4) f)
-unfolding recordOf
+    ≡ record_of k (take (length_of k - 4) f)
+unfolding record_of
 put-bytes k f h s =
     ap (λ l. take (length_of k) (length_of k ∷ 0 ∷ k ∷ 0 ∷ l)) (seven f s)
     ∙ head (length_of k) k f (shortest k h) (longest k h) h
 
-pub put-length : (k : ℕ) (f : List ℕ) → k < 18 → length f ≡ 7 → length (recordOf k (take (length_of k - 4) f)) ≡ length_of k
-unfolding recordOf
+pub put-length : (k : ℕ) (f : List ℕ) → k < 18 → length f ≡ 7 → length (record_of k (take (length_of k - 4) f)) ≡ length_of k
+unfolding record_of
 put-length k f h s =
     let lo = shortest k h in
     let hi = longest k h in
@@ -62,17 +62,17 @@ put-length k f h s =
 
 -- what `put` leaves where there is no room, and where there is
 pub put_full : (l : List ℕ) (at k : ℕ) (f : List ℕ) → k < 18 → length f ≡ 7 → length l < at + length_of k
-    → buf l at ≡ placed (buf l at) (recordOf k (take (length_of k - 4) f))
+    → buf l at ≡ placed (buf l at) (record_of k (take (length_of k - 4) f))
 put_full l at k f h s full =
     let e = put-length k f h s in
-    sym (placed-full l at (recordOf k (take (length_of k - 4) f)) (omega arith))
+    sym (placed_full l at (record_of k (take (length_of k - 4) f)) (omega arith))
 
-pub put-fits : (l m : List ℕ) (at k : ℕ) (f : List ℕ) → k < 18 → length f ≡ 7 → at + length_of k ≤ length l
+pub put_fits : (l m : List ℕ) (at k : ℕ) (f : List ℕ) → k < 18 → length f ≡ 7 → at + length_of k ≤ length l
     → m ≡ sets l at (take (length_of k)
     (length_of k ∷ 0 ∷ k ∷ 0 ∷ get_or f 0 0 ∷ get_or f 1 0 ∷ get_or f 2 0 ∷ get_or f 3 0 ∷ get_or f 4 0 ∷ get_or f 5 0 ∷ get_or f 6 0 ∷ []))
-    → buf m (at + length_of k) ≡ placed (buf l at) (recordOf k (take (length_of k - 4) f))
-put-fits l m at k f h s room e =
+    → buf m (at + length_of k) ≡ placed (buf l at) (record_of k (take (length_of k - 4) f))
+put_fits l m at k f h s room e =
     let n = put-length k f h s in
     ap (λ x. buf x (at + length_of k)) (e ∙ ap (sets l at) (put-bytes k f h s))
-    ∙ ap (λ x. buf (sets l at (recordOf k (take (length_of k - 4) f))) (at + x)) (sym n)
-    ∙ sym (placed-fits l at (recordOf k (take (length_of k - 4) f)) (omega arith))
+    ∙ ap (λ x. buf (sets l at (record_of k (take (length_of k - 4) f))) (at + x)) (sym n)
+    ∙ sym (placed_fits l at (record_of k (take (length_of k - 4) f)) (omega arith))

@@ -9,7 +9,7 @@ use lib.Dec.{T, eqb}
 use lib.ListN.{length, get_or}
 use Rattle.mir.specs.Read.{got, refused, refuse}
 use Rattle.mir.specs.Operation.{taken}
-use Rattle.mir.proofs.Passing.{either}
+use Rattle.mir.proofs.Passing.{Either}
 
 pub and_left : (a b : Bool) → T (a && b) → T a
 and_left true b t = tt
@@ -30,10 +30,10 @@ holds f (x ∷ xs) t zero d h = and_left (f x) (every f xs) t
 holds f (x ∷ xs) t (suc k) d h = holds f xs (and_right (f x) (every f xs) t) k d (omega arith)
 
 -- no operation has a number past the last
-pub taken-past : {A : Type 0} (takes : A → Bool) (ops : List A) (n : ℕ) → length ops ≤ n → taken takes ops n ≡ refused 2
-taken-past takes [] n h = refl
-taken-past takes (op ∷ ops) zero h = absurd (not-suc-le-zero h)
-taken-past takes (op ∷ ops) (suc n) h = taken-past takes ops n (omega arith)
+pub taken_past : {A : Type 0} (takes : A → Bool) (ops : List A) (n : ℕ) → length ops ≤ n → taken takes ops n ≡ refused 2
+taken_past takes [] n h = refl
+taken_past takes (op ∷ ops) zero h = absurd (not-suc-le-zero h)
+taken_past takes (op ∷ ops) (suc n) h = taken_past takes ops n (omega arith)
 
 -- by tables of the operations, and of whether a sheet and whether a listing takes each; t is their answer at a number
 abbrev pub flag : Bool → ℕ
@@ -41,8 +41,8 @@ flag true = 1
 flag false = 0
 
 flagged : (b : Bool) (f : Bool → Bool) → eqb (cond b (flag (f true)) (flag (f false))) 1 ≡ f b
-flagged true f = either (f true) (λ e. simp e) (λ e. simp e)
-flagged false f = either (f false) (λ e. simp e) (λ e. simp e)
+flagged true f = Either (f true) (λ e. simp e) (λ e. simp e)
+flagged false f = Either (f false) (λ e. simp e) (λ e. simp e)
 
 pub taken_at : {A : Type 0} (takes : Bool → A → Bool) (ops : List A) (n : ℕ) (d : A) (b t : Bool) → n < length ops
     → t ≡ eqb (cond b (get_or (map (λ op. flag (takes true op)) ops) n 0) (get_or (map (λ op. flag (takes false op)) ops) n 0)) 1

@@ -1,16 +1,16 @@
 -- Records one after the other, by a reader of the bytes that begin with a record. Both readers, of sheets and of listings, are used so.
 use Rattle.std.specs.Prelude.{ℕ, zero, suc, pred, ◌+◌, List, [], ◌∷◌, drop}
 use Rattle.mir.specs.Read.{Read, got, refused, and_then}
-use Rattle.mir.specs.Field.{u16At}
+use Rattle.mir.specs.Field.{u16_at}
 
 -- an item and the position after it: its first two bytes are its length
 pub record Item (A : Type 0) : Type 0 where
   pub item : A
   pub next : ℕ
 
-unfoldable pub readAt : {A : Type 0} → (List ℕ → Read A) → List ℕ → ℕ → Read (Item A)
-unfolding u16At
-readAt read s at = and_then (read (drop at s)) (λ a. got (record { item = a; next = at + u16At (drop at s) 0 }))
+unfoldable pub read_at : {A : Type 0} → (List ℕ → Read A) → List ℕ → ℕ → Read (Item A)
+unfolding u16_at
+read_at read s at = and_then (read (drop at s)) (λ a. got (record { item = a; next = at + u16_at (drop at s) 0 }))
 
 -- "The first refused record ends the work": the items up to it, and the number that refuses it (0: none is refused)
 pub record Decoded (A : Type 0) : Type 0 where
@@ -25,12 +25,12 @@ onto (got a) f = ahead a (f a)
 onto (refused n) f = record { items = []; fault = n }
 
 -- what stands behind the first k bytes; an item's first byte is followed by the rest of its length
-unfoldable pub decodedFrom : {A : Type 0} → (List ℕ → Read A) → List ℕ → ℕ → Decoded A
-unfolding u16At
-decodedFrom read [] k = record { items = []; fault = 0 }
-decodedFrom read (b ∷ s) zero = onto (read (b ∷ s)) (λ a. decodedFrom read s (pred (u16At (b ∷ s) 0)))
-decodedFrom read (b ∷ s) (suc k) = decodedFrom read s k
+unfoldable pub decoded_from : {A : Type 0} → (List ℕ → Read A) → List ℕ → ℕ → Decoded A
+unfolding u16_at
+decoded_from read [] k = record { items = []; fault = 0 }
+decoded_from read (b ∷ s) zero = onto (read (b ∷ s)) (λ a. decoded_from read s (pred (u16_at (b ∷ s) 0)))
+decoded_from read (b ∷ s) (suc k) = decoded_from read s k
 
 unfoldable pub decoded : {A : Type 0} → (List ℕ → Read A) → List ℕ → Decoded A
-unfolding decodedFrom
-decoded read s = decodedFrom read s 0
+unfolding decoded_from
+decoded read s = decoded_from read s 0

@@ -15,29 +15,29 @@ bytes_at s i zero = []
 bytes_at s i (suc n) = byte_at s i ∷ bytes_at s (suc i) n
 
 -- "all little-endian"
-unfoldable pub u16At : List ℕ → ℕ → ℕ
-u16At s i = get_or s i 0 + 256 * get_or s (i + 1) 0
+unfoldable pub u16_at : List ℕ → ℕ → ℕ
+u16_at s i = get_or s i 0 + 256 * get_or s (i + 1) 0
 
 -- "Sheets take kinds 0 to 10"; "Listings take kinds 1 to 8 and 11 to 16"; with document 02, d) "Sheets take Label, Branch [..] and a new
 -- kind 17", which listings take too
 unfoldable pub among : ℕ → ℕ → ℕ → Bool
 among first last kind = leb first kind && leb kind last
 
-unfoldable pub takesKind : Bool → ℕ → Bool
+unfoldable pub takes_kind : Bool → ℕ → Bool
 unfolding among
-takesKind false kind = among 0 10 kind || among 14 15 kind || among 17 17 kind
-takesKind true kind = among 1 8 kind || among 11 17 kind
+takes_kind false kind = among 0 10 kind || among 14 15 kind || among 17 17 kind
+takes_kind true kind = among 1 8 kind || among 11 17 kind
 
 -- "Within a record the order is: readable length (1), kind (2), kind's length (1)"; a readable length: not "fewer than 4 bytes
 -- left, length under 4 or past the end". What is read is the kind.
-unfoldable pub headFrom : (ℕ → Bool) → List ℕ → Read ℕ
-headFrom takes s =
+unfoldable pub head_from : (ℕ → Bool) → List ℕ → Read ℕ
+head_from takes s =
     refuse (ltb (length s) 4) 1
-    (refuse (ltb (u16At s 0) 4) 1
-    (refuse (ltb (length s) (u16At s 0)) 1
-    (refuse (not (takes (u16At s 2))) 2
-    (refuse (not (eqb (length_of (u16At s 2)) (u16At s 0))) 1
-    (got (u16At s 2))))))
+    (refuse (ltb (u16_at s 0) 4) 1
+    (refuse (ltb (length s) (u16_at s 0)) 1
+    (refuse (not (takes (u16_at s 2))) 2
+    (refuse (not (eqb (length_of (u16_at s 2)) (u16_at s 0))) 1
+    (got (u16_at s 2))))))
 
 -- a place by its class
 abbrev pub classed : ℕ → ℕ → Read Loc
@@ -46,17 +46,17 @@ classed class index =
     (cond (eqb class 1) (got (Loc.Mem index)) (cond (eqb class 2) (got (Loc.Param index)) (refused 4)))
 
 -- 4, "bad place": "class above 2, index above 255"
-unfoldable pub placeAt : List ℕ → ℕ → Read Loc
-placeAt s i = refuse (ltb 255 (u16At s (i + 1))) 4 (classed (get_or s i 0) (u16At s (i + 1)))
+unfoldable pub place_at : List ℕ → ℕ → Read Loc
+place_at s i = refuse (ltb 255 (u16_at s (i + 1))) 4 (classed (get_or s i 0) (u16_at s (i + 1)))
 
 -- 4: "a save to Param"
-abbrev pub savedTo : Loc → Read Loc
-savedTo (Loc.Stack i) = got (Loc.Stack i)
-savedTo (Loc.Mem i) = got (Loc.Mem i)
-savedTo (Loc.Param i) = refused 4
+abbrev pub saved_to : Loc → Read Loc
+saved_to (Loc.Stack i) = got (Loc.Stack i)
+saved_to (Loc.Mem i) = got (Loc.Mem i)
+saved_to (Loc.Param i) = refused 4
 
-unfoldable pub savePlace : List ℕ → ℕ → Read Loc
-savePlace s i = and_then (placeAt s i) savedTo
+unfoldable pub save_place : List ℕ → ℕ → Read Loc
+save_place s i = and_then (place_at s i) saved_to
 
 -- 4: "an IfElse condition not on the stack"
 abbrev pub on_stack : Loc → Read Loc
@@ -64,14 +64,14 @@ on_stack (Loc.Stack i) = got (Loc.Stack i)
 on_stack (Loc.Mem i) = refused 4
 on_stack (Loc.Param i) = refused 4
 
-unfoldable pub condPlace : List ℕ → ℕ → Read Loc
-condPlace s i = and_then (placeAt s i) on_stack
+unfoldable pub cond_place : List ℕ → ℕ → Read Loc
+cond_place s i = and_then (place_at s i) on_stack
 
 -- the answers of the code
-abbrev pub asHead : Head → Read ℕ
-asHead (Head.Kind k) = got k
-asHead (Head.Refused n) = refused n
+abbrev pub as_head : Head → Read ℕ
+as_head (Head.Kind k) = got k
+as_head (Head.Refused n) = refused n
 
-abbrev pub asPlace : Place → Read Loc
-asPlace (Place.At l) = got l
-asPlace Place.Bad = refused 4
+abbrev pub as_place : Place → Read Loc
+as_place (Place.At l) = got l
+as_place Place.Bad = refused 4

@@ -45,11 +45,11 @@ bytes_of constant = 2
 bytes_of label = 1
 bytes_of flag = 1
 
-abbrev pub bytesOfAll : List Field → ℕ
-bytesOfAll [] = 0
-bytesOfAll (f ∷ fs) = bytes_of f + bytesOfAll fs
+abbrev pub bytes_of_all : List Field → ℕ
+bytes_of_all [] = 0
+bytes_of_all (f ∷ fs) = bytes_of f + bytes_of_all fs
 
 -- The table's rule, over the whole table: two bytes of length, two of kind, then the fields.
-pub rule : lengths ≡ map (λ fs. 4 + bytesOfAll fs) fields
+pub rule : lengths ≡ map (λ fs. 4 + bytes_of_all fs) fields
 unfolding lengths
 rule = refl

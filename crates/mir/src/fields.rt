@@ -1,7 +1,7 @@
 // The fields of a record, read from the bytes that begin with it. A byte past the end is read as 0.
 ghost use Rattle.std.specs.Prelude.{◌≡◌, ◌+◌, ◌*◌, get_or};
 ghost use Rattle.mir.specs.Read as Read;
-ghost use Rattle.mir.specs.Field.{byte_at, bytes_at, u16At, among, takesKind, headFrom, placeAt, savePlace, condPlace, asHead, asPlace};
+ghost use Rattle.mir.specs.Field.{byte_at, bytes_at, u16_at, among, takes_kind, head_from, place_at, save_place, cond_place, as_head, as_place};
 
 use super::lengths::length_of;
 use super::records::Loc;
@@ -30,7 +30,7 @@ pub fn above(s: &[u8], i: u8, n: u8, last: u8) -> bool
 
 // Two bytes, little-endian.
 pub fn u16_at(s: &[u8], i: u8) -> u16
-    ensures { result ≡ u16At s.now i }
+    ensures { result ≡ u16_at s.now i }
 {
     let at = i as usize;
     let low = byte(s, at);
@@ -47,7 +47,7 @@ fn between(first: u16, last: u16, kind: u16) -> bool
 
 // Whether a listing, or a sheet, takes a kind.
 pub fn takes_kind(in_listing: bool, kind: u16) -> bool
-    ensures { result ≡ takesKind in_listing kind }
+    ensures { result ≡ takes_kind in_listing kind }
 {
     if in_listing {
         if between(1, 8, kind) {
@@ -73,7 +73,7 @@ pub enum Head {
 
 // The tests that come before a record's fields: a readable length, a kind that is taken, and that kind's length.
 pub fn read_head(s: &[u8], in_listing: bool) -> Head
-    ensures { asHead result ≡ headFrom (takesKind in_listing) s.now }
+    ensures { as_head result ≡ head_from (takes_kind in_listing) s.now }
 {
     if s.len() < 4 {
         return Head::Refused(1);
@@ -103,7 +103,7 @@ pub enum Place {
 
 // A place of any class.
 pub fn read_place(s: &[u8], i: u8) -> Place
-    ensures { asPlace result ≡ placeAt s.now i }
+    ensures { as_place result ≡ place_at s.now i }
 {
     let at = i as usize;
     let class = byte(s, at);
@@ -127,7 +127,7 @@ pub fn read_place(s: &[u8], i: u8) -> Place
 
 // A place that is saved to.
 pub fn read_save_place(s: &[u8], i: u8) -> Place
-    ensures { asPlace result ≡ savePlace s.now i }
+    ensures { as_place result ≡ save_place s.now i }
 {
     match read_place(s, i) {
         Place::At(loc) => match loc {
@@ -141,7 +141,7 @@ pub fn read_save_place(s: &[u8], i: u8) -> Place
 
 // The place of a condition.
 pub fn read_cond_place(s: &[u8], i: u8) -> Place
-    ensures { asPlace result ≡ condPlace s.now i }
+    ensures { as_place result ≡ cond_place s.now i }
 {
     match read_place(s, i) {
         Place::At(loc) => match loc {

@@ -1,8 +1,8 @@
 // The operations of mir.rs, in its order, their numbers, and which of them sheets and listings take: an operation's number is its
 // position, from 0.
 ghost use Rattle.std.specs.Prelude.{◌≡◌, cond, eqb};
-ghost use Rattle.mir.specs.Operation.{uniNumber, binNumber, arithNumber, fusedNumber, uniOps, binOps, arithOps, fusedOps, taken, asUni, asBin, asArith, asFused};
-ghost use Rattle.mir.specs.Takes.{takesUni, takesBin, takesArith, takesFused};
+ghost use Rattle.mir.specs.Operation.{uni_number, bin_number, arith_number, fused_number, uni_ops, bin_ops, arith_ops, fused_ops, taken, as_uni, as_bin, as_arith, as_fused};
+ghost use Rattle.mir.specs.Takes.{takes_uni, takes_bin, takes_arith, takes_fused};
 
 #[derive(Drop)]
 pub enum UniOp {
@@ -92,7 +92,7 @@ pub enum FoundFused {
 }
 
 pub fn uni_number(op: UniOp) -> u8
-    ensures { result ≡ uniNumber op }
+    ensures { result ≡ uni_number op }
 {
     match op {
         UniOp::Neg => 0,
@@ -119,7 +119,7 @@ pub fn uni_number(op: UniOp) -> u8
 }
 
 pub fn bin_number(op: BinOp) -> u8
-    ensures { result ≡ binNumber op }
+    ensures { result ≡ bin_number op }
 {
     match op {
         BinOp::Plus => 0,
@@ -141,7 +141,7 @@ pub fn bin_number(op: BinOp) -> u8
 }
 
 pub fn arith_number(op: ArithOp) -> u8
-    ensures { result ≡ arithNumber op }
+    ensures { result ≡ arith_number op }
 {
     match op {
         ArithOp::Plus => 0,
@@ -152,7 +152,7 @@ pub fn arith_number(op: ArithOp) -> u8
 }
 
 pub fn fused_number(op: FusedOp) -> u8
-    ensures { result ≡ fusedNumber op }
+    ensures { result ≡ fused_number op }
 {
     match op {
         FusedOp::MulAdd => 0,
@@ -233,7 +233,7 @@ fn is_taken(in_listing: bool, sheet: u8, listing: u8) -> bool
 
 // The operation of a number, where a listing, or a sheet, takes it.
 pub fn uni_op(n: u8, in_listing: bool) -> FoundUni
-    ensures { asUni result ≡ taken (takesUni in_listing) uniOps n }
+    ensures { as_uni result ≡ taken (takes_uni in_listing) uni_ops n }
 {
     let i = n as usize;
     if 20 <= i {
@@ -247,7 +247,7 @@ pub fn uni_op(n: u8, in_listing: bool) -> FoundUni
 }
 
 pub fn bin_op(n: u8, in_listing: bool) -> FoundBin
-    ensures { asBin result ≡ taken (takesBin in_listing) binOps n }
+    ensures { as_bin result ≡ taken (takes_bin in_listing) bin_ops n }
 {
     let i = n as usize;
     if 15 <= i {
@@ -261,7 +261,7 @@ pub fn bin_op(n: u8, in_listing: bool) -> FoundBin
 }
 
 pub fn fused_op(n: u8, in_listing: bool) -> FoundFused
-    ensures { asFused result ≡ taken (takesFused in_listing) fusedOps n }
+    ensures { as_fused result ≡ taken (takes_fused in_listing) fused_ops n }
 {
     let i = n as usize;
     if 4 <= i {
@@ -276,7 +276,7 @@ pub fn fused_op(n: u8, in_listing: bool) -> FoundFused
 
 // Both take all of ArithOp.
 pub fn arith_op(n: u8) -> FoundArith
-    ensures { asArith result ≡ taken takesArith arithOps n }
+    ensures { as_arith result ≡ taken takes_arith arith_ops n }
 {
     match n {
         0 => FoundArith::Op(ArithOp::Plus),

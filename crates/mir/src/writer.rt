@@ -3,7 +3,7 @@
 ghost use Rattle.std.specs.Prelude.{◌≡◌, ◌+◌, ◌-◌, ◌/◌, ◌%◌, ◌<◌, ◌≤◌, take, length};
 ghost use Rattle.std.proofs.lemmas.List.Edits.{sets};
 ghost use Rattle.mir.specs.Length.{length_of};
-ghost use Rattle.mir.specs.Encode.{buf, placed, pushed, recordOf, flagByte};
+ghost use Rattle.mir.specs.Encode.{buf, placed, pushed, record_of, flag_byte};
 ghost use Rattle.mir.specs.declared.records.Work.{Work};
 ghost use Rattle.mir.specs.declared.records.Record.{Record};
 
@@ -40,7 +40,7 @@ fn store(out: &mut [u8], at: usize, bytes: [u8; 11], n: usize)
 // A record of a kind: its length by the table, the kind, and as many of the fields as the length leaves.
 fn put(out: &mut [u8], at: usize, kind: u8, f: [u8; 7]) -> usize
     requires { kind < 18 }
-    ensures { buf out.new result ≡ placed (buf out.old at) (recordOf kind (take (length_of kind - 4) f)) }
+    ensures { buf out.new result ≡ placed (buf out.old at) (record_of kind (take (length_of kind - 4) f)) }
 {
     let k = kind as usize;
     let length = LENGTHS[k];
@@ -185,7 +185,7 @@ pub fn push_call(out: &mut [u8], at: usize, label: u8) -> usize
 
 // The byte of a flag.
 pub fn flag_byte(flag: bool) -> u8
-    ensures { result ≡ flagByte flag }
+    ensures { result ≡ flag_byte flag }
 {
     if flag { 1 } else { 0 }
 }

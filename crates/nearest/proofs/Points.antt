@@ -8,7 +8,7 @@ use lib.ListN.{length, get_or, drop, length-drop}
 use lib.Seq.{drop-cons}
 use lib.Dec.{eqb, ltb}
 use borrow.Author.Tests.{eq-eqb, ne_eqb, lt-ltb, le-ltb}
-use Rattle.nearest.specs.Nearest.{distance, candidates, notFarther, bestOf, Values, told, nearest}
+use Rattle.nearest.specs.Nearest.{distance, candidates, not_farther, best_of, Values, told, nearest}
 
 -- the point at a position, and those behind it
 pub next : (re im i : ℕ) (s : List ℕ) → 2 * i + 1 < length s
@@ -39,7 +39,7 @@ ended re im i s h = short re im i (drop (2 * i) s) (omega (arith, length-drop (2
 
 module _ (re im : ℕ) (s : List ℕ) where
   by : Bool → Bool → Values
-  by even long = cond (not even || long) (record { number = 13; found = 0; index = 0 }) (told (bestOf notFarther re im s))
+  by even long = cond (not even || long) (record { number = 13; found = 0; index = 0 }) (told (best_of not_farther re im s))
 
   tests : (even long : Bool) → eqb (length s % 2) 0 ≡ even → ltb 1024 (length s) ≡ long → by even long ≡ nearest re im s
   unfolding by nearest
@@ -57,6 +57,6 @@ module _ (re im : ℕ) (s : List ℕ) where
   pub long : 1024 < length s → record { number = 13; found = 0; index = 0 } ≡ nearest re im s
   long h = full (eqb (length s % 2) 0) ∙ tests (eqb (length s % 2) 0) true refl (lt-ltb 1024 (length s) h)
 
-  pub taken : length s % 2 ≡ 0 → length s ≤ 1024 → told (bestOf notFarther re im s) ≡ nearest re im s
+  pub taken : length s % 2 ≡ 0 → length s ≤ 1024 → told (best_of not_farther re im s) ≡ nearest re im s
   unfolding by
   taken e h = tests true false (eq-eqb (length s % 2) 0 e) (le-ltb 1024 (length s) h)

@@ -10,8 +10,8 @@ use lib.Dec.{ltb, eqb}
 use lib.Ieee.{Float, nan, inf, fin, up, down, below, level, is_nan, lt, eq, le}
 
 -- ---- ±a against ±b
-below-or-equal : (a b : ℕ) → (ltb a b || eqb a b) ≡ not (ltb b a)
-below-or-equal a b = go (ltb b a) refl
+below_or_equal : (a b : ℕ) → (ltb a b || eqb a b) ≡ not (ltb b a)
+below_or_equal a b = go (ltb b a) refl
   where
     go : (t : Bool) → ltb b a ≡ t → (ltb a b || eqb a b) ≡ not t
     go true e =
@@ -41,9 +41,9 @@ both_zero a b = go (ltb 0 (a + b)) refl
         let h = ltb-false 0 (a + b) e in
         ap₂ ◌&&◌ (eq-eqb a b (omega (arith, h))) (eq-eqb a 0 (omega (arith, h)))
 
-below-level : (s t : Bool) (a b : ℕ) → (below s a t b || level s a t b) ≡ not (below t b s a)
-below-level false false a b = ap (λ t. ltb a b || t) (and-true (eqb a b)) ∙ below-or-equal a b
-below-level true true a b = ap (λ t. ltb b a || t) (and-true (eqb a b) ∙ eqb-turned a b) ∙ below-or-equal b a
+below_level : (s t : Bool) (a b : ℕ) → (below s a t b || level s a t b) ≡ not (below t b s a)
+below_level false false a b = ap (λ t. ltb a b || t) (and-true (eqb a b)) ∙ below_or_equal a b
+below_level true true a b = ap (λ t. ltb b a || t) (and-true (eqb a b) ∙ eqb-turned a b) ∙ below_or_equal b a
   where
     eqb-turned : (a b : ℕ) → eqb a b ≡ eqb b a
     eqb-turned a b = go (eqb a b) refl
@@ -51,41 +51,41 @@ below-level true true a b = ap (λ t. ltb b a || t) (and-true (eqb a b) ∙ eqb-
         go : (t : Bool) → eqb a b ≡ t → t ≡ eqb b a
         go true e = sym (eq-eqb b a (sym (eqb-true a b e)))
         go false e = sym (ne_eqb b a (λ z. eqb-false a b e (sym z)))
-below-level false true a b = both_zero a b ∙ ap (λ n. not (ltb 0 n)) {x = a + b} {y = b + a} (omega arith)
-below-level true false a b = ap (λ t. ltb 0 (a + b) || t) (both_zero a b) ∙ either (ltb 0 (a + b))
+below_level false true a b = both_zero a b ∙ ap (λ n. not (ltb 0 n)) {x = a + b} {y = b + a} (omega arith)
+below_level true false a b = ap (λ t. ltb 0 (a + b) || t) (both_zero a b) ∙ Either (ltb 0 (a + b))
   where
-    either : (t : Bool) → (t || not t) ≡ true
-    either true = refl
-    either false = refl
+    Either : (t : Bool) → (t || not t) ≡ true
+    Either true = refl
+    Either false = refl
 
 -- ---- values
 or-false : (t : Bool) → (t || false) ≡ t
 or-false true = refl
 or-false false = refl
 
-pub not-above-is : (x y : Float) → is_nan x ≡ false → is_nan y ≡ false → le x y ≡ not (lt y x)
+pub not_above_is : (x y : Float) → is_nan x ≡ false → is_nan y ≡ false → le x y ≡ not (lt y x)
 unfolding le lt eq is_nan
-not-above-is nan y p q = absurd (true≢false p)
-not-above-is (inf s) nan p q = absurd (true≢false q)
-not-above-is (inf true) (inf true) p q = refl
-not-above-is (inf true) (inf false) p q = refl
-not-above-is (inf false) (inf true) p q = refl
-not-above-is (inf false) (inf false) p q = refl
-not-above-is (inf true) (fin t n d) p q = refl
-not-above-is (inf false) (fin t n d) p q = refl
-not-above-is (fin s m e) nan p q = absurd (true≢false q)
-not-above-is (fin s m e) (inf t) p q = or-false (not t)
-not-above-is (fin s m e) (fin t n d) p q = below-level s t (m * up e * down d) (n * up d * down e)
+not_above_is nan y p q = absurd (true≢false p)
+not_above_is (inf s) nan p q = absurd (true≢false q)
+not_above_is (inf true) (inf true) p q = refl
+not_above_is (inf true) (inf false) p q = refl
+not_above_is (inf false) (inf true) p q = refl
+not_above_is (inf false) (inf false) p q = refl
+not_above_is (inf true) (fin t n d) p q = refl
+not_above_is (inf false) (fin t n d) p q = refl
+not_above_is (fin s m e) nan p q = absurd (true≢false q)
+not_above_is (fin s m e) (inf t) p q = or-false (not t)
+not_above_is (fin s m e) (fin t n d) p q = below_level s t (m * up e * down d) (n * up d * down e)
 
 -- a NaN is not above anything, nor is anything not above it
-pub not-above-number : (x y : Float) → le x y ≡ true → is_nan x ≡ false
+pub not_above_number : (x y : Float) → le x y ≡ true → is_nan x ≡ false
 unfolding le lt eq is_nan
-not-above-number nan y p = absurd (true≢false (sym p))
-not-above-number (inf s) y p = refl
-not-above-number (fin s m e) y p = refl
+not_above_number nan y p = absurd (true≢false (sym p))
+not_above_number (inf s) y p = refl
+not_above_number (fin s m e) y p = refl
 
-pub not-above-nan : (x : Float) → le x nan ≡ false
+pub not_above_nan : (x : Float) → le x nan ≡ false
 unfolding le lt eq
-not-above-nan nan = refl
-not-above-nan (inf s) = refl
-not-above-nan (fin s m e) = refl
+not_above_nan nan = refl
+not_above_nan (inf s) = refl
+not_above_nan (fin s m e) = refl

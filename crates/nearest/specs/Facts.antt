@@ -18,7 +18,7 @@ tie : nearest 0 0 (0x3ff0_0000_0000_0000 ∷ 0 ∷ 0 ∷ 0xbff0_0000_0000_0000 �
 unfolding nearest is_nan le of_bits to_bits add sub mul
 tie = refl
 
--- a NaN in either word of a point is passed over, before, between and behind two that are equally far
+-- a NaN in Either word of a point is passed over, before, between and behind two that are equally far
 nans : nearest 0 0 (0x7ff0_0000_0000_0001 ∷ 0 ∷ 0x3ff0_0000_0000_0000 ∷ 0 ∷ 0 ∷ 0x7ff8_0000_0000_0000 ∷ 0 ∷ 0x3ff0_0000_0000_0000 ∷ 0 ∷ 0xfff8_0000_0000_0000 ∷ []) ≡ at 3
 unfolding nearest is_nan le of_bits to_bits add sub mul
 nans = refl
@@ -38,13 +38,13 @@ unfolding nearest is_nan le of_bits to_bits add sub mul
 apart = refl
 
 -- no points, NaNs alone, and an answer that is a NaN
-no-points : nearest 0 0 [] ≡ nothing
+no_points : nearest 0 0 [] ≡ nothing
 unfolding nearest
-no-points = refl
+no_points = refl
 
-nans-alone : nearest 0 0 (0x7ff8_0000_0000_0000 ∷ 0 ∷ []) ≡ nothing
+nans_alone : nearest 0 0 (0x7ff8_0000_0000_0000 ∷ 0 ∷ []) ≡ nothing
 unfolding nearest is_nan of_bits to_bits add sub mul
-nans-alone = refl
+nans_alone = refl
 
 lost : nearest 0 0xfff8_0000_0000_0007 (0 ∷ 0 ∷ 0 ∷ 0 ∷ []) ≡ nothing
 unfolding nearest is_nan of_bits to_bits add sub mul

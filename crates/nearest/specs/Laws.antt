@@ -1,4 +1,4 @@
--- Document 02's sentences on the nearest point (g and j), said of the answer and not of the search that finds it (theorem `nearestPoint`).
+-- Document 02's sentences on the nearest point (g and j), said of the answer and not of the search that finds it (theorem `nearest_point`).
 -- Assumes nothing.
 use Rattle.std.specs.Prelude.{ℕ, ◌+◌, ◌*◌, ◌/◌, ◌%◌, ◌≤◌, ◌<◌, ◌≡◌, true, false, List, length, get_or, Float}
 use Rattle.std.specs.Float.Ieee.{is_nan, lt}

@@ -23,8 +23,8 @@ candidates re im i (x ∷ []) = []
 candidates re im i (x ∷ y ∷ points) = record { index = i; far = distance re im x y } ∷ candidates re im (suc i) points
 
 -- j: "of equal distances the latest is to be chosen": a later point takes the place of an earlier one where it is not farther
-abbrev pub notFarther : ℕ → ℕ → Bool
-notFarther later earlier = le (value later) (value earlier)
+abbrev pub not_farther : ℕ → ℕ → Bool
+not_farther later earlier = le (value later) (value earlier)
 
 -- The best so far, one point further, by a comparison. "Points whose distance is NaN are passed over"
 abbrev pub chosen : (ℕ → ℕ → Bool) → Option Candidate → Candidate → Option Candidate
@@ -39,9 +39,9 @@ unfoldable pub fold : (ℕ → ℕ → Bool) → Option Candidate → List Candi
 fold wins best [] = best
 fold wins best (new ∷ points) = fold wins (better wins best new) points
 
-unfoldable pub bestOf : (ℕ → ℕ → Bool) → ℕ → ℕ → List ℕ → Option Candidate
+unfoldable pub best_of : (ℕ → ℕ → Bool) → ℕ → ℕ → List ℕ → Option Candidate
 unfolding fold candidates
-bestOf wins re im points = fold wins none (candidates re im 0 points)
+best_of wins re im points = fold wins none (candidates re im 0 points)
 
 -- What comes back: the number, whether there is a nearest point (1, else 0), and its index.
 pub record Values : Type 0 where
@@ -56,7 +56,7 @@ told (some best) = record { number = 0; found = 1; index = best.index }
 
 -- "Turned away: 13 for an odd count of words or more than 1,024 of them."
 unfoldable pub nearest : ℕ → ℕ → List ℕ → Values
-unfolding bestOf
+unfolding best_of
 nearest re im points =
     cond (not (eqb (length points % 2) 0) || ltb 1024 (length points)) (record { number = 13; found = 0; index = 0 })
-    (told (bestOf notFarther re im points))
+    (told (best_of not_farther re im points))

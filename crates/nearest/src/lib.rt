@@ -2,9 +2,9 @@
 ghost use Rattle.std.specs.Prelude.{◌≡◌, ◌||◌};
 ghost use Rattle.std.specs.Float.Ieee.{le, ne};
 ghost use Rattle.float.specs.Word.{value};
-ghost use Rattle.nearest.specs.Nearest.{notFarther, bestOf, told, nearest};
+ghost use Rattle.nearest.specs.Nearest.{not_farther, best_of, told, nearest};
 ghost use Rattle.nearest.specs.Apart.{apart};
-ghost use Rattle.nearest.specs.Answer.{asValues};
+ghost use Rattle.nearest.specs.Answer.{as_values};
 
 // What the entry answers: the index of the nearest point, no point whose distance is a number, or words that are no points.
 #[derive(Drop)]
@@ -38,7 +38,7 @@ fn wins(least: f64, far: f64) -> bool
 
 // The nearest of all points.
 fn search(re: u64, im: u64, points: &[u64]) -> Nearest
-    ensures { asValues result ≡ told (bestOf notFarther re im points.now) }
+    ensures { as_values result ≡ told (best_of not_farther re im points.now) }
 {
     let x = float::read(re);
     let y = float::read(im);
@@ -64,7 +64,7 @@ fn search(re: u64, im: u64, points: &[u64]) -> Nearest
 
 // The index of the point nearest to the answer (re, im). A point is two words, real then imaginary.
 pub fn nearest_point(re: u64, im: u64, points: &[u64]) -> Nearest
-    ensures { asValues result ≡ nearest re im points.now }
+    ensures { as_values result ≡ nearest re im points.now }
 {
     if points.len() % 2 != 0 {
         return Nearest::Refused;

@@ -14,9 +14,9 @@ numbers v = v.number ∷ v.found ∷ v.index ∷ []
 
 -- An answer of another length than 24 bytes is refused by 8 with nothing written, and points that are no whole number of words by 8.
 -- Otherwise the call gives what the entry gives for the words.
-unfoldable pub nearestCall : ℕ → ℕ → List ℕ → List ℕ → NearestCall
+unfoldable pub nearest_call : ℕ → ℕ → List ℕ → List ℕ → NearestCall
 unfolding bytes_of words_of
-nearestCall re im points lent =
+nearest_call re im points lent =
     cond (not (eqb (length lent) 24)) (record { number = 8; answer = lent })
     (cond (not (eqb (length points % 8) 0)) (record { number = 8; answer = bytes_of (8 ∷ 0 ∷ 0 ∷ []) })
     (let v = nearest re im (words_of points) in record { number = v.number; answer = bytes_of (numbers v) }))

@@ -2,14 +2,14 @@
 ghost use Rattle.std.specs.Prelude.{◌≡◌};
 ghost use Rattle.words.specs.Bytes.{words_of};
 ghost use Rattle.nearest.specs.Nearest.{nearest};
-ghost use Rattle.nearest.specs.Answer.{asValues};
-ghost use Rattle.nearest_call.specs.Call.{nearestCall, numbers};
+ghost use Rattle.nearest.specs.Answer.{as_values};
+ghost use Rattle.nearest_call.specs.Call.{nearest_call, numbers};
 
 use nearest::Nearest;
 
 // The nearest point, with the points as bytes.
 fn nearest_words(re: u64, im: u64, points: &[u8]) -> Nearest
-    ensures { asValues result ≡ nearest re im (words_of points.now) }
+    ensures { as_values result ≡ nearest re im (words_of points.now) }
 {
     let n = points.len() / 8;
     if 1024 < n {
@@ -22,7 +22,7 @@ fn nearest_words(re: u64, im: u64, points: &[u8]) -> Nearest
 
 // The number of an answer.
 fn number_of(found: Nearest) -> u32
-    ensures { result ≡ (asValues found).number }
+    ensures { result ≡ (as_values found).number }
 {
     match found {
         Nearest::At(i) => 0,
@@ -33,7 +33,7 @@ fn number_of(found: Nearest) -> u32
 
 // The three numbers of an answer.
 fn numbers_of(found: Nearest) -> [u64; 3]
-    ensures { result ≡ numbers (asValues found) }
+    ensures { result ≡ numbers (as_values found) }
 {
     match found {
         Nearest::At(i) => [0, 1, i as u64],
@@ -51,7 +51,7 @@ pub extern "C" fn tulipcricket_nearest_unguarded(
     points: &[u8],
     answer: &mut [u8],
 ) -> u32
-    ensures { record { number = result; answer = answer.new } ≡ nearestCall re im points.now answer.old }
+    ensures { record { number = result; answer = answer.new } ≡ nearest_call re im points.now answer.old }
 {
     if answer.len() != 24 {
         return 8;

@@ -7,64 +7,64 @@ use lib.ListN.{length, drop, get_or, drop_of_length-le, length-append}
 use lib.Seq.{sets, drop-cons}
 use Rattle.mir.specs.declared.records.Record.{Record}
 use Rattle.mir.proofs.Decoding.{items, Here, Done}
-use Rattle.records.specs.Record.{recordFrom}
+use Rattle.records.specs.Record.{record_from}
 use Rattle.text.specs.declared.line.Line.{Line}
 use Rattle.text.specs.Line.{Prints}
 use Rattle.text.specs.Puts.{Puts}
 use Rattle.text.proofs.Putting.{Owes, all, less, none}
-use Rattle.pages.specs.Pages.{Row, row_line, blankLine, constantRow, recordRow, numbered, lines}
+use Rattle.pages.specs.Pages.{Row, row_line, blank_line, constant_row, record_row, numbered, lines}
 use Rattle.pages.specs.Standing.{rows_at, FirstLine}
 use Rattle.pages.specs.declared.columns.LineAt.{LineAt}
 
 module _ (cs s : List ℕ) (i from : ℕ) where
   -- a constant stands before all records
-  constant-row : i < length cs → rows_at cs s i from ≡ constantRow i (get_or cs i 0) ∷ rows_at cs s (suc i) from
+  constant-row : i < length cs → rows_at cs s i from ≡ constant_row i (get_or cs i 0) ∷ rows_at cs s (suc i) from
   constant-row h =
       let a : i - length cs ≡ suc i - length cs = omega arith in
-      (λ k. numbered constantRow i (drop-cons cs i 0 h k) ++ numbered recordRow (a k) (items (recordFrom (length cs)) (drop from s)))
+      (λ k. numbered constant_row i (drop-cons cs i 0 h k) ++ numbered record_row (a k) (items (record_from (length cs)) (drop from s)))
 
   -- behind the constants there are records alone
-  behind : length cs ≤ i → rows_at cs s i from ≡ numbered recordRow (i - length cs) (items (recordFrom (length cs)) (drop from s))
+  behind : length cs ≤ i → rows_at cs s i from ≡ numbered record_row (i - length cs) (items (record_from (length cs)) (drop from s))
   behind h =
-      ap (λ l. numbered constantRow i l ++ numbered recordRow (i - length cs) (items (recordFrom (length cs)) (drop from s)))
+      ap (λ l. numbered constant_row i l ++ numbered record_row (i - length cs) (items (record_from (length cs)) (drop from s)))
       (drop_of_length-le cs h)
 
 module _ {cs s : List ℕ} {i from : ℕ} {l : Line} where
-  pub constant-first : i < length cs → Prints (row_line (constantRow i (get_or cs i 0))) l
+  pub constant-first : i < length cs → Prints (row_line (constant_row i (get_or cs i 0))) l
       → FirstLine cs s i from (record { line = l; next = from })
   constant-first h p =
       record {
-        text = row_line (constantRow i (get_or cs i 0));
+        text = row_line (constant_row i (get_or cs i 0));
         prints = p;
         same = λ n. ap (lines (suc n)) (constant-row cs s i from h);
       }
 
-  pub record-first : {r : Record} {next : ℕ} → length cs ≤ i → Here (recordFrom (length cs)) s from r next
-      → Prints (row_line (recordRow (i - length cs) r)) l
+  pub record-first : {r : Record} {next : ℕ} → length cs ≤ i → Here (record_from (length cs)) s from r next
+      → Prints (row_line (record_row (i - length cs) r)) l
       → FirstLine cs s i from (record { line = l; next = next })
   record-first {r} {next} h e p =
       let a : suc (i - length cs) ≡ suc i - length cs = omega arith in
       record {
-        text = row_line (recordRow (i - length cs) r);
+        text = row_line (record_row (i - length cs) r);
         prints = p;
         same =
             λ n.
-            ap (lines (suc n)) (behind cs s i from h ∙ ap (numbered recordRow (i - length cs)) e.same)
-            ∙ ap (λ k. row_line (recordRow (i - length cs) r) ++ lines n (numbered recordRow k (items (recordFrom (length cs)) (drop next s)))) a
-            ∙ ap (λ rows. row_line (recordRow (i - length cs) r) ++ lines n rows) (sym (behind cs s (suc i) next (omega arith)));
+            ap (lines (suc n)) (behind cs s i from h ∙ ap (numbered record_row (i - length cs)) e.same)
+            ∙ ap (λ k. row_line (record_row (i - length cs) r) ++ lines n (numbered record_row k (items (record_from (length cs)) (drop next s)))) a
+            ∙ ap (λ rows. row_line (record_row (i - length cs) r) ++ lines n rows) (sym (behind cs s (suc i) next (omega arith)));
       }
 
-  pub blank-first : {k : ℕ} → length cs ≤ i → Done (recordFrom (length cs)) s from k → Prints blankLine l
+  pub blank-first : {k : ℕ} → length cs ≤ i → Done (record_from (length cs)) s from k → Prints blank_line l
       → FirstLine cs s i from (record { line = l; next = from })
   blank-first h e p =
       record {
-        text = blankLine;
+        text = blank_line;
         prints = p;
         same =
             λ n.
-            ap (lines (suc n)) (behind cs s i from h ∙ ap (numbered recordRow (i - length cs)) e.same)
-            ∙ ap (λ rows. blankLine ++ lines n rows)
-            (sym (behind cs s (suc i) from (omega arith) ∙ ap (numbered recordRow (suc i - length cs)) e.same));
+            ap (lines (suc n)) (behind cs s i from h ∙ ap (numbered record_row (i - length cs)) e.same)
+            ∙ ap (λ rows. blank_line ++ lines n rows)
+            (sym (behind cs s (suc i) from (omega arith) ∙ ap (numbered record_row (suc i - length cs)) e.same));
       }
 
 -- lines put one after the other: what is left before line `first + k`

@@ -1,7 +1,7 @@
 -- A listing and its constants on paper (document 02, i): "pages of 60 lines, each 72 characters and a line feed".
 use Rattle.std.specs.Prelude.{ℕ, zero, suc, ◌+◌, ◌-◌, ◌*◌, ◌/◌, List, [], ◌∷◌, ◌++◌, length, drop, replicate}
 use Rattle.mir.specs.declared.records.Record.{Record}
-use Rattle.text.specs.Text.{ascii, decimalIn, decimal, hexIn, hex, space, line, recordName, recordOperands}
+use Rattle.text.specs.Text.{ascii, decimal_in, decimal, hex_in, hex, space, line, record_name, record_operands}
 
 abbrev pub spaces : ℕ → List ℕ
 spaces n = replicate n 32
@@ -21,21 +21,21 @@ pub record Row : Type 0 where
 
 -- "Columns: index right-aligned in 5, a space, the operation's name left-aligned in 16, a space, operands [..] left-aligned in 49."
 unfoldable pub row_line : Row → List ℕ
-unfolding decimalIn
+unfolding decimal_in
 row_line row = line (right 5 (decimal row.index) ++ space (left 16 row.name) ++ space (left 49 row.operands))
 
-unfoldable pub blankLine : List ℕ
-blankLine = line (spaces 72)
+unfoldable pub blank_line : List ℕ
+blank_line = line (spaces 72)
 
 -- "each on a line with its own index, 16 hexadecimal digits in the operand columns, with `Constant` as the name"
-unfoldable pub constantRow : ℕ → ℕ → Row
-unfolding ascii hexIn
-constantRow index word = record { index = index; name = ascii "Constant"; operands = hex word }
+unfoldable pub constant_row : ℕ → ℕ → Row
+unfolding ascii hex_in
+constant_row index word = record { index = index; name = ascii "Constant"; operands = hex word }
 
 -- "the operation's name", "operands as the `listing` program prints them"
-unfoldable pub recordRow : ℕ → Record → Row
-unfolding recordName recordOperands
-recordRow index r = record { index = index; name = recordName r; operands = recordOperands r }
+unfoldable pub record_row : ℕ → Record → Row
+unfolding record_name record_operands
+record_row index r = record { index = index; name = record_name r; operands = record_operands r }
 
 -- each with its index, from one on
 abbrev pub numbered : {A : Type 0} → (ℕ → A → Row) → ℕ → List A → List Row
@@ -44,21 +44,21 @@ numbered row index (a ∷ l) = row index a ∷ numbered row (suc index) l
 
 -- "Bits of constants come first"
 abbrev pub rows : List ℕ → List Record → List Row
-rows constants records = numbered constantRow 0 constants ++ numbered recordRow 0 records
+rows constants records = numbered constant_row 0 constants ++ numbered record_row 0 records
 
 -- so many lines: those of the rows, and blank ones behind them
 abbrev pub lines : ℕ → List Row → List ℕ
 lines zero l = []
-lines (suc n) [] = blankLine ++ lines n []
+lines (suc n) [] = blank_line ++ lines n []
 lines (suc n) (row ∷ l) = row_line row ++ lines n l
 
 -- so many pages, from one on
-abbrev pub pagesFrom : ℕ → ℕ → List Row → List ℕ
-pagesFrom first n l = lines (60 * n) (drop (60 * first) l)
+abbrev pub pages_from : ℕ → ℕ → List Row → List ℕ
+pages_from first n l = lines (60 * n) (drop (60 * first) l)
 
 -- 60 lines each, the last filled: "The last page is filled with blank lines; an empty listing without constants is no page."
-abbrev pub pageCount : List Row → ℕ
-pageCount l = (length l + 59) / 60
+abbrev pub page_count : List Row → ℕ
+page_count l = (length l + 59) / 60
 
-abbrev pub pagesText : List Row → List ℕ
-pagesText l = pagesFrom 0 (pageCount l) l
+abbrev pub pages_text : List Row → List ℕ
+pages_text l = pages_from 0 (page_count l) l

@@ -5,13 +5,13 @@ use Rattle.mir.specs.declared.records.Loc.{Loc}
 use Rattle.mir.specs.declared.records.Work.{Work}
 use Rattle.mir.specs.declared.records.Record.{Record}
 use Rattle.text.specs.Text.{ascii}
-use Rattle.pages.specs.Pages.{row_line, blankLine, constantRow, recordRow, rows, pagesText}
+use Rattle.pages.specs.Pages.{row_line, blank_line, constant_row, record_row, rows, pages_text}
 
 abbrev times : ℕ → List ℕ → List ℕ
 times zero text = []
 times (suc n) text = text ++ times n text
 
-pub paper : pagesText
+pub paper : pages_text
     (rows (0x4000_0000_0000_0000 ∷ [])
     (Record.Work (Work.LoadConst 4 0)
     ∷ Record.Work (Work.LoadComplex 6 7 (Loc.Mem 3))
@@ -26,5 +26,5 @@ pub paper : pagesText
     ++ ascii "    3 Times            G4 G4 G6                                         \n"
     ++ ascii "    4 SaveComplex      G4 G5 Mem 4                                      \n"
     ++ times 54 (ascii "                                                                        \n")
-unfolding row_line blankLine constantRow recordRow ascii
+unfolding row_line blank_line constant_row record_row ascii
 paper = refl

@@ -4,12 +4,12 @@ use Rattle.records.specs.Record.{records}
 use Rattle.text.specs.declared.line.Line.{Line}
 use Rattle.text.specs.Line.{Prints}
 use Rattle.pages.specs.declared.columns.LineAt.{LineAt}
-use Rattle.pages.specs.Pages.{Row, constantRow, recordRow, numbered, lines}
+use Rattle.pages.specs.Pages.{Row, constant_row, record_row, numbered, lines}
 
 abbrev pub rows_at : List ℕ → List ℕ → ℕ → ℕ → List Row
 rows_at constants listing i from =
-    numbered constantRow i (drop i constants)
-    ++ numbered recordRow (i - length constants) (records (length constants) (drop from listing)).items
+    numbered constant_row i (drop i constants)
+    ++ numbered record_row (i - length constants) (records (length constants) (drop from listing)).items
 
 -- the line of the first of them, a blank one where there is none, and the position of the records behind it
 pub record FirstLine (constants listing : List ℕ) (i from : ℕ) (r : LineAt) : Type 0 where

@@ -1,8 +1,8 @@
 -- "No field is ever cut, and this is shown for every accepted listing and every table of up to 256 constants" (theorem `uncut`).
 use Rattle.std.specs.Prelude.{ℕ, ◌+◌, ◌*◌, ◌≤◌, ◌<◌, ◌≡◌, List, [], ◌∷◌, ◌++◌, cond, eqb, length, take, drop, get_or}
 use Rattle.text.specs.Text.{decimal}
-use Rattle.pages.specs.Pages.{right, left, Row, pageCount, pagesText}
-use Rattle.pages.specs.Printed.{fromRecord0, rows_of}
+use Rattle.pages.specs.Pages.{right, left, Row, page_count, pages_text}
+use Rattle.pages.specs.Printed.{from_record0, rows_of}
 
 -- a text without the spaces before it, and without those behind it
 abbrev pub unindented : List ℕ → List ℕ
@@ -36,9 +36,9 @@ Each P (row ∷ rows) = P row × Each P rows
 -- each row stands whole in its line, and every page has 60 lines of 73 bytes
 abbrev pub UncutLaw : (Row → List ℕ) → Type 0
 UncutLaw line =
-    (listing constants : List ℕ) → ((i : ℕ) → get_or listing i 0 < 256) → (fromRecord0 listing constants).number ≡ 0
+    (listing constants : List ℕ) → ((i : ℕ) → get_or listing i 0 < 256) → (from_record0 listing constants).number ≡ 0
     → Each (λ row. Whole row (line row)) (rows_of listing constants)
-    × (length (pagesText (rows_of listing constants)) ≡ 60 * 73 * pageCount (rows_of listing constants))
+    × (length (pages_text (rows_of listing constants)) ≡ 60 * 73 * page_count (rows_of listing constants))
 
 -- of any way to lay out so many pages from one on: those of two parts, one behind the other, are those that are laid out at once
 abbrev pub Joined : (ℕ → ℕ → List Row → List ℕ) → Type 0

@@ -1,6 +1,6 @@
 // Laying out with constants as bytes, and as a C function. Words go in and out as eight bytes each, the lowest first.
 ghost use Rattle.std.specs.Prelude.{◌≡◌};
-ghost use Rattle.pages.specs.Call.{part_of, pagesCall};
+ghost use Rattle.pages.specs.Call.{part_of, pages_call};
 ghost use Rattle.pages.specs.Values.{whole};
 
 use super::{PagesAnswer, part, refuse};
@@ -36,7 +36,7 @@ pub extern "C" fn tulipcricket_pages_unguarded(
     pages: &mut [u8],
     answer: &mut [u8],
 ) -> u32
-    ensures { record { number = result; pages = pages.new; answer = answer.new } ≡ pagesCall listing.now constants.now pages.old answer.old }
+    ensures { record { number = result; pages = pages.new; answer = answer.new } ≡ pages_call listing.now constants.now pages.old answer.old }
 {
     if answer.len() != 24 {
         return 8;

@@ -3,7 +3,7 @@ ghost use Rattle.std.specs.Prelude.{◌+◌, ◌-◌, ◌≤◌, ◌<◌, ◌≡
 ghost use Rattle.text.specs.Line.{Adds, Prints};
 ghost use Rattle.text.specs.Puts.{Puts};
 ghost use Rattle.text.specs.Text.{decimal};
-ghost use Rattle.pages.specs.Pages.{spaces, right, row_line, blankLine, constantRow, recordRow, lines};
+ghost use Rattle.pages.specs.Pages.{spaces, right, row_line, blank_line, constant_row, record_row, lines};
 ghost use Rattle.pages.specs.Standing.{rows_at, FirstLine};
 
 use mir::records::Record;
@@ -48,14 +48,14 @@ fn index_line(index: usize) -> Line
 }
 
 fn blank_line() -> Line
-    ensures { Prints blankLine result }
+    ensures { Prints blank_line result }
 {
     fill_to(empty_line(), 72, b'\n')
 }
 
 fn constant_line(index: usize, word: u64) -> Line
     requires { index < 100000 }
-    ensures { Prints (row_line (constantRow index word)) result }
+    ensures { Prints (row_line (constant_row index word)) result }
 {
     let line = fill_to(index_line(index).text(b"Constant"), 22, b' ');
     fill_to(line.hex(word), 72, b'\n')
@@ -63,7 +63,7 @@ fn constant_line(index: usize, word: u64) -> Line
 
 fn record_line(index: usize, record: Record) -> Line
     requires { index < 100000 }
-    ensures { Prints (row_line (recordRow index «record»)) result }
+    ensures { Prints (row_line (record_row index «record»)) result }
 {
     let line = fill_to(index_line(index).record_name(record), 22, b' ');
     fill_to(line.record_operands(record), 72, b'\n')
@@ -71,13 +71,13 @@ fn record_line(index: usize, record: Record) -> Line
 
 // The line of a constant by its index, and of a record.
 pub fn constant_text(index: u16, word: u64) -> Line
-    ensures { Prints (row_line (constantRow index word)) result }
+    ensures { Prints (row_line (constant_row index word)) result }
 {
     constant_line(index as usize, word)
 }
 
 pub fn record_text(index: u16, record: Record) -> Line
-    ensures { Prints (row_line (recordRow index «record»)) result }
+    ensures { Prints (row_line (record_row index «record»)) result }
 {
     record_line(index as usize, record)
 }

@@ -3,8 +3,8 @@ ghost use Rattle.std.specs.Prelude.{◌-◌, ◌*◌, ◌≤◌, ◌≡◌, leng
 ghost use Rattle.records.specs.Record.{records};
 ghost use Rattle.text.specs.Puts.{Puts};
 ghost use Rattle.player.specs.Positions.{Behind};
-ghost use Rattle.pages.specs.Pages.{pageCount, pagesFrom};
-ghost use Rattle.pages.specs.Printed.{fromRecord0, rows_of, least, printed, printedPart};
+ghost use Rattle.pages.specs.Pages.{page_count, pages_from};
+ghost use Rattle.pages.specs.Printed.{from_record0, rows_of, least, printed, printed_part};
 ghost use Rattle.pages.specs.Values.{whole};
 
 pub mod call;
@@ -39,7 +39,7 @@ fn lesser(a: usize, b: usize) -> usize
 
 // The position of record k of a listing that is accepted from record 0.
 fn position(listing: &[u8], constants: &[u64], k: usize) -> usize
-    requires constants_value { (fromRecord0 listing.now constants.now).number ≡ 0 }
+    requires constants_value { (from_record0 listing.now constants.now).number ≡ 0 }
     requires k_in_bounds { k ≤ length (records (length constants.now) listing.now).items }
     ensures { Behind listing.now 0 k result }
 {
@@ -52,10 +52,10 @@ fn position(listing: &[u8], constants: &[u64], k: usize) -> usize
 
 // Puts n pages from page `first` on, of a listing that is accepted from record 0; where they end.
 fn put_pages(out: &mut [u8], listing: &[u8], constants: &[u64], first: usize, n: usize) -> usize
-    requires constants_value { (fromRecord0 listing.now constants.now).number ≡ 0 }
-    requires n_bound { n ≤ pageCount (rows_of listing.now constants.now) - first }
+    requires constants_value { (from_record0 listing.now constants.now).number ≡ 0 }
+    requires n_bound { n ≤ page_count (rows_of listing.now constants.now) - first }
     requires n_in_bounds { 4380 * n ≤ length out.old }
-    ensures { Puts out.old 0 (pagesFrom first n (rows_of listing.now constants.now)) out.new result }
+    ensures { Puts out.old 0 (pages_from first n (rows_of listing.now constants.now)) out.new result }
 {
     if n == 0 {
         return 0;
@@ -73,7 +73,7 @@ pub fn part(
     most: usize,
     out: &mut [u8],
 ) -> PagesAnswer
-    ensures { whole result out.new ≡ printedPart first most listing.now constants.now out.old }
+    ensures { whole result out.new ≡ printed_part first most listing.now constants.now out.old }
 {
     let v = judge(listing, constants.len(), 0, 1602);
     if v.number != 0 {

@@ -6,7 +6,7 @@ use mathlib.Core.List.{List, [], ◌∷◌, ◌++◌}
 use lib.Ieee.{Float, is_nan, lt, of_bits}
 use Rattle.float.specs.Word.{value}
 use Rattle.peak.specs.Peak.{larger, largest}
-use Rattle.float.proofs.Order.{not-below-through, above-number, below-trans}
+use Rattle.float.proofs.Order.{not_below_through, above_number, below_trans}
 
 -- whether the later of two values is taken
 abbrev yields : Float → Float → Bool
@@ -20,18 +20,18 @@ or-false : (a b : Bool) → a || b ≡ false → (a ≡ false) × (b ≡ false)
 or-false true b e = absurd (true≢false e)
 or-false false b e = (refl, e)
 
-yields-trans : (x y z : Float) → yields x y ≡ true → yields y z ≡ true → yields x z ≡ true
-yields-trans x y z p q = or-true (is_nan x) (lt x y) (lt x z) (λ l. below-trans x y z l (number (is_nan y) (lt y z) (above-number x y l) q)) p
+yields_trans : (x y z : Float) → yields x y ≡ true → yields y z ≡ true → yields x z ≡ true
+yields_trans x y z p q = or-true (is_nan x) (lt x y) (lt x z) (λ l. below_trans x y z l (number (is_nan y) (lt y z) (above_number x y l) q)) p
   where
     number : (a b : Bool) → a ≡ false → a || b ≡ true → b ≡ true
     number true b n e = absurd (true≢false n)
     number false b n e = e
 
-stays-through : (x y z : Float) → yields x y ≡ false → yields y z ≡ false → yields x z ≡ false
-stays-through x y z p q =
+stays_through : (x y z : Float) → yields x y ≡ false → yields y z ≡ false → yields x z ≡ false
+stays_through x y z p q =
     let a = or-false (is_nan x) (lt x y) p in
     let b = or-false (is_nan y) (lt y z) q in
-    ap (λ t. t || lt x z) a.0 ∙ not-below-through x y z b.0 a.1 b.1
+    ap (λ t. t || lt x z) a.0 ∙ not_below_through x y z b.0 a.1 b.1
 
 takes : (a b : ℕ) {t : Bool} → yields (value a) (value b) ≡ t → larger a b ≡ cond t b a
 unfolding larger
@@ -42,13 +42,13 @@ associative a b c = cases (yields (value a) (value b)) (yields (value b) (value 
   where
     cases : (t u : Bool) → yields (value a) (value b) ≡ t → yields (value b) (value c) ≡ u → larger a (larger b c) ≡ larger (larger a b) c
     cases true true p q =
-        ap (larger a) (takes b c q) ∙ takes a c (yields-trans (value a) (value b) (value c) p q) ∙ sym (takes b c q) ∙ ap (λ x. larger x c) (sym (takes a b p))
+        ap (larger a) (takes b c q) ∙ takes a c (yields_trans (value a) (value b) (value c) p q) ∙ sym (takes b c q) ∙ ap (λ x. larger x c) (sym (takes a b p))
     cases true false p q = ap (larger a) (takes b c q) ∙ takes a b p ∙ sym (takes b c q) ∙ ap (λ x. larger x c) (sym (takes a b p))
     cases false true p q = ap (larger a) (takes b c q) ∙ ap (λ x. larger x c) (sym (takes a b p))
     cases false false p q =
-        ap (larger a) (takes b c q) ∙ takes a b p ∙ sym (takes a c (stays-through (value a) (value b) (value c) p q)) ∙ ap (λ x. larger x c) (sym (takes a b p))
+        ap (larger a) (takes b c q) ∙ takes a b p ∙ sym (takes a c (stays_through (value a) (value b) (value c) p q)) ∙ ap (λ x. larger x c) (sym (takes a b p))
 
-pub largest-append : (s t : List ℕ) → largest (s ++ t) ≡ larger (largest s) (largest t)
+pub largest_append : (s t : List ℕ) → largest (s ++ t) ≡ larger (largest s) (largest t)
 unfolding largest is_nan of_bits
-largest-append [] t = refl
-largest-append (a ∷ s) t = ap (larger a) (largest-append s t) ∙ associative a (largest s) (largest t)
+largest_append [] t = refl
+largest_append (a ∷ s) t = ap (larger a) (largest_append s t) ∙ associative a (largest s) (largest t)

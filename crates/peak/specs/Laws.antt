@@ -1,4 +1,4 @@
--- Document 02's sentences on the running peak (e), said of the word at a position and not of how it is found (theorem `runningPeak`).
+-- Document 02's sentences on the running peak (e), said of the word at a position and not of how it is found (theorem `running_peak`).
 -- Assumes nothing.
 use Rattle.std.specs.Prelude.{ℕ, ◌+◌, ◌≤◌, ◌<◌, ◌≡◌, true, false, List, length, get_or, Float}
 use Rattle.std.specs.Float.Ieee.{is_nan, lt}

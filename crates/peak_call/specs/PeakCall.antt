@@ -10,9 +10,9 @@ pub record PeakCall : Type 0 where
 
 -- A run or an output that is no whole number of words is refused by 8 with nothing written. Otherwise the call gives what the entry gives for
 -- the words.
-unfoldable pub peakCall : List ℕ → ℕ → List ℕ → PeakCall
+unfoldable pub peak_call : List ℕ → ℕ → List ℕ → PeakCall
 unfolding bytes_of words_of Peak.number Peak.after
-peakCall run w out =
+peak_call run w out =
     cond (not (eqb (length run % 8) 0)) (record { number = 8; out = out })
     (cond (not (eqb (length out % 8) 0)) (record { number = 8; out = out })
     (record { number = Peak.number (words_of run) w (words_of out); out = bytes_of (Peak.after (words_of run) w (words_of out)) }))

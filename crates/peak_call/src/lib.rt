@@ -1,6 +1,6 @@
 // The running peak as a C function. Words go in and out as eight bytes each, the lowest first.
 ghost use Rattle.std.specs.Prelude.{◌≡◌};
-ghost use Rattle.peak_call.specs.PeakCall.{peakCall};
+ghost use Rattle.peak_call.specs.PeakCall.{peak_call};
 
 use words::{load, save};
 
@@ -8,7 +8,7 @@ use words::{load, save};
 // or the output is no whole number of words.
 #[unsafe(no_mangle)]
 pub extern "C" fn tulipcricket_peak_unguarded(run: &[u8], window: u64, out: &mut [u8]) -> u32
-    ensures { record { number = result; out = out.new } ≡ peakCall run.now window out.old }
+    ensures { record { number = result; out = out.new } ≡ peak_call run.now window out.old }
 {
     if run.len() % 8 != 0 {
         return 8;

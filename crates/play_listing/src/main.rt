@@ -1,8 +1,8 @@
 // play_listing LISTING CONSTANTS STORE AFTER [START]: plays a listing on a store from a record on, makes the file of the store after it,
 // and says what came of it. On a refusal no file is made.
 ghost use Rattle.text.specs.Line.{Prints};
-ghost use Rattle.interface.specs.Calls.{playCall};
-ghost use Rattle.play_listing.specs.Plays.{answerLine, Plays};
+ghost use Rattle.interface.specs.Calls.{play_call};
+ghost use Rattle.play_listing.specs.Plays.{answer_line, Plays};
 
 use files::start::start_of;
 use interface::tulipcricket_play_unguarded;
@@ -12,7 +12,7 @@ use words::word_at;
 
 // The line for an answer of playing.
 fn answer_line(answer: &[u8]) -> Line
-    ensures { Prints (answerLine answer.now) result }
+    ensures { Prints (answer_line answer.now) result }
 {
     played_line(word_at(answer, 0), word_at(answer, 8), word_at(answer, 16))
 }
@@ -25,7 +25,7 @@ fn play_bytes(
     start: u64,
     answer: &mut [u8],
 ) -> Line
-    ensures { Plays (playCall listing.now constants.now store.old start answer.old) store.new answer.new result }
+    ensures { Plays (play_call listing.now constants.now store.old start answer.old) store.new answer.new result }
 {
     tulipcricket_play_unguarded(listing, constants, store, start, answer);
     answer_line(answer)

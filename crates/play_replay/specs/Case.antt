@@ -8,20 +8,20 @@ use Rattle.replay.specs.Whole.{cut_at, WholeAt}
 use Rattle.replay.specs.Tally.{Cases}
 
 -- where the constants, the word that fills the store, the words set before and the words changed begin, and where the case ends
-abbrev pub constantsAt : List ℕ → ℕ
-constantsAt s = 48 + u32_at s 0
+abbrev pub constants_at : List ℕ → ℕ
+constants_at s = 48 + u32_at s 0
 
-abbrev pub fillAt : List ℕ → ℕ
-fillAt s = constantsAt s + 8 * u32_at s 4
+abbrev pub fill_at : List ℕ → ℕ
+fill_at s = constants_at s + 8 * u32_at s 4
 
-abbrev pub beforeAt : List ℕ → ℕ
-beforeAt s = fillAt s + 8
+abbrev pub before_at : List ℕ → ℕ
+before_at s = fill_at s + 8
 
-abbrev pub changedAt : List ℕ → ℕ
-changedAt s = beforeAt s + 12 * u32_at s 12
+abbrev pub changed_at : List ℕ → ℕ
+changed_at s = before_at s + 12 * u32_at s 12
 
 abbrev pub end : List ℕ → ℕ
-end s = changedAt s + 12 * u32_at s 16
+end s = changed_at s + 12 * u32_at s 16
 
 -- the bytes begin with no whole case that ends at a position; a case has at most 257 constants and 1,603 words of the store
 abbrev pub cut : ℕ → List ℕ → Bool
@@ -40,17 +40,17 @@ listing s = take (u32_at s 0) (drop 48 s)
 
 unfoldable pub constants : List ℕ → List ℕ
 unfolding words_of
-constants s = words_of (take (8 * u32_at s 4) (drop (constantsAt s) s))
+constants s = words_of (take (8 * u32_at s 4) (drop (constants_at s) s))
 
 -- the store filled with one word, the store before the play, and the one expected at its end
 unfoldable pub filled : List ℕ → List ℕ
-filled s = replicate (u32_at s 8) (word_at s (fillAt s))
+filled s = replicate (u32_at s 8) (word_at s (fill_at s))
 
 unfoldable pub before : List ℕ → List ℕ
-before s = patched s (beforeAt s) (filled s) (u32_at s 12)
+before s = patched s (before_at s) (filled s) (u32_at s 12)
 
 unfoldable pub after : List ℕ → List ℕ
-after s = patched s (changedAt s) (before s) (u32_at s 16)
+after s = patched s (changed_at s) (before s) (u32_at s 16)
 
 -- what the machine answers to the case
 unfoldable pub answered : List ℕ → Answer

@@ -1,7 +1,7 @@
 // One case: where it ends, and how the player answers it.
 ghost use Rattle.std.specs.Prelude.{◌^◌, ◌<◌, ◌≡◌, length};
 ghost use Rattle.play_replay.specs.Case as Case;
-ghost use Rattle.play_replay.specs.Case.{WholePlay, fillAt, changedAt, filled, answered, expected, differs};
+ghost use Rattle.play_replay.specs.Case.{WholePlay, fill_at, changed_at, filled, answered, expected, differs};
 ghost use Rattle.replay.specs.Numbers.{u32_at};
 ghost use Rattle.player.specs.Values.{whole};
 
@@ -13,14 +13,14 @@ use words::{load, word_at};
 
 // Where the word that fills the store stands.
 fn fill_at(s: &[u8]) -> usize
-    ensures { (result ≡ fillAt s.now) × (result < 2 ^ 36) }
+    ensures { (result ≡ fill_at s.now) × (result < 2 ^ 36) }
 {
     48 + count_at(s, 0) + 8 * count_at(s, 4)
 }
 
 // Where the words changed begin.
 fn changed_at(s: &[u8]) -> usize
-    ensures { (result ≡ changedAt s.now) × (result < 2 ^ 38) }
+    ensures { (result ≡ changed_at s.now) × (result < 2 ^ 38) }
 {
     fill_at(s) + 8 + 12 * count_at(s, 12)
 }

@@ -8,11 +8,11 @@ use Rattle.records.specs.Record.{records}
 use Rattle.player_machine.specs.Machine.{Store, works, block, play, going}
 use Rattle.player_machine.specs.Jumps.{breach}
 use Rattle.player_machine.specs.Answer.{accept, answer}
-use Rattle.player_machine.specs.Refusal.{Refusal, refusal, answerBy}
+use Rattle.player_machine.specs.Refusal.{Refusal, refusal, answer_by}
 use Rattle.player_machine.proofs.Refusing.{Accepted, refused, accepted}
 use Rattle.player.specs.declared.Verdict.{Verdict}
 use Rattle.player.specs.declared.passes.Examination.{Examination}
-use Rattle.player.specs.Positions.{left, onFrom, Behind, Examined, Judged, Played}
+use Rattle.player.specs.Positions.{left, on_from, Behind, Examined, Judged, Played}
 
 -- a refusal, by the number that is not 0
 pub turned-away : {s : List ℕ} {constants start words : ℕ} {v : Verdict} {number index : ℕ}
@@ -41,11 +41,11 @@ module _ {s : List ℕ} {constants start words : ℕ} where
 
 module _ (constants s : List ℕ) (start : ℕ) (σ : Store) {v : Verdict} (j : Judged s (length constants) start (length σ) v) where
   by-verdict : answer s constants start σ
-      ≡ answerBy (record { number = v.number; index = v.index }) σ
+      ≡ answer_by (record { number = v.number; index = v.index }) σ
       (play constants (block (records (length constants) s).items) going (drop start (records (length constants) s).items) σ)
   by-verdict =
       refused s constants start σ
-      ∙ ap (λ (r : Refusal). answerBy r σ
+      ∙ ap (λ (r : Refusal). answer_by r σ
       (play constants (block (records (length constants) s).items) going (drop start (records (length constants) s).items) σ))
       (sym j.same)
 
@@ -55,7 +55,7 @@ module _ (constants s : List ℕ) (start : ℕ) (σ : Store) {v : Verdict} (j : 
 
   same-play : v.number ≡ 0
       → play constants (block (records (length constants) s).items) going (drop start (records (length constants) s).items) σ
-      ≡ onFrom constants s v.body v.from σ
+      ≡ on_from constants s v.body v.from σ
   unfolding block
   same-play z =
       ap (λ l. play constants (works l) going (drop start (records (length constants) s).items) σ) (sym (j.body z).same)

@@ -9,29 +9,29 @@ use borrow.Author.Tests.{eqb-true, ne_eqb}
 use Rattle.mir.specs.declared.records.Work.{Work}
 use Rattle.mir.specs.declared.records.Record.{Record}
 use Rattle.mir.specs.Read.{got}
-use Rattle.mir.specs.Operation.{arithOps}
-use Rattle.mir.specs.Takes.{takesArith}
-use Rattle.mir.specs.Field.{byte_at, bytes_at, u16At, takesKind, headFrom}
+use Rattle.mir.specs.Operation.{arith_ops}
+use Rattle.mir.specs.Takes.{takes_arith}
+use Rattle.mir.specs.Field.{byte_at, bytes_at, u16_at, takes_kind, head_from}
 use Rattle.mir.proofs.Passing.{then}
 use Rattle.mir.proofs.Heads.{headed}
-use Rattle.mir.proofs.IfRead.{IfRead, read, told, if-got, tested, parted, chosen, limited, operation, place, save}
+use Rattle.mir.proofs.IfRead.{IfRead, read, told, if_got, tested, parted, chosen, limited, operation, place, save}
 use Rattle.mir.proofs.ByKind.{uni, bi, mov, load, saving, load-const, fused, if-else}
-use Rattle.records.specs.Record.{fieldsFrom, recordFrom}
-use Rattle.player_machine.specs.Machine.{isLabel}
-use Rattle.player_machine.specs.Jumps.{isJump, isReturn}
-use Rattle.player.specs.Encoded.{jumpOf, jumpEncoded, jumpIn, such}
+use Rattle.records.specs.Record.{fields_from, record_from}
+use Rattle.player_machine.specs.Machine.{is_label}
+use Rattle.player_machine.specs.Jumps.{is_jump, is_return}
+use Rattle.player.specs.Encoded.{jump_of, jump_encoded, jump_in, such}
 
 -- what was read is what a kind and the fields encode
 module _ (count kind : ℕ) (s : List ℕ) where
   abbrev Encodes : Record → Type 0
-  Encodes r = jumpOf kind s ≡ jumpIn r
+  Encodes r = jump_of kind s ≡ jump_in r
 
-  encodes : {j : Option Record} (n : ℕ) → kind ≡ n → jumpOf n s ≡ j → jumpOf kind s ≡ j
-  encodes n k e = ap (λ k. jumpOf k s) k ∙ e
+  encodes : {j : Option Record} (n : ℕ) → kind ≡ n → jump_of n s ≡ j → jump_of kind s ≡ j
+  encodes n k e = ap (λ k. jump_of k s) k ∙ e
 
   -- kind by kind
-  fields : IfRead Encodes (fieldsFrom count kind s)
-  unfolding fieldsFrom
+  fields : IfRead Encodes (fields_from count kind s)
+  unfolding fields_from
   fields =
       let b = byte_at s in
       chosen kind 1 (λ k. uni true s (λ op d a. Record.Work (Work.Uni op d a)) (λ op d a t x y. encodes 1 k refl))
@@ -45,78 +45,78 @@ module _ (count kind : ℕ) (s : List ℕ) where
       (chosen kind 11 (λ k. limited 65 (bytes_at s 4 2) (λ l. parted (place s 6) (λ p q. read (encodes 11 k refl))))
       (chosen kind 12 (λ k. limited 65 (bytes_at s 4 2) (λ l. parted (save s 6) (λ p q. read (encodes 12 k refl))))
       (chosen kind 13
-      (λ k. parted (operation takesArith arithOps (b 4)) (λ op t. limited 65 (bytes_at s 5 6) (λ l. read (encodes 13 k refl))))
+      (λ k. parted (operation takes_arith arith_ops (b 4)) (λ op t. limited 65 (bytes_at s 5 6) (λ l. read (encodes 13 k refl))))
       (chosen kind 14 (λ k. read (encodes 14 k refl))
       (chosen kind 15 (λ k. read (encodes 15 k refl))
       (chosen kind 16 (λ k. read (encodes 16 k refl))
       (chosen kind 17 (λ k. tested (ltb 1 (b 6)) 1 (λ e. limited 65 (bytes_at s 4 1) (λ l. read (encodes 17 k refl))))
       told))))))))))))))
 
-pub encoding : (count : ℕ) (s : List ℕ) (rec : Record) → recordFrom count s ≡ got rec → jumpEncoded s ≡ jumpIn rec
-unfolding recordFrom
+pub encoding : (count : ℕ) (s : List ℕ) (rec : Record) → record_from count s ≡ got rec → jump_encoded s ≡ jump_in rec
+unfolding record_from
 encoding count s rec e =
-    let t = then (headFrom (takesKind true) s) (λ kind. fieldsFrom count kind s) rec e in
-    let h = headed (takesKind true) s t.first t.found in
-    if-got (fields count (u16At s 2) s) (ap (λ kind. fieldsFrom count kind s) (sym h.same) ∙ t.rest)
+    let t = then (head_from (takes_kind true) s) (λ kind. fields_from count kind s) rec e in
+    let h = headed (takes_kind true) s t.first t.found in
+    if_got (fields count (u16_at s 2) s) (ap (λ kind. fields_from count kind s) (sym h.same) ∙ t.rest)
 
 -- the jump that a record is
-jump-by : (rec r : Record) → jumpIn rec ≡ some r → rec ≡ r
-jump-by (Record.Work w) r e = cc
-jump-by (Record.Label l) r e = cc
-jump-by (Record.Branch l) r e = cc
-jump-by (Record.Call l) r e = cc
-jump-by (Record.BranchIf c l x) r e = cc
+jump_by : (rec r : Record) → jump_in rec ≡ some r → rec ≡ r
+jump_by (Record.Work w) r e = cc
+jump_by (Record.Label l) r e = cc
+jump_by (Record.Branch l) r e = cc
+jump_by (Record.Call l) r e = cc
+jump_by (Record.BranchIf c l x) r e = cc
 
-none-jumps : (rec r : Record) → isJump rec ≡ true → none ≡ jumpIn rec → rec ≡ r
-none-jumps (Record.Work w) r j e = absurd (true≢false (sym j))
-none-jumps (Record.Label l) r j e = cc
-none-jumps (Record.Branch l) r j e = cc
-none-jumps (Record.Call l) r j e = cc
-none-jumps (Record.BranchIf c l x) r j e = cc
+none_jumps : (rec r : Record) → is_jump rec ≡ true → none ≡ jump_in rec → rec ≡ r
+none_jumps (Record.Work w) r j e = absurd (true≢false (sym j))
+none_jumps (Record.Label l) r j e = cc
+none_jumps (Record.Branch l) r j e = cc
+none_jumps (Record.Call l) r j e = cc
+none_jumps (Record.BranchIf c l x) r j e = cc
 
-module _ (s : List ℕ) (rec : Record) (e : jumpEncoded s ≡ jumpIn rec) where
-  pub a-jump : (n : ℕ) {r : Record} → u16At s 2 ≡ n → jumpOf n s ≡ some r → rec ≡ r
-  a-jump n k f = jump-by rec _ (sym e ∙ ap (λ k. jumpOf k s) k ∙ f)
+module _ (s : List ℕ) (rec : Record) (e : jump_encoded s ≡ jump_in rec) where
+  pub a-jump : (n : ℕ) {r : Record} → u16_at s 2 ≡ n → jump_of n s ≡ some r → rec ≡ r
+  a-jump n k f = jump_by rec _ (sym e ∙ ap (λ k. jump_of k s) k ∙ f)
 
-  pub a-branch-if : {l : ℕ} → u16At s 2 ≡ 17 → l ≡ byte_at s 5 → rec ≡ Record.BranchIf (byte_at s 4) l (eqb (byte_at s 6) 1)
+  pub a-branch-if : {l : ℕ} → u16_at s 2 ≡ 17 → l ≡ byte_at s 5 → rec ≡ Record.BranchIf (byte_at s 4) l (eqb (byte_at s 6) 1)
   a-branch-if k f = a-jump 17 k (ap (λ l. some (Record.BranchIf (byte_at s 4) l (eqb (byte_at s 6) 1))) (sym f))
 
   -- a jump of no other kind
-  pub a_call : isJump rec ≡ true → (u16At s 2 ≡ 14 → ⊥) → (u16At s 2 ≡ 15 → ⊥) → (u16At s 2 ≡ 17 → ⊥) → rec ≡ Record.Call (byte_at s 4)
+  pub a_call : is_jump rec ≡ true → (u16_at s 2 ≡ 14 → ⊥) → (u16_at s 2 ≡ 15 → ⊥) → (u16_at s 2 ≡ 17 → ⊥) → rec ≡ Record.Call (byte_at s 4)
   a_call j x y z =
-      go (eqb (u16At s 2) 16)
+      go (eqb (u16_at s 2) 16)
       (sym (simp (ne_eqb _ _ x, ne_eqb _ _ y, ne_eqb _ _ z)) ∙ e)
     where
-      go : (b : Bool) → cond b (some (Record.Call (byte_at s 4))) none ≡ jumpIn rec → rec ≡ Record.Call (byte_at s 4)
-      go true f = jump-by rec _ (sym f)
-      go false f = none-jumps rec _ j f
+      go : (b : Bool) → cond b (some (Record.Call (byte_at s 4))) none ≡ jump_in rec → rec ≡ Record.Call (byte_at s 4)
+      go true f = jump_by rec _ (sym f)
+      go false f = none_jumps rec _ j f
 
   -- a test that holds of no working record
-  such_in : (p : Record → Bool) → ((w : Work) → p (Record.Work w) ≡ false) → such p (jumpEncoded s) ≡ p rec
+  such_in : (p : Record → Bool) → ((w : Work) → p (Record.Work w) ≡ false) → such p (jump_encoded s) ≡ p rec
   such_in p h = ap (such p) e ∙ go rec
     where
-      go : (r : Record) → such p (jumpIn r) ≡ p r
+      go : (r : Record) → such p (jump_in r) ≡ p r
       go (Record.Work w) = sym (h w)
       go (Record.Label m) = refl
       go (Record.Branch m) = refl
       go (Record.Call m) = refl
       go (Record.BranchIf c m x) = refl
 
-  pub such-label : (l : ℕ) → such (isLabel l) (jumpEncoded s) ≡ isLabel l rec
-  unfolding isLabel
-  such-label l = such_in (isLabel l) (λ w. refl)
+  pub such-label : (l : ℕ) → such (is_label l) (jump_encoded s) ≡ is_label l rec
+  unfolding is_label
+  such-label l = such_in (is_label l) (λ w. refl)
 
-  pub such-return : such isReturn (jumpEncoded s) ≡ isReturn rec
-  unfolding isReturn
-  such-return = such_in isReturn (λ w. refl)
+  pub such-return : such is_return (jump_encoded s) ≡ is_return rec
+  unfolding is_return
+  such-return = such_in is_return (λ w. refl)
 
 -- what each kind encodes
-pub label_of : (kind : ℕ) (s : List ℕ) (l : ℕ) → such (isLabel l) (jumpOf kind s) ≡ cond (eqb kind 14) (eqb (byte_at s 4) l) false
-unfolding isLabel
+pub label_of : (kind : ℕ) (s : List ℕ) (l : ℕ) → such (is_label l) (jump_of kind s) ≡ cond (eqb kind 14) (eqb (byte_at s 4) l) false
+unfolding is_label
 label_of kind s l = go (eqb kind 14) (eqb kind 15) (eqb kind 16) (eqb kind 17)
   where
     go : (a b c d : Bool)
-        → such (isLabel l)
+        → such (is_label l)
         (cond a (some (Record.Label (byte_at s 4)))
         (cond b (some (Record.Branch (byte_at s 4)))
         (cond c (some (Record.Call (byte_at s 4)))
@@ -128,17 +128,17 @@ label_of kind s l = go (eqb kind 14) (eqb kind 15) (eqb kind 16) (eqb kind 17)
     go false false false true = refl
     go false false false false = refl
 
-pub return-at : (s : List ℕ) → u16At s 2 ≡ 15 → such isReturn (jumpEncoded s) ≡ eqb (byte_at s 4) 0
-unfolding isReturn
-return-at s e = ap (λ k. such isReturn (jumpOf k s)) e
+pub return_at : (s : List ℕ) → u16_at s 2 ≡ 15 → such is_return (jump_encoded s) ≡ eqb (byte_at s 4) 0
+unfolding is_return
+return_at s e = ap (λ k. such is_return (jump_of k s)) e
 
-pub return_of : (s : List ℕ) → (u16At s 2 ≡ 15 → ⊥) → such isReturn (jumpEncoded s) ≡ false
-unfolding isReturn
+pub return_of : (s : List ℕ) → (u16_at s 2 ≡ 15 → ⊥) → such is_return (jump_encoded s) ≡ false
+unfolding is_return
 return_of s n =
-    go (eqb (u16At s 2) 14) (eqb (u16At s 2) 15) (eqb (u16At s 2) 16) (eqb (u16At s 2) 17) (λ e. n (eqb-true (u16At s 2) 15 e))
+    go (eqb (u16_at s 2) 14) (eqb (u16_at s 2) 15) (eqb (u16_at s 2) 16) (eqb (u16_at s 2) 17) (λ e. n (eqb-true (u16_at s 2) 15 e))
   where
     go : (a b c d : Bool) → (b ≡ true → ⊥)
-        → such isReturn
+        → such is_return
         (cond a (some (Record.Label (byte_at s 4)))
         (cond b (some (Record.Branch (byte_at s 4)))
         (cond c (some (Record.Call (byte_at s 4)))

@@ -4,14 +4,14 @@ use Rattle.mir.specs.declared.records.Work.{Work}
 use Rattle.mir.specs.declared.records.Record.{Record}
 use Rattle.mir.specs.Read.{got}
 use Rattle.records.specs.declared.reader.Summary.{Summary}
-use Rattle.records.specs.Record.{recordFrom, records}
-use Rattle.player_machine.specs.Machine.{Store, End, execs, works, isLabel, seek, ticks, play, going}
-use Rattle.player_machine.specs.Jumps.{bit, tally, isJump, isReturn, in_block, breaks, breach}
+use Rattle.records.specs.Record.{record_from, records}
+use Rattle.player_machine.specs.Machine.{Store, End, execs, works, is_label, seek, ticks, play, going}
+use Rattle.player_machine.specs.Jumps.{bit, tally, is_jump, is_return, in_block, breaks, breach}
 use Rattle.player_machine.specs.Refusal.{refusal}
 use Rattle.player.specs.declared.Verdict.{Verdict}
 use Rattle.player.specs.declared.passes.Examination.{Examination}
 use Rattle.player.specs.declared.run.Progress.{Progress}
-use Rattle.player.specs.Encoded.{jumpEncoded, jumpIn, such}
+use Rattle.player.specs.Encoded.{jump_encoded, jump_in, such}
 
 -- the records from a position on, and the number that refuses the one behind them
 abbrev pub left : ℕ → List ℕ → ℕ → List Record
@@ -39,15 +39,15 @@ pub record Behind (s : List ℕ) (at k r : ℕ) : Type 0 where
 -- a record that jumps stands at a position
 pub record Jumps (count : ℕ) (s : List ℕ) (at : ℕ) : Type 0 where
   pub rec : Record
-  pub here : recordFrom count (drop at s) ≡ got rec
-  pub jump : isJump rec ≡ true
+  pub here : record_from count (drop at s) ≡ got rec
+  pub jump : is_jump rec ≡ true
 
 -- what a record's summary tells of it
-abbrev pub jumpSeen : Summary → Bool
-jumpSeen q = not (eqb q.what 0)
+abbrev pub jump_seen : Summary → Bool
+jump_seen q = not (eqb q.what 0)
 
-abbrev pub labelSeen : ℕ → Summary → Bool
-labelSeen l q = cond (eqb q.what 1) (eqb q.label l) false
+abbrev pub label_seen : ℕ → Summary → Bool
+label_seen l q = cond (eqb q.what 1) (eqb q.label l) false
 
 -- the record behind the first Label 1, where the block begins
 pub record BlockStart (count : ℕ) (s : List ℕ) (r : ℕ) : Type 0 where
@@ -58,7 +58,7 @@ pub record BlockStart (count : ℕ) (s : List ℕ) (r : ℕ) : Type 0 where
 pub record Examined (count : ℕ) (s : List ℕ) (x : Examination) : Type 0 where
   pub number : x.number ≡ (records count s).fault
   pub index : x.index ≡ length (records count s).items
-  pub jumps : x.jumps ≡ tally isJump (records count s).items
+  pub jumps : x.jumps ≡ tally is_jump (records count s).items
   pub body : BlockStart count s x.body
 
 -- what refuses a play, or the positions where it begins and where its block does
@@ -73,28 +73,28 @@ pub record Judged (s : List ℕ) (constants start words : ℕ) (v : Verdict) : T
 -- one table behind another: a record's Label counted
 pub record Counted (s t u : List ℕ) : Type 0 where
   pub long : length u ≡ length t
-  pub each : (l : ℕ) → get_or u l 0 ≡ get_or t l 0 + bit (such (isLabel l) (jumpEncoded s))
+  pub each : (l : ℕ) → get_or u l 0 ≡ get_or t l 0 + bit (such (is_label l) (jump_encoded s))
 
 -- all Labels of the listing counted, and the Branches 0
 pub record AllCounted (s t : List ℕ) (r : ℕ) : Type 0 where
   pub long : length t ≡ 256
-  pub labels : (count : ℕ) → fault count s 0 ≡ 0 → (l : ℕ) → get_or t l 0 ≡ tally (isLabel l) (left count s 0)
-  pub returns : (count : ℕ) → fault count s 0 ≡ 0 → r ≡ tally isReturn (left count s 0)
+  pub labels : (count : ℕ) → fault count s 0 ≡ 0 → (l : ℕ) → get_or t l 0 ≡ tally (is_label l) (left count s 0)
+  pub returns : (count : ℕ) → fault count s 0 ≡ 0 → r ≡ tally is_return (left count s 0)
 
 -- What is known of the records before a position and of those from it on: t counts all Labels of the listing, u those before, b tells whether
 -- the block is open, m counts all Branches 0, and n those before.
 pub record Tables (before behind : List Record) (t u : List ℕ) (b : Bool) (m n : ℕ) : Type 0 where
-  pub all : (l : ℕ) → get_or t l 0 ≡ tally (isLabel l) before + tally (isLabel l) behind
-  pub stood : (l : ℕ) → get_or u l 0 ≡ tally (isLabel l) before
+  pub all : (l : ℕ) → get_or t l 0 ≡ tally (is_label l) before + tally (is_label l) behind
+  pub stood : (l : ℕ) → get_or u l 0 ≡ tally (is_label l) before
   pub inside : b ≡ in_block before
-  pub returns : m ≡ tally isReturn before + tally isReturn behind
-  pub returned : n ≡ tally isReturn before
+  pub returns : m ≡ tally is_return before + tally is_return behind
+  pub returned : n ≡ tally is_return before
 
 -- r tells whether the record that s begins with breaks a rule
 abbrev pub BreaksRule : List ℕ → List ℕ → List ℕ → Bool → ℕ → ℕ → Bool → Type 0
 BreaksRule s t u b m n r =
     (before : List Record) (rec : Record) (behind : List Record) → Tables before (rec ∷ behind) t u b m n
-    → jumpEncoded s ≡ jumpIn rec → r ≡ breaks before rec behind
+    → jump_encoded s ≡ jump_in rec → r ≡ breaks before rec behind
 
 -- the first breach of the jump rules, of a listing that was examined
 abbrev pub FirstBreach : List ℕ → ℕ → Type 0
@@ -120,17 +120,17 @@ pub record BlockPlayed (constants s : List ℕ) (body : ℕ) (σ τ : Store) (r 
   pub small : r ≤ 65600
 
 -- the play from a position on
-abbrev pub onFrom : List ℕ → List ℕ → ℕ → ℕ → Store → End
-onFrom constants s body at σ = play constants (block_at constants s body) going (left (length constants) s at) σ
+abbrev pub on_from : List ℕ → List ℕ → ℕ → ℕ → Store → End
+on_from constants s body at σ = play constants (block_at constants s body) going (left (length constants) s at) σ
 
 -- one record played from σ to τ, and the play of what follows it
 pub record RecordPlayed (constants s : List ℕ) (body at : ℕ) (σ τ : Store) (p : Progress) : Type 0 where
-  pub same : onFrom constants s body at σ
-      ≡ cond p.done (record { store = τ; played = p.played }) (ticks p.played (onFrom constants s body p.at τ))
+  pub same : on_from constants s body at σ
+      ≡ cond p.done (record { store = τ; played = p.played }) (ticks p.played (on_from constants s body p.at τ))
   pub on : p.done ≡ false → at < p.at
   pub sound : p.done ≡ false → fault (length constants) s p.at ≡ 0
   pub small : p.played ≤ 65602
 
 -- the whole play from σ to τ
 pub record Played (constants s : List ℕ) (body start : ℕ) (σ τ : Store) (r : ℕ) : Type 0 where
-  pub same : onFrom constants s body start σ ≡ record { store = τ; played = r }
+  pub same : on_from constants s body start σ ≡ record { store = τ; played = r }

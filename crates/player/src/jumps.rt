@@ -1,8 +1,8 @@
 // The jump rules, over records that were examined. The tables have an entry for each label.
 ghost use Rattle.std.specs.Prelude.{◌≡◌, ◌≤◌, not, ◌&&◌, ◌||◌, eqb, ltb, length};
-ghost use Rattle.player_machine.specs.Machine.{isLabel};
-ghost use Rattle.player_machine.specs.Jumps.{isReturn};
-ghost use Rattle.player.specs.Encoded.{jumpEncoded, such};
+ghost use Rattle.player_machine.specs.Machine.{is_label};
+ghost use Rattle.player_machine.specs.Jumps.{is_return};
+ghost use Rattle.player.specs.Encoded.{jump_encoded, such};
 ghost use Rattle.player.specs.Positions.{Sound, Table, Counted, AllCounted, BreaksRule, FirstBreach, BreachOf};
 
 use super::passes::{Examination, encodes_label, encodes_return, one_if};
@@ -131,7 +131,7 @@ fn breaks_rule(
 
 // Whether the block is open behind the record that bytes begin with.
 fn block_open(s: &[u8], inside: bool) -> bool
-    ensures { result ≡ (such (isLabel 1) (jumpEncoded s.now) || (not (such isReturn (jumpEncoded s.now)) && inside)) }
+    ensures { result ≡ (such (is_label 1) (jump_encoded s.now) || (not (such is_return (jump_encoded s.now)) && inside)) }
 {
     if encodes_label(s, 1) {
         return true;

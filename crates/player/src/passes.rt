@@ -1,17 +1,17 @@
 // Walks over the records of a listing, by position. The position of a record stands for the records from it on. The first pass examines
 // each record; the others read the length, the kind and the fields of records that were examined.
 ghost use Rattle.std.specs.Prelude.{◌≡◌, cond, eqb};
-ghost use Rattle.player_machine.specs.Machine.{isLabel};
-ghost use Rattle.player_machine.specs.Jumps.{bit, isReturn};
-ghost use Rattle.player.specs.Encoded.{jumpEncoded, such};
-ghost use Rattle.player.specs.Positions.{AtLabel, Behind, Examined, Sound, jumpSeen, labelSeen};
+ghost use Rattle.player_machine.specs.Machine.{is_label};
+ghost use Rattle.player_machine.specs.Jumps.{bit, is_return};
+ghost use Rattle.player.specs.Encoded.{jump_encoded, such};
+ghost use Rattle.player.specs.Positions.{AtLabel, Behind, Examined, Sound, jump_seen, label_seen};
 
 use mir::fields::{byte, u16_at};
 use records::reader::{Summary, summarize};
 
 // Whether the record that bytes begin with is a Label of that number.
 pub fn encodes_label(s: &[u8], label: u8) -> bool
-    ensures { result ≡ such (isLabel label) (jumpEncoded s.now) }
+    ensures { result ≡ such (is_label label) (jump_encoded s.now) }
 {
     if u16_at(s, 2) == 14 {
         byte(s, 4) == label
@@ -22,7 +22,7 @@ pub fn encodes_label(s: &[u8], label: u8) -> bool
 
 // Whether it is a Branch 0.
 pub fn encodes_return(s: &[u8]) -> bool
-    ensures { result ≡ such isReturn (jumpEncoded s.now) }
+    ensures { result ≡ such is_return (jump_encoded s.now) }
 {
     if u16_at(s, 2) == 15 {
         byte(s, 4) == 0
@@ -75,14 +75,14 @@ pub(crate) fn skip(listing: &[u8], from: usize, k: usize) -> usize
 
 // A Label, a Branch, a Call or a BranchIf, by its summary.
 fn jump_seen(q: Summary) -> bool
-    ensures { result ≡ jumpSeen q }
+    ensures { result ≡ jump_seen q }
 {
     q.what != 0
 }
 
 // A Label of that number, by its summary.
 fn label_seen(q: Summary, label: u8) -> bool
-    ensures { result ≡ labelSeen label q }
+    ensures { result ≡ label_seen label q }
 {
     if q.what == 1 { q.label == label } else { false }
 }

@@ -33,8 +33,8 @@ set_both σ τ i v e = go (dec_lt i (length σ))
         get_or-eq_default (set σ i v) 0 {n = i} (omega (arith, length-set σ i v))
         ∙ sym (get_or-eq_default (set τ i v) 0 {n = i} (omega (arith, length-set τ i v)))
 
-set-agree : {C : ℕ → Type 0} {σ τ : Store} (i v : ℕ) → Agree C σ τ → Agree (λ w. C w ⊎ (w ≡ i)) (set σ i v) (set τ i v)
-set-agree {C} {σ} {τ} i v g = record { len = simp length-set g.len; on = λ w c. go w c (ℕ_discrete w i) }
+set_agree : {C : ℕ → Type 0} {σ τ : Store} (i v : ℕ) → Agree C σ τ → Agree (λ w. C w ⊎ (w ≡ i)) (set σ i v) (set τ i v)
+set_agree {C} {σ} {τ} i v g = record { len = simp length-set g.len; on = λ w c. go w c (ℕ_discrete w i) }
   where
     go : (w : ℕ) → C w ⊎ (w ≡ i) → Dec (w ≡ i) → at (set σ i v) w ≡ at (set τ i v) w
     go w c (yes e) = rw e (set_both σ τ i v g.len)
@@ -58,11 +58,11 @@ pub or_r : (a b : Bool) → T b → T (a || b)
 or_r true b h = tt
 or_r false b h = h
 
-pub put-agree : {C : ℕ → Type 0} {σ τ : Store} (ws : List Write) → Agree C σ τ
+pub put_agree : {C : ℕ → Type 0} {σ τ : Store} (ws : List Write) → Agree C σ τ
     → Agree (λ w. C w ⊎ T (has w (map target ws))) (put ws σ) (put ws τ)
 unfolding put
-put-agree [] g = weaken (λ w. elim [ inl c ↦ c | inr e ↦ absurd e ]) g
-put-agree {C} (i ≔ v ∷ ws) g = weaken (λ w. regroup w) (put-agree ws (set-agree i v g))
+put_agree [] g = weaken (λ w. elim [ inl c ↦ c | inr e ↦ absurd e ]) g
+put_agree {C} (i ≔ v ∷ ws) g = weaken (λ w. regroup w) (put_agree ws (set_agree i v g))
   where
     regroup : (w : ℕ) → C w ⊎ T (eqb w i || has w (map target ws)) → (C w ⊎ (w ≡ i)) ⊎ T (has w (map target ws))
     regroup w (inl c) = inl (inl c)

@@ -10,17 +10,17 @@ use borrow.Author.Tests.{eq-eqb, eqb-true, ltb-false, not-false, not-true}
 use Rattle.mir.specs.declared.records.Record.{Record}
 use Rattle.records.specs.Record.{records}
 use Rattle.player_machine.specs.Machine.{Store, End, block, play, going}
-use Rattle.player_machine.specs.Jumps.{breaks, breachFrom, breach}
+use Rattle.player_machine.specs.Jumps.{breaks, breach_from, breach}
 use Rattle.player_machine.specs.Answer.{Answer, refuse, accept, answer}
-use Rattle.player_machine.specs.Refusal.{Refusal, refuseBy, refusal, answerBy, Refused}
+use Rattle.player_machine.specs.Refusal.{Refusal, refuse_by, refusal, answer_by, Refused}
 
 -- one test: it refuses by a number that is not 0
 record Told (σ : Store) (e : End) (r : Refusal) (a : Answer) : Type 0 where
-  pub same : a ≡ answerBy r σ e
+  pub same : a ≡ answer_by r σ e
 
 module _ {σ : Store} {e : End} where
   by-test : (b : Bool) (number index : ℕ) {r : Refusal} {a : Answer} → (b ≡ true → eqb number 0 ≡ false) → Told σ e r a
-      → Told σ e (refuseBy b number index r) (refuse b number index σ a)
+      → Told σ e (refuse_by b number index r) (refuse b number index σ a)
   by-test true number index f h = record { same = let g = f refl in simp g }
   by-test false number index f h = h
 
@@ -39,20 +39,20 @@ refused listing constants start σ =
     (by-test (ltb (breach rs) (length rs)) 9 (breach rs) (λ t. refl) played)))))).same
 
 -- the first breach is no later than the count
-breach-by : (before : List Record) (r : Record) (rs : List Record) (b : Bool) → breaks before r rs ≡ b
-    → breachFrom (r ∷ before) rs ≤ length rs → breachFrom before (r ∷ rs) ≤ suc (length rs)
-unfolding breachFrom
-breach-by before r rs true t h = simp t (omega arith)
-breach-by before r rs false t h = simp t (omega (arith, h))
+breach_by : (before : List Record) (r : Record) (rs : List Record) (b : Bool) → breaks before r rs ≡ b
+    → breach_from (r ∷ before) rs ≤ length rs → breach_from before (r ∷ rs) ≤ suc (length rs)
+unfolding breach_from
+breach_by before r rs true t h = simp t (omega arith)
+breach_by before r rs false t h = simp t (omega (arith, h))
 
-breach-from : (before rs : List Record) → breachFrom before rs ≤ length rs
-unfolding breachFrom
+breach-from : (before rs : List Record) → breach_from before rs ≤ length rs
+unfolding breach_from
 breach-from before [] = omega arith
-breach-from before (r ∷ rs) = breach-by before r rs (breaks before r rs) refl (breach-from (r ∷ before) rs)
+breach-from before (r ∷ rs) = breach_by before r rs (breaks before r rs) refl (breach-from (r ∷ before) rs)
 
-breach-most : (rs : List Record) → breach rs ≤ length rs
+breach_most : (rs : List Record) → breach rs ≤ length rs
 unfolding breach
-breach-most rs = breach-from [] rs
+breach_most rs = breach-from [] rs
 
 -- where nothing refuses
 pub record Accepted (listing : List ℕ) (constants start words : ℕ) : Type 0 where
@@ -70,8 +70,8 @@ record Past (b : Bool) (r s : Refusal) : Type 0 where
   pub same : s ≡ r
   pub none : r.number ≡ 0
 
-past : (b : Bool) (number index : ℕ) {r : Refusal} → (b ≡ true → number ≡ 0 → ⊥) → (refuseBy b number index r).number ≡ 0
-    → Past b r (refuseBy b number index r)
+past : (b : Bool) (number index : ℕ) {r : Refusal} → (b ≡ true → number ≡ 0 → ⊥) → (refuse_by b number index r).number ≡ 0
+    → Past b r (refuse_by b number index r)
 past true number index f h = absurd (f refl h)
 past false number index f h = record { off = refl; same = refl; none = h }
 
@@ -90,7 +90,7 @@ accepted listing constants start words e =
     let f = past (not (eqb d.fault 0)) d.fault (length rs) (λ t z. true≢false (sym (eq-eqb _ _ z) ∙ not-true _ t)) c.none in
     let g = past (ltb (length rs) start) 9 start (λ t z. no_nine 8 z) f.none in
     let h = past (ltb (breach rs) (length rs)) 9 (breach rs) (λ t z. no_nine 8 z) g.none in
-    let most = breach-most rs in
+    let most = breach_most rs in
     let least = ltb-false (breach rs) (length rs) h.off in
     record {
       short = ltb-false 65536 (length listing) a.off;

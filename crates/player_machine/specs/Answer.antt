@@ -25,8 +25,8 @@ accept count e = record { number = 0; index = count; played = e.played; store = 
 -- "Another store length, over 256 constants, or a listing over 65,536 bytes is refused by 8." "Playing first examines every record for 1
 -- to 5, then the start record, then the jump rules, lowest index first." "A start record is named; above the record count it is refused
 -- by 9 with that index." "A breach is refused by 9 at the record breaking the rule".
-abbrev pub playRecords : List ℕ → Decoded Record → ℕ → Store → Answer
-playRecords constants d start σ =
+abbrev pub play_records : List ℕ → Decoded Record → ℕ → Store → Answer
+play_records constants d start σ =
     refuse (not (eqb d.fault 0)) d.fault (length d.items) σ
     (refuse (ltb (length d.items) start) 9 start σ
     (refuse (ltb (breach d.items) (length d.items)) 9 (breach d.items) σ
@@ -37,4 +37,4 @@ answer listing constants start σ =
     refuse (ltb 65536 (length listing)) 8 0 σ
     (refuse (ltb 256 (length constants)) 8 0 σ
     (refuse (not (eqb (length σ) 1602)) 8 0 σ
-    (playRecords constants (records (length constants) listing) start σ)))
+    (play_records constants (records (length constants) listing) start σ)))

@@ -16,12 +16,12 @@ is_call (Record.Call l) = true
 is_call (Record.BranchIf c l e) = false
 
 -- the records of a block: Label 1, the working records and Branch 0
-abbrev pub blockRecords : List Work → ℕ
-blockRecords b = 2 + length b
+abbrev pub block_records : List Work → ℕ
+block_records b = 2 + length b
 
 -- "Records played are at most all records plus calls times block records."
 abbrev pub most : List Record → ℕ
-most rs = length rs + tally is_call rs * blockRecords (block rs)
+most rs = length rs + tally is_call rs * block_records (block rs)
 
 -- every play of every listing, from any record on any store, reaches at most so many records (theorem `bound`, of `most`)
 abbrev pub Bounds : (List Record → ℕ) → Type 0

@@ -3,18 +3,18 @@
 use Rattle.std.specs.Prelude.{ℕ, suc, ◌≡◌, Bool, cond, ◌&&◌, List, [], ◌∷◌, map, eqb}
 use Rattle.mir.specs.declared.ops.BinOp.{BinOp}
 use Rattle.mir.specs.declared.records.Work.{Work}
-use Rattle.mir.specs.Operation.{binNumber}
+use Rattle.mir.specs.Operation.{bin_number}
 use Rattle.player_machine.specs.Machine.{Store, at, place, Write, ◌≔◌, writes, exec}
 
 -- by its number
-abbrev pub isXor : BinOp → Bool
-isXor op = eqb (binNumber op) (binNumber BinOp.Xor)
+abbrev pub is_xor : BinOp → Bool
+is_xor op = eqb (bin_number op) (bin_number BinOp.Xor)
 
 -- What it draws on: "plain Load and Save use the real one"; "ComplexBi reads its four operands"; "a Xor of one register with itself draws on
 -- nothing"; a constant is no word of the store
 abbrev pub draws : Work → List ℕ
 draws (Work.Uni op dst s1) = s1 ∷ []
-draws (Work.Bi op dst s1 s2) = cond (eqb s1 s2 && isXor op) [] (s1 ∷ s2 ∷ [])
+draws (Work.Bi op dst s1 s2) = cond (eqb s1 s2 && is_xor op) [] (s1 ∷ s2 ∷ [])
 draws (Work.Mov dst s1) = s1 ∷ []
 draws (Work.Load dst p) = place p ∷ []
 draws (Work.Save src p) = src ∷ []

@@ -1,7 +1,7 @@
 -- Short listings played, computed: what `answer` gives, and what documents 01 and 02, d) say that it gives.
 use Rattle.std.specs.Prelude.{ℕ, ◌≡◌, refl, Bool, true, false, List, [], ◌∷◌, ◌++◌, replicate}
 use Rattle.std.specs.Float.Ieee.{of_bits, to_bits, add, sub, mul}
-use Rattle.float.specs.Fused.{fusedMultiplyAdd}
+use Rattle.float.specs.Fused.{fused_multiply_add}
 use Rattle.mir.specs.declared.ops.UniOp.{UniOp}
 use Rattle.mir.specs.declared.ops.BinOp.{BinOp}
 use Rattle.mir.specs.declared.ops.ArithOp.{ArithOp}
@@ -10,13 +10,13 @@ use Rattle.mir.specs.declared.records.Loc.{Loc}
 use Rattle.mir.specs.declared.records.Work.{Work}
 use Rattle.mir.specs.declared.records.Record.{Record}
 use Rattle.mir.specs.Length.{lengths, length_of}
-use Rattle.mir.specs.Operation.{uniOps, binOps, arithOps, fusedOps}
-use Rattle.mir.specs.Field.{u16At, among, takesKind, headFrom, placeAt, savePlace, condPlace}
-use Rattle.mir.specs.Encode.{recordOf, encodeAll}
-use Rattle.mir.specs.Decode.{decodedFrom, decoded}
-use Rattle.mir.specs.Kinds.{uniFrom, biFrom, movFrom, loadFrom, saveFrom, loadConstFrom, fusedFrom, ifElseFrom}
-use Rattle.records.specs.Record.{loadComplexFrom, saveComplexFrom, complexBiFrom, labelFrom, branchFrom, callFrom, branchIfFrom, fieldsFrom, recordFrom}
-use Rattle.player_machine.specs.Machine.{Store, at, uniWord, binWord, fusedWord, complexWords, writes, put, exec, execs, works, isLabel, seek, block, ticks, play}
+use Rattle.mir.specs.Operation.{uni_ops, bin_ops, arith_ops, fused_ops}
+use Rattle.mir.specs.Field.{u16_at, among, takes_kind, head_from, place_at, save_place, cond_place}
+use Rattle.mir.specs.Encode.{record_of, encode_all}
+use Rattle.mir.specs.Decode.{decoded_from, decoded}
+use Rattle.mir.specs.Kinds.{uni_from, bi_from, mov_from, load_from, save_from, load_const_from, fused_from, if_else_from}
+use Rattle.records.specs.Record.{load_complex_from, save_complex_from, complex_bi_from, label_from, branch_from, call_from, branch_if_from, fields_from, record_from}
+use Rattle.player_machine.specs.Machine.{Store, at, uni_word, bin_word, fused_word, complex_words, writes, put, exec, execs, works, is_label, seek, block, ticks, play}
 use Rattle.player_machine.specs.Jumps.{breach}
 use Rattle.player_machine.specs.Answer.{Answer, answer}
 
@@ -33,7 +33,7 @@ abbrev shown : Answer → List ℕ → List ℕ
 shown a is = a.number ∷ a.index ∷ a.played ∷ words a.store is
 
 abbrev played : List Record → List ℕ → ℕ → List ℕ → List ℕ
-played rs constants start is = shown (answer (encodeAll rs) constants start blank) is
+played rs constants start is = shown (answer (encode_all rs) constants start blank) is
 
 abbrev refused : List ℕ → List ℕ
 refused bytes = shown (answer bytes (0 ∷ []) 0 blank) []
@@ -55,11 +55,11 @@ two = 0x4000_0000_0000_0000
 abbrev pub three : ℕ
 three = 0x4008_0000_0000_0000
 
-abbrev minusThree : ℕ
-minusThree = 0xc008_0000_0000_0000
+abbrev minus_three : ℕ
+minus_three = 0xc008_0000_0000_0000
 
-abbrev pub minusZero : ℕ
-minusZero = 0x8000_0000_0000_0000
+abbrev pub minus_zero : ℕ
+minus_zero = 0x8000_0000_0000_0000
 
 -- the root block, cut short: it negates G4; the play jumps over it
 abbrev pub called : List Record
@@ -76,13 +76,13 @@ called =
     ∷ []
 
 -- on the word of G4
-abbrev branchIf : ℕ → Record
-branchIf l = Record.BranchIf 4 l false
+abbrev branch_if : ℕ → Record
+branch_if l = Record.BranchIf 4 l false
 
 -- one formula or another, by that word
 abbrev pub swept : Bool → List Record
-swept isElse =
-    const 4 0 ∷ Record.BranchIf 4 3 isElse ∷ const 5 1 ∷ Record.Branch 4 ∷ Record.Label 3 ∷ const 5 2 ∷ Record.Label 4 ∷ []
+swept is_else =
+    const 4 0 ∷ Record.BranchIf 4 3 is_else ∷ const 5 1 ∷ Record.Branch 4 ∷ Record.Label 3 ∷ const 5 2 ∷ Record.Label 4 ∷ []
 
 abbrev pub table : List (List ℕ × List ℕ)
 table =
@@ -96,7 +96,7 @@ table =
           ∷ Record.Work (Work.Save 64 (Loc.Mem 3))
           ∷ Record.Work (Work.Load 65 (Loc.Mem 3))
           ∷ []) (one ∷ two ∷ []) 0 (6 ∷ 7 ∷ 64 ∷ 584 ∷ 65 ∷ 585 ∷ []),
-      0 ∷ 7 ∷ 7 ∷ three ∷ minusThree ∷ minusThree ∷ minusThree ∷ minusThree ∷ 0 ∷ [],
+      0 ∷ 7 ∷ 7 ∷ three ∷ minus_three ∷ minus_three ∷ minus_three ∷ minus_three ∷ 0 ∷ [],
     )
     -- Fused into its own operand: 1 times 2 plus 1
     ∷ (
@@ -125,7 +125,7 @@ table =
     -- ComplexBi reads before it writes: (1 + 2i) squared in place is -3 + 4i
     ∷ (
       played (const 4 0 ∷ const 5 1 ∷ Record.Work (Work.ComplexBi ArithOp.Times 4 5 4 5 4 5) ∷ []) (one ∷ two ∷ []) 0 (4 ∷ 5 ∷ []),
-      0 ∷ 3 ∷ 3 ∷ minusThree ∷ 0x4010_0000_0000_0000 ∷ [],
+      0 ∷ 3 ∷ 3 ∷ minus_three ∷ 0x4010_0000_0000_0000 ∷ [],
     )
     -- a jump over the block, and three Calls of 4 records each: Branch 2, Label 2, LoadConst and 12 more
     ∷ (played called (one ∷ []) 0 (4 ∷ []), 0 ∷ 9 ∷ 15 ∷ 0xbff0_0000_0000_0000 ∷ [])
@@ -140,11 +140,11 @@ table =
     -- BranchIf: on a word that is not all zero, -0 among them, to the formula behind Label 3; else the other one, and over that
     ∷ (played (swept false) (0 ∷ one ∷ two ∷ []) 0 (5 ∷ []), 0 ∷ 7 ∷ 5 ∷ one ∷ [])
     ∷ (played (swept false) (three ∷ one ∷ two ∷ []) 0 (5 ∷ []), 0 ∷ 7 ∷ 5 ∷ two ∷ [])
-    ∷ (played (swept false) (minusZero ∷ one ∷ two ∷ []) 0 (5 ∷ []), 0 ∷ 7 ∷ 5 ∷ two ∷ [])
+    ∷ (played (swept false) (minus_zero ∷ one ∷ two ∷ []) 0 (5 ∷ []), 0 ∷ 7 ∷ 5 ∷ two ∷ [])
     -- `is_else`: on a word that is all zero
     ∷ (played (swept true) (0 ∷ one ∷ two ∷ []) 0 (5 ∷ []), 0 ∷ 7 ∷ 5 ∷ two ∷ [])
     ∷ (played (swept true) (three ∷ one ∷ two ∷ []) 0 (5 ∷ []), 0 ∷ 7 ∷ 5 ∷ one ∷ [])
-    ∷ (played (swept true) (minusZero ∷ one ∷ two ∷ []) 0 (5 ∷ []), 0 ∷ 7 ∷ 5 ∷ one ∷ [])
+    ∷ (played (swept true) (minus_zero ∷ one ∷ two ∷ []) 0 (5 ∷ []), 0 ∷ 7 ∷ 5 ∷ one ∷ [])
     -- 1: three bytes are left behind a Mov; the length runs past the end; a Mov of 7 bytes
     ∷ (refused (6 ∷ 0 ∷ 3 ∷ 0 ∷ 1 ∷ 2 ∷ 6 ∷ 0 ∷ 3 ∷ []), 1 ∷ 1 ∷ 0 ∷ [])
     ∷ (refused (6 ∷ 0 ∷ 3 ∷ 0 ∷ 1 ∷ []), 1 ∷ 0 ∷ 0 ∷ [])
@@ -177,18 +177,18 @@ table =
     -- 9: of labels 3 to 255, at a second standing; at a branch with no such label later, or one before it; at a Call
     ∷ (played (Record.Label 3 ∷ Record.Label 3 ∷ []) [] 0 [], 9 ∷ 1 ∷ 0 ∷ [])
     ∷ (played (Record.Branch 3 ∷ Record.Label 4 ∷ []) [] 0 [], 9 ∷ 0 ∷ 0 ∷ [])
-    ∷ (played (Record.Label 3 ∷ branchIf 3 ∷ []) [] 0 [], 9 ∷ 1 ∷ 0 ∷ [])
+    ∷ (played (Record.Label 3 ∷ branch_if 3 ∷ []) [] 0 [], 9 ∷ 1 ∷ 0 ∷ [])
     ∷ (played (Record.Label 3 ∷ Record.Branch 3 ∷ Record.Label 3 ∷ []) [] 0 [], 9 ∷ 1 ∷ 0 ∷ [])
-    ∷ (played (Record.Label 3 ∷ branchIf 3 ∷ Record.Label 3 ∷ []) [] 0 [], 9 ∷ 1 ∷ 0 ∷ [])
+    ∷ (played (Record.Label 3 ∷ branch_if 3 ∷ Record.Label 3 ∷ []) [] 0 [], 9 ∷ 1 ∷ 0 ∷ [])
     ∷ (played (Record.Call 3 ∷ Record.Label 3 ∷ []) [] 0 [], 9 ∷ 0 ∷ 0 ∷ [])
     -- 9: a BranchIf to 0, 1 or 2
-    ∷ (played (branchIf 0 ∷ []) [] 0 [], 9 ∷ 0 ∷ 0 ∷ [])
-    ∷ (played (branchIf 1 ∷ Record.Label 1 ∷ Record.Branch 0 ∷ []) [] 0 [], 9 ∷ 0 ∷ 0 ∷ [])
-    ∷ (played (branchIf 2 ∷ Record.Label 2 ∷ []) [] 0 [], 9 ∷ 0 ∷ 0 ∷ [])
+    ∷ (played (branch_if 0 ∷ []) [] 0 [], 9 ∷ 0 ∷ 0 ∷ [])
+    ∷ (played (branch_if 1 ∷ Record.Label 1 ∷ Record.Branch 0 ∷ []) [] 0 [], 9 ∷ 0 ∷ 0 ∷ [])
+    ∷ (played (branch_if 2 ∷ Record.Label 2 ∷ []) [] 0 [], 9 ∷ 0 ∷ 0 ∷ [])
     -- 9: a Label, Branch or BranchIf inside the block
     ∷ (played (Record.Label 1 ∷ neg 4 4 ∷ Record.Label 3 ∷ Record.Branch 0 ∷ []) [] 0 [], 9 ∷ 2 ∷ 0 ∷ [])
     ∷ (played (Record.Label 1 ∷ neg 4 4 ∷ Record.Branch 3 ∷ Record.Branch 0 ∷ Record.Label 3 ∷ []) [] 0 [], 9 ∷ 2 ∷ 0 ∷ [])
-    ∷ (played (Record.Label 1 ∷ neg 4 4 ∷ branchIf 3 ∷ Record.Branch 0 ∷ Record.Label 3 ∷ []) [] 0 [], 9 ∷ 2 ∷ 0 ∷ [])
+    ∷ (played (Record.Label 1 ∷ neg 4 4 ∷ branch_if 3 ∷ Record.Branch 0 ∷ Record.Label 3 ∷ []) [] 0 [], 9 ∷ 2 ∷ 0 ∷ [])
     ∷ []
 
 abbrev pub given : List (List ℕ × List ℕ) → List (List ℕ)
@@ -200,5 +200,5 @@ wanted [] = []
 wanted (row ∷ rows) = row.1 ∷ wanted rows
 
 pub holds : given table ≡ wanted table
-unfolding of_bits to_bits add sub mul fusedMultiplyAdd lengths length_of uniOps binOps arithOps fusedOps u16At among takesKind headFrom placeAt savePlace condPlace recordOf decodedFrom decoded uniFrom biFrom movFrom loadFrom saveFrom loadConstFrom fusedFrom ifElseFrom loadComplexFrom saveComplexFrom complexBiFrom labelFrom branchFrom callFrom branchIfFrom fieldsFrom recordFrom uniWord binWord fusedWord complexWords writes put exec execs works isLabel seek block ticks play breach answer
+unfolding of_bits to_bits add sub mul fused_multiply_add lengths length_of uni_ops bin_ops arith_ops fused_ops u16_at among takes_kind head_from place_at save_place cond_place record_of decoded_from decoded uni_from bi_from mov_from load_from save_from load_const_from fused_from if_else_from load_complex_from save_complex_from complex_bi_from label_from branch_from call_from branch_if_from fields_from record_from uni_word bin_word fused_word complex_words writes put exec execs works is_label seek block ticks play breach answer
 holds = refl

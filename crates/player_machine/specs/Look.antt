@@ -33,26 +33,26 @@ pub record Look : Type 0 where
   pub words : List Write
 
 -- "that one record", played outside a call
-abbrev pub stepAt : List ℕ → List Record → ℕ → Store → Record → Step
-stepAt constants rs i σ r = step constants rs (record { at = i; back = none; store = σ }) r
+abbrev pub step_at : List ℕ → List Record → ℕ → Store → Record → Step
+step_at constants rs i σ r = step constants rs (record { at = i; back = none; store = σ }) r
 
 -- "A start equal to the record count shows no word and the end."
-abbrev pub lookAt : List ℕ → List Record → ℕ → Store → Option Record → Look
-lookAt constants rs i σ none = record { number = 0; index = length rs; follows = length rs; words = [] }
-lookAt constants rs i σ (some r) =
+abbrev pub look_at : List ℕ → List Record → ℕ → Store → Option Record → Look
+look_at constants rs i σ none = record { number = 0; index = length rs; follows = length rs; words = [] }
+look_at constants rs i σ (some r) =
     record {
       number = 0;
       index = length rs;
-      follows = named rs (stepAt constants rs i σ r).next;
-      words = shown (stepAt constants rs i σ r).writes;
+      follows = named rs (step_at constants rs i σ r).next;
+      words = shown (step_at constants rs i σ r).writes;
     }
 
 -- "The player's refusals come back in its own order": then nothing is shown, and the record named is 0
-abbrev pub lookBy : Refusal → Look → Look
-lookBy r l = cond (eqb r.number 0) l (record { number = r.number; index = r.index; follows = 0; words = [] })
+abbrev pub look_by : Refusal → Look → Look
+look_by r l = cond (eqb r.number 0) l (record { number = r.number; index = r.index; follows = 0; words = [] })
 
 -- looking at a record of a listing with its constants, on a store
 unfoldable pub look : List ℕ → List ℕ → Store → ℕ → Look
 look listing constants σ i =
     let rs = (records (length constants) listing).items in
-    lookBy (refusal listing (length constants) i (length σ)) (lookAt constants rs i σ (get_elem? rs i))
+    look_by (refusal listing (length constants) i (length σ)) (look_at constants rs i σ (get_elem? rs i))

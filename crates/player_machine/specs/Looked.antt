@@ -5,10 +5,10 @@ use Rattle.std.proofs.Math.ListN.{get_elem?}
 use Rattle.mir.specs.declared.records.Record.{Record}
 use Rattle.records.specs.Record.{records}
 use Rattle.player_machine.specs.Machine.{Store, Write, ◌≔◌, put}
-use Rattle.player_machine.specs.Jumps.{isJump}
+use Rattle.player_machine.specs.Jumps.{is_jump}
 use Rattle.player_machine.specs.Count.{is_call}
 use Rattle.player_machine.specs.Answer.{Answer, answer}
-use Rattle.player_machine.specs.Look.{is_written, named, Look, stepAt, look}
+use Rattle.player_machine.specs.Look.{is_written, named, Look, step_at, look}
 
 -- the records of a listing
 abbrev pub listed : List ℕ → List ℕ → List Record
@@ -22,15 +22,15 @@ once (i ≔ v ∷ ws) = not (is_written i ws) && once ws
 -- "It equals playing that record on a copy", one step of `Step`.
 pub record ShowsStep (constants : List ℕ) (rs : List Record) (i : ℕ) (σ : Store) (r : Record) (l : Look) : Type 0 where
   -- writing what is shown gives the store that the step gives
-  pub store : put l.words σ ≡ put (stepAt constants rs i σ r).writes σ
+  pub store : put l.words σ ≡ put (step_at constants rs i σ r).writes σ
   -- shown are just the words that it writes, each once, "at most two"
-  pub written : (j : ℕ) → is_written j l.words ≡ is_written j (stepAt constants rs i σ r).writes
+  pub written : (j : ℕ) → is_written j l.words ≡ is_written j (step_at constants rs i σ r).writes
   pub apart : once l.words ≡ true
   pub few : length l.words ≤ 2
   -- "Label, Branch, BranchIf and Call show no word."
-  pub quiet : isJump r ≡ true → l.words ≡ []
+  pub quiet : is_jump r ≡ true → l.words ≡ []
   -- "The record that follows is always named"
-  pub follows : l.follows ≡ named rs (stepAt constants rs i σ r).next
+  pub follows : l.follows ≡ named rs (step_at constants rs i σ r).next
 
 -- Of every listing, table of constants, store and record: the number and index are those of playing from there; refused, nothing is shown;
 -- at the end no word and the end; and at a record its step (theorem `looked`, of `look`).
@@ -57,31 +57,31 @@ pub record Bench : Type 0 where
   pub store : Store
 
 -- it goes no further at the end, nor at a Call, whose block the player plays
-abbrev pub stopsAt : Option Record → Bool
-stopsAt none = true
-stopsAt (some r) = is_call r
+abbrev pub stops_at : Option Record → Bool
+stops_at none = true
+stops_at (some r) = is_call r
 
-abbrev pub looksMore : Bench → Bench
-looksMore b = record { looks = 1 + b.looks; at = b.at; store = b.store }
+abbrev pub looks_more : Bench → Bench
+looks_more b = record { looks = 1 + b.looks; at = b.at; store = b.store }
 
 -- from a record on, n times at most
 unfoldable pub bench : List ℕ → List ℕ → ℕ → ℕ → Store → Bench
 bench listing constants zero i σ = record { looks = 0; at = i; store = σ }
 bench listing constants (suc n) i σ =
-    cond (stopsAt (get_elem? (listed listing constants) i)) (record { looks = 0; at = i; store = σ })
-    (looksMore (bench listing constants n (look listing constants σ i).follows (put (look listing constants σ i).words σ)))
+    cond (stops_at (get_elem? (listed listing constants) i)) (record { looks = 0; at = i; store = σ })
+    (looks_more (bench listing constants n (look listing constants σ i).follows (put (look listing constants σ i).words σ)))
 
 -- so many records more are played
-abbrev pub playsMore : ℕ → Answer → Answer
-playsMore n a = record { number = a.number; index = a.index; played = n + a.played; store = a.store }
+abbrev pub plays_more : ℕ → Answer → Answer
+plays_more n a = record { number = a.number; index = a.index; played = n + a.played; store = a.store }
 
 -- Playing from where it began is playing on from where it stands, with one record more for each look; and with as many looks as there are
--- records it comes to the end or to a Call (theorem `lookedOn`, of `bench`).
+-- records it comes to the end or to a Call (theorem `looked_on`, of `bench`).
 pub record LookedOn (benches : List ℕ → List ℕ → ℕ → ℕ → Store → Bench) : Type 0 where
   pub plays : (listing constants : List ℕ) (n i : ℕ) (σ : Store) → (answer listing constants i σ).number ≡ 0
       → answer listing constants i σ
-      ≡ playsMore (benches listing constants n i σ).looks
+      ≡ plays_more (benches listing constants n i σ).looks
       (answer listing constants (benches listing constants n i σ).at (benches listing constants n i σ).store)
   pub stops : (listing constants : List ℕ) (n i : ℕ) (σ : Store) → (answer listing constants i σ).number ≡ 0
       → length (listed listing constants) ≤ n
-      → stopsAt (get_elem? (listed listing constants) (benches listing constants n i σ).at) ≡ true
+      → stops_at (get_elem? (listed listing constants) (benches listing constants n i σ).at) ≡ true

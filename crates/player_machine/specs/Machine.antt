@@ -24,56 +24,56 @@ abbrev pub place : Loc → ℕ
 place p = 66 + (512 * class p + 2 * index p)
 
 -- the operations of a record on words; a listing takes only those that have a meaning here, and of any other the first word stays
-unfoldable pub uniWord : UniOp → ℕ → ℕ
-uniWord UniOp.Neg a = Word.neg a
-uniWord UniOp.Not a = Word.not a
-uniWord UniOp.Abs a = Word.abs a
-uniWord UniOp.Root a = Word.root a
-uniWord UniOp.RealRoot a = a
-uniWord UniOp.Recip a = Word.recip a
-uniWord UniOp.Round a = Word.round a
-uniWord UniOp.Floor a = Word.floor a
-uniWord UniOp.Ceiling a = Word.ceiling a
-uniWord UniOp.Trunc a = Word.trunc a
-uniWord UniOp.Real a = a
-uniWord UniOp.Imaginary a = a
-uniWord UniOp.Conjugate a = a
-uniWord UniOp.Half a = Word.half a
-uniWord UniOp.IsZero a = Word.is_zero a
-uniWord UniOp.IsNotZero a = a
-uniWord UniOp.Sign a = Word.sign a
-uniWord UniOp.Abs2 a = a
-uniWord UniOp.TimesI a = a
-uniWord UniOp.TimesNegI a = a
+unfoldable pub uni_word : UniOp → ℕ → ℕ
+uni_word UniOp.Neg a = Word.neg a
+uni_word UniOp.Not a = Word.not a
+uni_word UniOp.Abs a = Word.abs a
+uni_word UniOp.Root a = Word.root a
+uni_word UniOp.RealRoot a = a
+uni_word UniOp.Recip a = Word.recip a
+uni_word UniOp.Round a = Word.round a
+uni_word UniOp.Floor a = Word.floor a
+uni_word UniOp.Ceiling a = Word.ceiling a
+uni_word UniOp.Trunc a = Word.trunc a
+uni_word UniOp.Real a = a
+uni_word UniOp.Imaginary a = a
+uni_word UniOp.Conjugate a = a
+uni_word UniOp.Half a = Word.half a
+uni_word UniOp.IsZero a = Word.is_zero a
+uni_word UniOp.IsNotZero a = a
+uni_word UniOp.Sign a = Word.sign a
+uni_word UniOp.Abs2 a = a
+uni_word UniOp.TimesI a = a
+uni_word UniOp.TimesNegI a = a
 
-unfoldable pub binWord : BinOp → ℕ → ℕ → ℕ
-binWord BinOp.Plus a b = Word.plus a b
-binWord BinOp.Minus a b = Word.minus a b
-binWord BinOp.Times a b = Word.times a b
-binWord BinOp.Divide a b = Word.divide a b
-binWord BinOp.GreaterThan a b = Word.greaterThan a b
-binWord BinOp.GreaterThanEqual a b = Word.greaterThanEqual a b
-binWord BinOp.LittleThan a b = Word.littleThan a b
-binWord BinOp.LittleThanEqual a b = Word.littleThanEqual a b
-binWord BinOp.Equal a b = Word.equal a b
-binWord BinOp.NotEqual a b = Word.notEqual a b
-binWord BinOp.And a b = Word.and a b
-binWord BinOp.AndNot a b = a
-binWord BinOp.Or a b = Word.or a b
-binWord BinOp.Xor a b = Word.xor a b
-binWord BinOp.Complex a b = a
+unfoldable pub bin_word : BinOp → ℕ → ℕ → ℕ
+bin_word BinOp.Plus a b = Word.plus a b
+bin_word BinOp.Minus a b = Word.minus a b
+bin_word BinOp.Times a b = Word.times a b
+bin_word BinOp.Divide a b = Word.divide a b
+bin_word BinOp.GreaterThan a b = Word.greater_than a b
+bin_word BinOp.GreaterThanEqual a b = Word.greater_than_equal a b
+bin_word BinOp.LittleThan a b = Word.little_than a b
+bin_word BinOp.LittleThanEqual a b = Word.little_than_equal a b
+bin_word BinOp.Equal a b = Word.equal a b
+bin_word BinOp.NotEqual a b = Word.not_equal a b
+bin_word BinOp.And a b = Word.and a b
+bin_word BinOp.AndNot a b = a
+bin_word BinOp.Or a b = Word.or a b
+bin_word BinOp.Xor a b = Word.xor a b
+bin_word BinOp.Complex a b = a
 
-unfoldable pub fusedWord : FusedOp → ℕ → ℕ → ℕ → ℕ
-fusedWord FusedOp.MulAdd a b c = Word.mulAdd a b c
-fusedWord FusedOp.MulSub a b c = a
-fusedWord FusedOp.NegMulAdd a b c = a
-fusedWord FusedOp.NegMulSub a b c = a
+unfoldable pub fused_word : FusedOp → ℕ → ℕ → ℕ → ℕ
+fused_word FusedOp.MulAdd a b c = Word.mul_add a b c
+fused_word FusedOp.MulSub a b c = a
+fused_word FusedOp.NegMulAdd a b c = a
+fused_word FusedOp.NegMulSub a b c = a
 
-unfoldable pub complexWords : ArithOp → ℕ → ℕ → ℕ → ℕ → ℕ × ℕ
-complexWords ArithOp.Plus x1 y1 x2 y2 = Word.complexPlus x1 y1 x2 y2
-complexWords ArithOp.Minus x1 y1 x2 y2 = Word.complexMinus x1 y1 x2 y2
-complexWords ArithOp.Times x1 y1 x2 y2 = Word.complexTimes x1 y1 x2 y2
-complexWords ArithOp.Divide x1 y1 x2 y2 = Word.complexDivide x1 y1 x2 y2
+unfoldable pub complex_words : ArithOp → ℕ → ℕ → ℕ → ℕ → ℕ × ℕ
+complex_words ArithOp.Plus x1 y1 x2 y2 = Word.complex_plus x1 y1 x2 y2
+complex_words ArithOp.Minus x1 y1 x2 y2 = Word.complex_minus x1 y1 x2 y2
+complex_words ArithOp.Times x1 y1 x2 y2 = Word.complex_times x1 y1 x2 y2
+complex_words ArithOp.Divide x1 y1 x2 y2 = Word.complex_divide x1 y1 x2 y2
 
 -- a store index and the word that it then holds
 pub data Write : Type 0 where
@@ -84,19 +84,19 @@ infix 80 ◌≔◌
 -- where the place's real word has a one, else from false"; "ComplexBi reads its four operands before writing"; "Of two destinations the
 -- first is written first". `constants` is the table lent with the listing.
 unfoldable pub writes : List ℕ → Store → Work → List Write
-writes constants σ (Work.Uni op dst s1) = dst ≔ uniWord op (at σ s1) ∷ []
-writes constants σ (Work.Bi op dst s1 s2) = dst ≔ binWord op (at σ s1) (at σ s2) ∷ []
+writes constants σ (Work.Uni op dst s1) = dst ≔ uni_word op (at σ s1) ∷ []
+writes constants σ (Work.Bi op dst s1 s2) = dst ≔ bin_word op (at σ s1) (at σ s2) ∷ []
 writes constants σ (Work.Mov dst s1) = dst ≔ at σ s1 ∷ []
 writes constants σ (Work.Load dst p) = dst ≔ at σ (place p) ∷ []
 writes constants σ (Work.Save src p) = place p ≔ at σ src ∷ []
 writes constants σ (Work.LoadConst dst idx) = dst ≔ get_or constants idx 0 ∷ []
-writes constants σ (Work.Fused op dst a b c) = dst ≔ fusedWord op (at σ a) (at σ b) (at σ c) ∷ []
-writes constants σ (Work.IfElse dst t f p) = dst ≔ Word.ifElse (at σ (place p)) (at σ t) (at σ f) ∷ []
+writes constants σ (Work.Fused op dst a b c) = dst ≔ fused_word op (at σ a) (at σ b) (at σ c) ∷ []
+writes constants σ (Work.IfElse dst t f p) = dst ≔ Word.if_else (at σ (place p)) (at σ t) (at σ f) ∷ []
 writes constants σ (Work.LoadComplex xd yd p) = xd ≔ at σ (place p) ∷ yd ≔ at σ (suc (place p)) ∷ []
 writes constants σ (Work.SaveComplex xs ys p) = place p ≔ at σ xs ∷ suc (place p) ≔ at σ ys ∷ []
 writes constants σ (Work.ComplexBi op xd yd x1 y1 x2 y2) =
-    xd ≔ (complexWords op (at σ x1) (at σ y1) (at σ x2) (at σ y2)).0
-    ∷ yd ≔ (complexWords op (at σ x1) (at σ y1) (at σ x2) (at σ y2)).1
+    xd ≔ (complex_words op (at σ x1) (at σ y1) (at σ x2) (at σ y2)).0
+    ∷ yd ≔ (complex_words op (at σ x1) (at σ y1) (at σ x2) (at σ y2)).1
     ∷ []
 
 -- "Of two destinations the first is written first"
@@ -122,17 +122,17 @@ works (Record.Call l ∷ rs) = []
 works (Record.BranchIf c l e ∷ rs) = []
 
 -- is a record Label l?
-unfoldable pub isLabel : ℕ → Record → Bool
-isLabel l (Record.Work w) = false
-isLabel l (Record.Label m) = eqb m l
-isLabel l (Record.Branch m) = false
-isLabel l (Record.Call m) = false
-isLabel l (Record.BranchIf c m e) = false
+unfoldable pub is_label : ℕ → Record → Bool
+is_label l (Record.Work w) = false
+is_label l (Record.Label m) = eqb m l
+is_label l (Record.Branch m) = false
+is_label l (Record.Call m) = false
+is_label l (Record.BranchIf c m e) = false
 
 -- the records from the first Label l on
 unfoldable pub seek : ℕ → List Record → List Record
 seek l [] = []
-seek l (r ∷ rs) = cond (isLabel l r) (r ∷ rs) (seek l rs)
+seek l (r ∷ rs) = cond (is_label l r) (r ∷ rs) (seek l rs)
 
 -- "The block runs from Label 1 to the first Branch 0 after it, with no other Label, Branch or Call inside": the records between the two
 unfoldable pub block : List Record → List Work
@@ -188,7 +188,7 @@ reach constants b going (suc n) (Record.Call l ∷ rs) σ = reach constants b go
 reach constants b going (suc n) (Record.BranchIf c l e ∷ rs) σ =
     cond (branches e (at σ c)) (reach constants b (seeking l) n rs σ) (reach constants b going n rs σ)
 reach constants b (seeking l) zero [] σ = none
-reach constants b (seeking l) zero (r ∷ rs) σ = cond (isLabel l r) (some σ) none
+reach constants b (seeking l) zero (r ∷ rs) σ = cond (is_label l r) (some σ) none
 reach constants b (seeking l) (suc n) [] σ = none
 reach constants b (seeking l) (suc n) (Record.Work w ∷ rs) σ = reach constants b (seeking l) n rs σ
 reach constants b (seeking l) (suc n) (Record.Label m ∷ rs) σ =

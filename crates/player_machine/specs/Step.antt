@@ -4,7 +4,7 @@ use Rattle.std.specs.Prelude.{ℕ, zero, suc, ◌+◌, ◌≤◌, ◌≡◌, Boo
 use Rattle.std.proofs.Math.Option.{Option, none, some}
 use Rattle.std.proofs.Math.ListN.{get_elem?}
 use Rattle.mir.specs.declared.records.Record.{Record}
-use Rattle.player_machine.specs.Machine.{Store, at, Write, writes, put, isLabel, block, branches, going, End, ticks, play}
+use Rattle.player_machine.specs.Machine.{Store, at, Write, writes, put, is_label, block, branches, going, End, ticks, play}
 use Rattle.player_machine.specs.Jumps.{breach}
 
 -- Where a play stands: the index of the record that is reached next, in a call the index at which it goes on afterwards, and the store.
@@ -16,11 +16,11 @@ pub record PlayState : Type 0 where
 -- how many records stand before the first Label l
 abbrev pub before : ℕ → List Record → ℕ
 before l [] = 0
-before l (r ∷ rs) = cond (isLabel l r) 0 (suc (before l rs))
+before l (r ∷ rs) = cond (is_label l r) 0 (suc (before l rs))
 
 -- "a jump reaches its Label": the index of the first Label l from an index on
-abbrev pub labelFrom : List Record → ℕ → ℕ → ℕ
-labelFrom rs n l = n + before l (drop n rs)
+abbrev pub label_from : List Record → ℕ → ℕ → ℕ
+label_from rs n l = n + before l (drop n rs)
 
 -- What follows a record: the record at an index, in a call or not, or the end of the play.
 pub data Follows : Type 0 where
@@ -37,10 +37,10 @@ returns (some i) = then i none
 unfoldable pub follows : List Record → PlayState → Record → Follows
 follows rs s (Record.Work w) = then (suc s.at) s.back
 follows rs s (Record.Label l) = then (suc s.at) s.back
-follows rs s (Record.Branch l) = cond (eqb l 0) (returns s.back) (then (labelFrom rs (suc s.at) l) s.back)
-follows rs s (Record.Call l) = then (labelFrom rs 0 l) (some (suc s.at))
+follows rs s (Record.Branch l) = cond (eqb l 0) (returns s.back) (then (label_from rs (suc s.at) l) s.back)
+follows rs s (Record.Call l) = then (label_from rs 0 l) (some (suc s.at))
 follows rs s (Record.BranchIf c l e) =
-    cond (branches e (at s.store c)) (then (labelFrom rs (suc s.at) l) s.back) (then (suc s.at) s.back)
+    cond (branches e (at s.store c)) (then (label_from rs (suc s.at) l) s.back) (then (suc s.at) s.back)
 
 -- only a working record writes
 unfoldable pub written : List ℕ → Store → Record → List Write
@@ -75,7 +75,7 @@ unfolding step
 steps constants rs zero s = record { store = s.store; played = 0 }
 steps constants rs (suc n) s = reached constants rs (λ t. steps constants rs n t) s (get_elem? rs s.at)
 
--- a listing that keeps the jump rules plays by so many steps, or more, as by Machine.antt, from any record on (theorem `bySteps`, of
+-- a listing that keeps the jump rules plays by so many steps, or more, as by Machine.antt, from any record on (theorem `by_steps`, of
 -- `most`)
 abbrev pub PlaysBySteps : (List Record → ℕ) → Type 0
 PlaysBySteps count =

@@ -1,7 +1,7 @@
 // One function for each kind of working record, over the bytes that begin with it. False, and the store as it was, where its operation or
 // its place is none. A LoadConst alone reads the constants: of any other kind the contract holds for all.
 ghost use Rattle.std.specs.Prelude.{◌≡◌, List, ℕ};
-ghost use Rattle.player_work.specs.Encoded.{hasWork, worked, uniEncoded, biEncoded, movEncoded, loadEncoded, saveEncoded, loadConstEncoded, fusedEncoded, ifElseEncoded, loadComplexEncoded, saveComplexEncoded, complexBiEncoded};
+ghost use Rattle.player_work.specs.Encoded.{has_work, worked, uni_encoded, bi_encoded, mov_encoded, load_encoded, save_encoded, load_const_encoded, fused_encoded, if_else_encoded, load_complex_encoded, save_complex_encoded, complex_bi_encoded};
 
 use super::kinds::{
     bi, complex_bi, fused, if_else, load, load_complex, load_const, mov, save, save_complex, uni,
@@ -10,7 +10,7 @@ use mir::fields::{Place, byte, read_place, u16_at};
 use mir::ops::{FoundArith, FoundBin, FoundFused, FoundUni, arith_op, bin_op, fused_op, uni_op};
 
 pub fn play_uni(store: &mut [u64], s: &[u8]) -> bool
-    ensures { (result ≡ hasWork (uniEncoded s.now)) × ((constants : List ℕ) → store.new ≡ worked constants (uniEncoded s.now) store.old) }
+    ensures { (result ≡ has_work (uni_encoded s.now)) × ((constants : List ℕ) → store.new ≡ worked constants (uni_encoded s.now) store.old) }
 {
     match uni_op(byte(s, 4), true) {
         FoundUni::Op(op) => {
@@ -22,7 +22,7 @@ pub fn play_uni(store: &mut [u64], s: &[u8]) -> bool
 }
 
 pub fn play_bi(store: &mut [u64], s: &[u8]) -> bool
-    ensures { (result ≡ hasWork (biEncoded s.now)) × ((constants : List ℕ) → store.new ≡ worked constants (biEncoded s.now) store.old) }
+    ensures { (result ≡ has_work (bi_encoded s.now)) × ((constants : List ℕ) → store.new ≡ worked constants (bi_encoded s.now) store.old) }
 {
     match bin_op(byte(s, 4), true) {
         FoundBin::Op(op) => {
@@ -34,14 +34,14 @@ pub fn play_bi(store: &mut [u64], s: &[u8]) -> bool
 }
 
 pub fn play_mov(store: &mut [u64], s: &[u8]) -> bool
-    ensures { (result ≡ hasWork (movEncoded s.now)) × ((constants : List ℕ) → store.new ≡ worked constants (movEncoded s.now) store.old) }
+    ensures { (result ≡ has_work (mov_encoded s.now)) × ((constants : List ℕ) → store.new ≡ worked constants (mov_encoded s.now) store.old) }
 {
     mov(store, byte(s, 4), byte(s, 5));
     true
 }
 
 pub fn play_load(store: &mut [u64], s: &[u8]) -> bool
-    ensures { (result ≡ hasWork (loadEncoded s.now)) × ((constants : List ℕ) → store.new ≡ worked constants (loadEncoded s.now) store.old) }
+    ensures { (result ≡ has_work (load_encoded s.now)) × ((constants : List ℕ) → store.new ≡ worked constants (load_encoded s.now) store.old) }
 {
     match read_place(s, 5) {
         Place::At(loc) => {
@@ -53,7 +53,7 @@ pub fn play_load(store: &mut [u64], s: &[u8]) -> bool
 }
 
 pub fn play_save(store: &mut [u64], s: &[u8]) -> bool
-    ensures { (result ≡ hasWork (saveEncoded s.now)) × ((constants : List ℕ) → store.new ≡ worked constants (saveEncoded s.now) store.old) }
+    ensures { (result ≡ has_work (save_encoded s.now)) × ((constants : List ℕ) → store.new ≡ worked constants (save_encoded s.now) store.old) }
 {
     match read_place(s, 5) {
         Place::At(loc) => {
@@ -65,14 +65,14 @@ pub fn play_save(store: &mut [u64], s: &[u8]) -> bool
 }
 
 pub fn play_load_const(store: &mut [u64], constants: &[u64], s: &[u8]) -> bool
-    ensures { (result ≡ hasWork (loadConstEncoded s.now)) × (store.new ≡ worked constants.now (loadConstEncoded s.now) store.old) }
+    ensures { (result ≡ has_work (load_const_encoded s.now)) × (store.new ≡ worked constants.now (load_const_encoded s.now) store.old) }
 {
     load_const(store, constants, byte(s, 4), u16_at(s, 5));
     true
 }
 
 pub fn play_fused(store: &mut [u64], s: &[u8]) -> bool
-    ensures { (result ≡ hasWork (fusedEncoded s.now)) × ((constants : List ℕ) → store.new ≡ worked constants (fusedEncoded s.now) store.old) }
+    ensures { (result ≡ has_work (fused_encoded s.now)) × ((constants : List ℕ) → store.new ≡ worked constants (fused_encoded s.now) store.old) }
 {
     match fused_op(byte(s, 4), true) {
         FoundFused::Op(op) => {
@@ -84,7 +84,7 @@ pub fn play_fused(store: &mut [u64], s: &[u8]) -> bool
 }
 
 pub fn play_if_else(store: &mut [u64], s: &[u8]) -> bool
-    ensures { (result ≡ hasWork (ifElseEncoded s.now)) × ((constants : List ℕ) → store.new ≡ worked constants (ifElseEncoded s.now) store.old) }
+    ensures { (result ≡ has_work (if_else_encoded s.now)) × ((constants : List ℕ) → store.new ≡ worked constants (if_else_encoded s.now) store.old) }
 {
     match read_place(s, 7) {
         Place::At(loc) => {
@@ -96,7 +96,7 @@ pub fn play_if_else(store: &mut [u64], s: &[u8]) -> bool
 }
 
 pub fn play_load_complex(store: &mut [u64], s: &[u8]) -> bool
-    ensures { (result ≡ hasWork (loadComplexEncoded s.now)) × ((constants : List ℕ) → store.new ≡ worked constants (loadComplexEncoded s.now) store.old) }
+    ensures { (result ≡ has_work (load_complex_encoded s.now)) × ((constants : List ℕ) → store.new ≡ worked constants (load_complex_encoded s.now) store.old) }
 {
     match read_place(s, 6) {
         Place::At(loc) => {
@@ -108,7 +108,7 @@ pub fn play_load_complex(store: &mut [u64], s: &[u8]) -> bool
 }
 
 pub fn play_save_complex(store: &mut [u64], s: &[u8]) -> bool
-    ensures { (result ≡ hasWork (saveComplexEncoded s.now)) × ((constants : List ℕ) → store.new ≡ worked constants (saveComplexEncoded s.now) store.old) }
+    ensures { (result ≡ has_work (save_complex_encoded s.now)) × ((constants : List ℕ) → store.new ≡ worked constants (save_complex_encoded s.now) store.old) }
 {
     match read_place(s, 6) {
         Place::At(loc) => {
@@ -120,7 +120,7 @@ pub fn play_save_complex(store: &mut [u64], s: &[u8]) -> bool
 }
 
 pub fn play_complex_bi(store: &mut [u64], s: &[u8]) -> bool
-    ensures { (result ≡ hasWork (complexBiEncoded s.now)) × ((constants : List ℕ) → store.new ≡ worked constants (complexBiEncoded s.now) store.old) }
+    ensures { (result ≡ has_work (complex_bi_encoded s.now)) × ((constants : List ℕ) → store.new ≡ worked constants (complex_bi_encoded s.now) store.old) }
 {
     match arith_op(byte(s, 4)) {
         FoundArith::Op(op) => {

@@ -1,9 +1,9 @@
 // One function for each kind of working record. Operands are read before anything is written; of two destinations the first is
 // written first.
 ghost use Rattle.std.specs.Prelude.{◌≡◌, suc, get_or, set};
-ghost use Rattle.player_machine.specs.Machine.{at, uniWord, binWord, fusedWord, complexWords};
+ghost use Rattle.player_machine.specs.Machine.{at, uni_word, bin_word, fused_word, complex_words};
 ghost use Rattle.player_machine.specs.Machine as Machine;
-ghost use Rattle.float.specs.Word.{ifElse};
+ghost use Rattle.float.specs.Word.{if_else};
 
 use super::operations::{bin_word, complex_words, fused_word, uni_word};
 use super::words::{get, get_register, place, put, put_register};
@@ -11,7 +11,7 @@ use mir::ops::{ArithOp, BinOp, FusedOp, UniOp};
 use mir::records::Loc;
 
 pub fn uni(store: &mut [u64], op: UniOp, dst: u8, s1: u8)
-    ensures { store.new ≡ set store.old dst (uniWord op (at store.old s1)) }
+    ensures { store.new ≡ set store.old dst (uni_word op (at store.old s1)) }
 {
     let a = get_register(store, s1);
     let v = uni_word(op, a);
@@ -19,7 +19,7 @@ pub fn uni(store: &mut [u64], op: UniOp, dst: u8, s1: u8)
 }
 
 pub fn bi(store: &mut [u64], op: BinOp, dst: u8, s1: u8, s2: u8)
-    ensures { store.new ≡ set store.old dst (binWord op (at store.old s1) (at store.old s2)) }
+    ensures { store.new ≡ set store.old dst (bin_word op (at store.old s1) (at store.old s2)) }
 {
     let a = get_register(store, s1);
     let b = get_register(store, s2);
@@ -58,7 +58,7 @@ pub fn load_const(store: &mut [u64], constants: &[u64], dst: u8, idx: u16)
 }
 
 pub fn fused(store: &mut [u64], op: FusedOp, dst: u8, a: u8, b: u8, c: u8)
-    ensures { store.new ≡ set store.old dst (fusedWord op (at store.old a) (at store.old b) (at store.old c)) }
+    ensures { store.new ≡ set store.old dst (fused_word op (at store.old a) (at store.old b) (at store.old c)) }
 {
     let x = get_register(store, a);
     let y = get_register(store, b);
@@ -68,7 +68,7 @@ pub fn fused(store: &mut [u64], op: FusedOp, dst: u8, a: u8, b: u8, c: u8)
 }
 
 pub fn if_else(store: &mut [u64], dst: u8, true_val: u8, false_val: u8, cond: Loc)
-    ensures { store.new ≡ set store.old dst (ifElse (at store.old (Machine.place cond)) (at store.old true_val) (at store.old false_val)) }
+    ensures { store.new ≡ set store.old dst (if_else (at store.old (Machine.place cond)) (at store.old true_val) (at store.old false_val)) }
 {
     let i = place(cond);
     let c = get(store, i);
@@ -99,7 +99,7 @@ pub fn save_complex(store: &mut [u64], xs: u8, ys: u8, loc: Loc)
 }
 
 pub fn complex_bi(store: &mut [u64], op: ArithOp, xd: u8, yd: u8, x1: u8, y1: u8, x2: u8, y2: u8)
-    ensures { store.new ≡ set (set store.old xd (complexWords op (at store.old x1) (at store.old y1) (at store.old x2) (at store.old y2)).0) yd (complexWords op (at store.old x1) (at store.old y1) (at store.old x2) (at store.old y2)).1 }
+    ensures { store.new ≡ set (set store.old xd (complex_words op (at store.old x1) (at store.old y1) (at store.old x2) (at store.old y2)).0) yd (complex_words op (at store.old x1) (at store.old y1) (at store.old x2) (at store.old y2)).1 }
 {
     let a = get_register(store, x1);
     let b = get_register(store, y1);

@@ -1,6 +1,6 @@
 // What a working record does to the store, read from the bytes that begin with it.
 ghost use Rattle.std.specs.Prelude.{◌≡◌};
-ghost use Rattle.player_work.specs.Encoded.{encoded, hasWork, worked};
+ghost use Rattle.player_work.specs.Encoded.{encoded, has_work, worked};
 
 use bytes::{
     play_bi, play_complex_bi, play_fused, play_if_else, play_load, play_load_complex,
@@ -15,7 +15,7 @@ pub mod words;
 
 // Whether the bytes encode work; the store is then what the work makes of it.
 pub fn exec(store: &mut [u64], constants: &[u64], s: &[u8]) -> bool
-    ensures { (result ≡ hasWork (encoded s.now)) × (store.new ≡ worked constants.now (encoded s.now) store.old) }
+    ensures { (result ≡ has_work (encoded s.now)) × (store.new ≡ worked constants.now (encoded s.now) store.old) }
 {
     match u16_at(s, 2) {
         1 => play_uni(store, s),

@@ -1,12 +1,12 @@
 // The operations of a record on words. An operation that no listing takes gives its first word.
 ghost use Rattle.std.specs.Prelude.{◌≡◌};
-ghost use Rattle.player_machine.specs.Machine.{uniWord, binWord, fusedWord, complexWords};
+ghost use Rattle.player_machine.specs.Machine.{uni_word, bin_word, fused_word, complex_words};
 
 use float::Pair;
 use mir::ops::{ArithOp, BinOp, FusedOp, UniOp};
 
 pub fn uni_word(op: UniOp, a: u64) -> u64
-    ensures { result ≡ uniWord op a }
+    ensures { result ≡ uni_word op a }
 {
     match op {
         UniOp::Neg => float::neg(a),
@@ -33,7 +33,7 @@ pub fn uni_word(op: UniOp, a: u64) -> u64
 }
 
 pub fn bin_word(op: BinOp, a: u64, b: u64) -> u64
-    ensures { result ≡ binWord op a b }
+    ensures { result ≡ bin_word op a b }
 {
     match op {
         BinOp::Plus => float::plus(a, b),
@@ -55,7 +55,7 @@ pub fn bin_word(op: BinOp, a: u64, b: u64) -> u64
 }
 
 pub fn fused_word(op: FusedOp, a: u64, b: u64, c: u64) -> u64
-    ensures { result ≡ fusedWord op a b c }
+    ensures { result ≡ fused_word op a b c }
 {
     match op {
         FusedOp::MulAdd => float::mul_add(a, b, c),
@@ -66,7 +66,7 @@ pub fn fused_word(op: FusedOp, a: u64, b: u64, c: u64) -> u64
 }
 
 pub fn complex_words(op: ArithOp, x1: u64, y1: u64, x2: u64, y2: u64) -> Pair
-    ensures { (result.re ≡ (complexWords op x1 y1 x2 y2).0) × (result.im ≡ (complexWords op x1 y1 x2 y2).1) }
+    ensures { (result.re ≡ (complex_words op x1 y1 x2 y2).0) × (result.im ≡ (complex_words op x1 y1 x2 y2).1) }
 {
     match op {
         ArithOp::Plus => float::complex_plus(x1, y1, x2, y2),

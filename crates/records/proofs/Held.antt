@@ -7,20 +7,20 @@ use native.Mathlib.Omega.{arith}
 use lib.Dec.{ltb, eqb}
 use Rattle.mir.specs.declared.records.Work.{Work}
 use Rattle.mir.specs.declared.records.Record.{Record}
-use Rattle.mir.specs.Operation.{arithOps}
-use Rattle.mir.specs.Takes.{takesArith}
+use Rattle.mir.specs.Operation.{arith_ops}
+use Rattle.mir.specs.Takes.{takes_arith}
 use Rattle.mir.specs.Read.{got}
-use Rattle.mir.specs.Field.{byte_at, bytes_at, u16At, takesKind}
-use Rattle.mir.proofs.IfRead.{IfRead, read, told, if-got, tested, parted, chosen, limited, operation, place, save, head}
+use Rattle.mir.specs.Field.{byte_at, bytes_at, u16_at, takes_kind}
+use Rattle.mir.proofs.IfRead.{IfRead, read, told, if_got, tested, parted, chosen, limited, operation, place, save, head}
 use Rattle.mir.proofs.ByKind.{uni, bi, mov, load, saving, load-const, fused, if-else}
 use Rattle.mir.proofs.Decoding.{Bytes, items, each}
-use Rattle.records.specs.Record.{fieldsFrom, recordFrom}
+use Rattle.records.specs.Record.{fields_from, record_from}
 use Rattle.records.proofs.Holding.{Holds, AllHold}
 
 -- kind by kind
-held-fields : (count kind : ℕ) (s : List ℕ) → IfRead (λ r. Bytes s → Holds count r) (fieldsFrom count kind s)
-unfolding fieldsFrom u16At
-held-fields count kind s =
+held_fields : (count kind : ℕ) (s : List ℕ) → IfRead (λ r. Bytes s → Holds count r) (fields_from count kind s)
+unfolding fields_from u16_at
+held_fields count kind s =
     let b = byte_at s in
     chosen kind 1 (λ k. uni true s (λ op d a. Record.Work (Work.Uni op d a)) (λ op d a t x y bytes. (t, x, y)))
     (chosen kind 2 (λ k. bi true s (λ op d a b. Record.Work (Work.Bi op d a b)) (λ op d a b t x y z bytes. (t, x, y, z)))
@@ -37,7 +37,7 @@ held-fields count kind s =
     (λ k. limited 65 (bytes_at s 4 2)
     (λ l. parted (save s 6) (λ p q. read {a = Record.Work (Work.SaveComplex (b 4) (b 5) p)} (λ bytes. (l.0, l.1.0, q)))))
     (chosen kind 13
-    (λ k. parted (operation takesArith arithOps (b 4)) (λ op t. limited 65 (bytes_at s 5 6)
+    (λ k. parted (operation takes_arith arith_ops (b 4)) (λ op t. limited 65 (bytes_at s 5 6)
     (λ l. read {a = Record.Work (Work.ComplexBi op (b 5) (b 6) (b 7) (b 8) (b 9) (b 10))}
     (λ bytes. (l.0, l.1.0, l.1.1.0, l.1.1.1.0, l.1.1.1.1.0, l.1.1.1.1.1.0)))))
     (chosen kind 14 (λ k. read {a = Record.Label (b 4)} (λ bytes. tt))
@@ -48,13 +48,13 @@ held-fields count kind s =
     (λ e. limited 65 (bytes_at s 4 1) (λ l. read {a = Record.BranchIf (b 4) (b 5) (eqb (b 6) 1)} (λ bytes. l.0))))
     told))))))))))))))
 
-pub one-held : (count : ℕ) (s : List ℕ) → IfRead (λ r. Bytes s → Holds count r) (recordFrom count s)
-unfolding recordFrom
-one-held count s = parted (head (takesKind true) s) (λ kind h. held-fields count kind s)
+pub one_held : (count : ℕ) (s : List ℕ) → IfRead (λ r. Bytes s → Holds count r) (record_from count s)
+unfolding record_from
+one_held count s = parted (head (takes_kind true) s) (λ kind h. held_fields count kind s)
 
-pub held : (count : ℕ) (s : List ℕ) (r : Record) → Bytes s → recordFrom count s ≡ got r → Holds count r
-held count s r b e = if-got (one-held count s) e b
+pub held : (count : ℕ) (s : List ℕ) (r : Record) → Bytes s → record_from count s ≡ got r → Holds count r
+held count s r b e = if_got (one_held count s) e b
 
 -- and so is every record that is decoded
-pub all_held : (count : ℕ) (s : List ℕ) → Bytes s → AllHold count (items (recordFrom count) s)
-all_held count s b = each (Holds count) (recordFrom count) (λ s r b e. held count s r b e) s b
+pub all_held : (count : ℕ) (s : List ℕ) → Bytes s → AllHold count (items (record_from count) s)
+all_held count s b = each (Holds count) (record_from count) (λ s r b e. held count s r b e) s b

@@ -5,22 +5,22 @@ use Rattle.mir.specs.declared.records.Record.{Record}
 use Rattle.mir.specs.Read.{Read, got, refused}
 
 -- the record's work; of a sheet's own kinds, which a listing has not, any
-abbrev pub workOf : Instruction → Work
-workOf Instruction.Nop = Work.Mov 0 0
-workOf (Instruction.Uni op dst s1) = Work.Uni op dst s1
-workOf (Instruction.Bi op dst s1 s2) = Work.Bi op dst s1 s2
-workOf (Instruction.Mov dst s1) = Work.Mov dst s1
-workOf (Instruction.Load dst loc) = Work.Load dst loc
-workOf (Instruction.Save src loc) = Work.Save src loc
-workOf (Instruction.LoadConst dst idx) = Work.LoadConst dst idx
-workOf (Instruction.Fused op dst a b c) = Work.Fused op dst a b c
-workOf (Instruction.IfElse dst t f loc) = Work.IfElse dst t f loc
-workOf (Instruction.LoadMath op dst s1 loc) = Work.Mov 0 0
-workOf (Instruction.LoadConstMath op dst s1 idx) = Work.Mov 0 0
-workOf (Instruction.Label l) = Work.Mov 0 0
-workOf (Instruction.Branch l) = Work.Mov 0 0
-workOf (Instruction.BranchIf c l e) = Work.Mov 0 0
+abbrev pub work_of : Instruction → Work
+work_of Instruction.Nop = Work.Mov 0 0
+work_of (Instruction.Uni op dst s1) = Work.Uni op dst s1
+work_of (Instruction.Bi op dst s1 s2) = Work.Bi op dst s1 s2
+work_of (Instruction.Mov dst s1) = Work.Mov dst s1
+work_of (Instruction.Load dst loc) = Work.Load dst loc
+work_of (Instruction.Save src loc) = Work.Save src loc
+work_of (Instruction.LoadConst dst idx) = Work.LoadConst dst idx
+work_of (Instruction.Fused op dst a b c) = Work.Fused op dst a b c
+work_of (Instruction.IfElse dst t f loc) = Work.IfElse dst t f loc
+work_of (Instruction.LoadMath op dst s1 loc) = Work.Mov 0 0
+work_of (Instruction.LoadConstMath op dst s1 idx) = Work.Mov 0 0
+work_of (Instruction.Label l) = Work.Mov 0 0
+work_of (Instruction.Branch l) = Work.Mov 0 0
+work_of (Instruction.BranchIf c l e) = Work.Mov 0 0
 
-abbrev pub asRecord : Read Instruction → Read Record
-asRecord (got i) = got (Record.Work (workOf i))
-asRecord (refused n) = refused n
+abbrev pub as_record : Read Instruction → Read Record
+as_record (got i) = got (Record.Work (work_of i))
+as_record (refused n) = refused n

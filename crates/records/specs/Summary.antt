@@ -4,10 +4,10 @@ use Rattle.mir.specs.declared.records.Record.{Record}
 use Rattle.mir.specs.Read.{Read, got, refused}
 use Rattle.records.specs.declared.reader.Summary.{Summary}
 
-abbrev pub summaryOf : Read Record → Summary
-summaryOf (refused n) = record { number = n; what = 0; label = 0 }
-summaryOf (got (Record.Work w)) = record { number = 0; what = 0; label = 0 }
-summaryOf (got (Record.Label l)) = record { number = 0; what = 1; label = l }
-summaryOf (got (Record.Branch l)) = record { number = 0; what = 2; label = l }
-summaryOf (got (Record.Call l)) = record { number = 0; what = 3; label = l }
-summaryOf (got (Record.BranchIf c l e)) = record { number = 0; what = 4; label = l }
+abbrev pub summary_of : Read Record → Summary
+summary_of (refused n) = record { number = n; what = 0; label = 0 }
+summary_of (got (Record.Work w)) = record { number = 0; what = 0; label = 0 }
+summary_of (got (Record.Label l)) = record { number = 0; what = 1; label = l }
+summary_of (got (Record.Branch l)) = record { number = 0; what = 2; label = l }
+summary_of (got (Record.Call l)) = record { number = 0; what = 3; label = l }
+summary_of (got (Record.BranchIf c l e)) = record { number = 0; what = 4; label = l }

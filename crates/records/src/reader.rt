@@ -1,9 +1,9 @@
 // A listing's record, read at a position.
 ghost use Rattle.std.specs.Prelude.{◌≡◌};
 ghost use Rattle.kinds.specs.Answer as Answer;
-ghost use Rattle.records.specs.Record.{loadComplexFrom, saveComplexFrom, complexBiFrom, labelFrom, branchFrom, callFrom, branchIfFrom, fieldsFrom, recordFrom, recordAt, asRead, asNext};
-ghost use Rattle.records.specs.Shared.{workOf, asRecord};
-ghost use Rattle.records.specs.Summary.{summaryOf};
+ghost use Rattle.records.specs.Record.{load_complex_from, save_complex_from, complex_bi_from, label_from, branch_from, call_from, branch_if_from, fields_from, record_from, record_at, as_read, as_next};
+ghost use Rattle.records.specs.Shared.{work_of, as_record};
+ghost use Rattle.records.specs.Summary.{summary_of};
 
 use kinds::{
     ReadInstruction, read_bi, read_fused, read_if_else, read_load, read_load_const, read_mov,
@@ -41,7 +41,7 @@ pub struct Summary {
 
 // The record of a kind that sheets share; of a sheet's own kinds, which a listing has not, any.
 fn work_of(i: Instruction) -> Work
-    ensures { result ≡ workOf i }
+    ensures { result ≡ work_of i }
 {
     match i {
         Instruction::Uni { op, dst, s1 } => Work::Uni {
@@ -88,7 +88,7 @@ fn work_of(i: Instruction) -> Work
 
 // What was read of a kind that sheets share, as a record.
 fn record_of(q: ReadInstruction) -> ReadRecord
-    ensures { asRead result ≡ asRecord (Answer.asRead q) }
+    ensures { as_read result ≡ as_record (Answer.as_read q) }
 {
     match q {
         ReadInstruction::Got(i) => ReadRecord::Got(Record::Work(work_of(i))),
@@ -97,7 +97,7 @@ fn record_of(q: ReadInstruction) -> ReadRecord
 }
 
 fn read_load_complex(s: &[u8]) -> ReadRecord
-    ensures { asRead result ≡ loadComplexFrom s.now }
+    ensures { as_read result ≡ load_complex_from s.now }
 {
     if above(s, 4, 2, LAST) {
         return ReadRecord::Refused(3);
@@ -113,7 +113,7 @@ fn read_load_complex(s: &[u8]) -> ReadRecord
 }
 
 fn read_save_complex(s: &[u8]) -> ReadRecord
-    ensures { asRead result ≡ saveComplexFrom s.now }
+    ensures { as_read result ≡ save_complex_from s.now }
 {
     if above(s, 4, 2, LAST) {
         return ReadRecord::Refused(3);
@@ -129,7 +129,7 @@ fn read_save_complex(s: &[u8]) -> ReadRecord
 }
 
 fn read_complex_bi(s: &[u8]) -> ReadRecord
-    ensures { asRead result ≡ complexBiFrom s.now }
+    ensures { as_read result ≡ complex_bi_from s.now }
 {
     match arith_op(byte(s, 4)) {
         FoundArith::Op(op) => {
@@ -151,25 +151,25 @@ fn read_complex_bi(s: &[u8]) -> ReadRecord
 }
 
 fn read_label(s: &[u8]) -> ReadRecord
-    ensures { asRead result ≡ labelFrom s.now }
+    ensures { as_read result ≡ label_from s.now }
 {
     ReadRecord::Got(Record::Label(byte(s, 4)))
 }
 
 fn read_branch(s: &[u8]) -> ReadRecord
-    ensures { asRead result ≡ branchFrom s.now }
+    ensures { as_read result ≡ branch_from s.now }
 {
     ReadRecord::Got(Record::Branch(byte(s, 4)))
 }
 
 fn read_call(s: &[u8]) -> ReadRecord
-    ensures { asRead result ≡ callFrom s.now }
+    ensures { as_read result ≡ call_from s.now }
 {
     ReadRecord::Got(Record::Call(byte(s, 4)))
 }
 
 fn read_branch_if(s: &[u8]) -> ReadRecord
-    ensures { asRead result ≡ branchIfFrom s.now }
+    ensures { as_read result ≡ branch_if_from s.now }
 {
     let flag = byte(s, 6);
     if 1 < flag {
@@ -187,7 +187,7 @@ fn read_branch_if(s: &[u8]) -> ReadRecord
 
 // The fields of a kind.
 fn read_fields(s: &[u8], kind: u16, count: usize) -> ReadRecord
-    ensures { asRead result ≡ fieldsFrom count kind s.now }
+    ensures { as_read result ≡ fields_from count kind s.now }
 {
     match kind {
         1 => record_of(read_uni(s, uni_op(byte(s, 4), true), true)),
@@ -211,7 +211,7 @@ fn read_fields(s: &[u8], kind: u16, count: usize) -> ReadRecord
 
 // The record that bytes begin with.
 fn read_first(s: &[u8], count: usize) -> ReadRecord
-    ensures { asRead result ≡ recordFrom count s.now }
+    ensures { as_read result ≡ record_from count s.now }
 {
     match read_head(s, true) {
         Head::Kind(kind) => read_fields(s, kind, count),
@@ -221,7 +221,7 @@ fn read_first(s: &[u8], count: usize) -> ReadRecord
 
 // The record at a position, and the position after it. `count` is the count of the table lent with the listing.
 pub fn read_record(listing: &[u8], at: usize, count: usize) -> NextRecord
-    ensures { asNext result ≡ recordAt count listing.now at }
+    ensures { as_next result ≡ record_at count listing.now at }
 {
     if listing.len() < at {
         return NextRecord::Refused(1);
@@ -249,7 +249,7 @@ fn summarized(number: u8, what: u8, label: u8) -> Summary
 
 // What a pass needs of what was read.
 fn summarize_read(q: ReadRecord) -> Summary
-    ensures { result ≡ summaryOf (asRead q) }
+    ensures { result ≡ summary_of (as_read q) }
 {
     match q {
         ReadRecord::Got(rec) => match rec {
@@ -269,7 +269,7 @@ fn summarize_read(q: ReadRecord) -> Summary
 
 // What a pass needs of a kind that sheets share.
 fn summarize_work(q: ReadInstruction) -> Summary
-    ensures { result ≡ summaryOf (asRecord (Answer.asRead q)) }
+    ensures { result ≡ summary_of (as_record (Answer.as_read q)) }
 {
     match q {
         ReadInstruction::Got(_) => summarized(0, 0, 0),
@@ -279,7 +279,7 @@ fn summarize_work(q: ReadInstruction) -> Summary
 
 // The summary of a kind's fields.
 fn summarize_fields(s: &[u8], kind: u16, count: usize) -> Summary
-    ensures { result ≡ summaryOf (fieldsFrom count kind s.now) }
+    ensures { result ≡ summary_of (fields_from count kind s.now) }
 {
     match kind {
         1 => summarize_work(read_uni(s, uni_op(byte(s, 4), true), true)),
@@ -303,7 +303,7 @@ fn summarize_fields(s: &[u8], kind: u16, count: usize) -> Summary
 
 // The summary of the record that bytes begin with.
 pub fn summarize(s: &[u8], count: usize) -> Summary
-    ensures { result ≡ summaryOf (recordFrom count s.now) }
+    ensures { result ≡ summary_of (record_from count s.now) }
 {
     match read_head(s, true) {
         Head::Kind(kind) => summarize_fields(s, kind, count),

@@ -3,18 +3,18 @@ use Rattle.std.specs.Prelude.{ℕ, ◌+◌, ◌*◌, ◌≤◌, ◌<◌, ◌≡�
 use Rattle.std.proofs.Math.Option.{Option, none, some}
 use Rattle.mir.specs.declared.records.Instruction.{Instruction}
 use Rattle.mir.specs.Read.{Read, got, refused}
-use Rattle.mir.specs.Field.{byte_at, bytes_at, u16At}
+use Rattle.mir.specs.Field.{byte_at, bytes_at, u16_at}
 use Rattle.mir.specs.Decode.{decoded}
 use Rattle.words.specs.Bytes.{stored}
-use Rattle.sheet.specs.Instruction.{fieldsFrom, instructionFrom}
+use Rattle.sheet.specs.Instruction.{fields_from, instruction_from}
 use Rattle.lowering.specs.declared.realness.Realness.{Realness}
-use Rattle.lowering.specs.RecordBytes.{recordBytes}
+use Rattle.lowering.specs.RecordBytes.{record_bytes}
 use Rattle.lowering.specs.Labels as Labels
-use Rattle.lowering.specs.Labels.{Role, role, Standing, labelSeen, later, stands, sameBytes, differs}
+use Rattle.lowering.specs.Labels.{Role, role, Standing, label_seen, later, stands, bytes_same, differs}
 
 -- the label in a record's bytes, where it is a Label
-abbrev pub labelHere : List ℕ → Option ℕ
-labelHere s = cond (eqb (u16At s 2) 14) (some (byte_at s 4)) none
+abbrev pub label_here : List ℕ → Option ℕ
+label_here s = cond (eqb (u16_at s 2) 14) (some (byte_at s 4)) none
 
 abbrev pub row : ℕ → List ℕ → List ℕ
 row l rows = bytes_at rows (96 * l) 96
@@ -22,7 +22,7 @@ row l rows = bytes_at rows (96 * l) 96
 -- The marks: 0, no such label stands ahead; 1, one does, and no branch to it stands before; 2, branches to it do, all with the records in
 -- its row; 3, with unlike records; 4, it stood itself. Do records differ from those at a branch to it?
 abbrev pub unlike : ℕ → List ℕ → Realness → Bool
-unlike mark bytes ρ = cond (eqb mark 2) (not (sameBytes bytes (recordBytes ρ))) (ltb 2 mark)
+unlike mark bytes ρ = cond (eqb mark 2) (not (bytes_same bytes (record_bytes ρ))) (ltb 2 mark)
 
 -- the tables, where b stand before an instruction and `rest` are the sheet's bytes from it on
 pub record Noted (b : Standing) (rest marks rows : List ℕ) : Type 0 where
@@ -36,30 +36,30 @@ pub record Noted (b : Standing) (rest marks rows : List ℕ) : Type 0 where
 -- ---- what is done with them
 
 -- looking ahead marks each label that it sees
-abbrev pub seenIn : List ℕ → List (Option ℕ)
-seenIn rest = (decoded labelSeen rest).items
+abbrev pub seen_in : List ℕ → List (Option ℕ)
+seen_in rest = (decoded label_seen rest).items
 
-abbrev pub markSeen : Option ℕ → List ℕ → List ℕ
-markSeen none marks = marks
-markSeen (some l) marks = set marks l 1
+abbrev pub mark_seen : Option ℕ → List ℕ → List ℕ
+mark_seen none marks = marks
+mark_seen (some l) marks = set marks l 1
 
-abbrev pub markAll : List (Option ℕ) → List ℕ → List ℕ
-markAll [] marks = marks
-markAll (o ∷ os) marks = markAll os (markSeen o marks)
+abbrev pub mark_all : List (Option ℕ) → List ℕ → List ℕ
+mark_all [] marks = marks
+mark_all (o ∷ os) marks = mark_all os (mark_seen o marks)
 
 -- is there one?
-abbrev pub isLabel : Option ℕ → Bool
-isLabel none = false
-isLabel (some l) = true
+abbrev pub is_label : Option ℕ → Bool
+is_label none = false
+is_label (some l) = true
 
-abbrev pub anyLabel : List (Option ℕ) → Bool
-anyLabel [] = false
-anyLabel (o ∷ os) = isLabel o || anyLabel os
+abbrev pub any_label : List (Option ℕ) → Bool
+any_label [] = false
+any_label (o ∷ os) = is_label o || any_label os
 
 -- the role of an instruction that is read; one that is refused as it is read has none
-abbrev pub roleRead : Read Instruction → Role
-roleRead (got i) = role i
-roleRead (refused n) = Labels.works
+abbrev pub role_read : Read Instruction → Role
+role_read (got i) = role i
+role_read (refused n) = Labels.works
 
 -- what they tell of an instruction with a role, where the records are ρ: 10, 11, or 0, neither
 abbrev pub tell : Role → Realness → List ℕ → List ℕ → ℕ
@@ -68,35 +68,35 @@ tell (Labels.labels l) ρ marks rows = cond (eqb (get_or marks l 0) 4) 10 (cond 
 tell (Labels.branches l) ρ marks rows = cond (eqb (get_or marks l 0) 0 || eqb (get_or marks l 0) 4) 10 0
 
 -- the mark of a label that stands ahead, behind a branch to it; `same`: its row holds the records there
-abbrev pub markBehind : ℕ → Bool → ℕ
-markBehind mark same = cond (eqb mark 1) 2 (cond (eqb mark 2) (cond same 2 3) mark)
+abbrev pub mark_behind : ℕ → Bool → ℕ
+mark_behind mark same = cond (eqb mark 1) 2 (cond (eqb mark 2) (cond same 2 3) mark)
 
 -- the tables behind an instruction that neither refuses
-abbrev pub marksBehind : Role → Realness → List ℕ → List ℕ → List ℕ
-marksBehind Labels.works ρ marks rows = marks
-marksBehind (Labels.labels l) ρ marks rows = set marks l 4
-marksBehind (Labels.branches l) ρ marks rows = set marks l (markBehind (get_or marks l 0) (sameBytes (row l rows) (recordBytes ρ)))
+abbrev pub marks_behind : Role → Realness → List ℕ → List ℕ → List ℕ
+marks_behind Labels.works ρ marks rows = marks
+marks_behind (Labels.labels l) ρ marks rows = set marks l 4
+marks_behind (Labels.branches l) ρ marks rows = set marks l (mark_behind (get_or marks l 0) (bytes_same (row l rows) (record_bytes ρ)))
 
-abbrev pub rowsBehind : Role → Realness → List ℕ → List ℕ → List ℕ
-rowsBehind Labels.works ρ marks rows = rows
-rowsBehind (Labels.labels l) ρ marks rows = rows
-rowsBehind (Labels.branches l) ρ marks rows = cond (eqb (get_or marks l 0) 1) (stored rows (96 * l) (recordBytes ρ)) rows
+abbrev pub rows_behind : Role → Realness → List ℕ → List ℕ → List ℕ
+rows_behind Labels.works ρ marks rows = rows
+rows_behind (Labels.labels l) ρ marks rows = rows
+rows_behind (Labels.branches l) ρ marks rows = cond (eqb (get_or marks l 0) 1) (stored rows (96 * l) (record_bytes ρ)) rows
 
 -- an instruction passed, or refused by n: then the tables are as they were; the records are of 32 registers and 64 bytes of places
 pub record Passed (i : Role) (ρ : Realness) (marks rows marks' rows' : List ℕ) (n : ℕ) : Type 0 where
   pub full : length ρ.regs ≡ 32
   pub wide : length ρ.places ≡ 64
   pub told : n ≡ tell i ρ marks rows
-  pub marked : marks' ≡ cond (eqb n 0) (marksBehind i ρ marks rows) marks
-  pub kept : rows' ≡ cond (eqb n 0) (rowsBehind i ρ marks rows) rows
+  pub marked : marks' ≡ cond (eqb n 0) (marks_behind i ρ marks rows) marks
+  pub kept : rows' ≡ cond (eqb n 0) (rows_behind i ρ marks rows) rows
 
 -- the same of a record by its kind and its bytes, and of the instruction that bytes begin with, whatever the count of the sheet's constants
 abbrev pub PassedKind : ℕ → List ℕ → Realness → List ℕ → List ℕ → List ℕ → List ℕ → ℕ → Type 0
-PassedKind kind s ρ marks rows marks' rows' n = (count : ℕ) → Passed (roleRead (fieldsFrom count kind s)) ρ marks rows marks' rows' n
+PassedKind kind s ρ marks rows marks' rows' n = (count : ℕ) → Passed (role_read (fields_from count kind s)) ρ marks rows marks' rows' n
 
 abbrev pub PassedFirst : List ℕ → Realness → List ℕ → List ℕ → List ℕ → List ℕ → ℕ → Type 0
-PassedFirst rest ρ marks rows marks' rows' n = (count : ℕ) → Passed (roleRead (instructionFrom count rest)) ρ marks rows marks' rows' n
+PassedFirst rest ρ marks rows marks' rows' n = (count : ℕ) → Passed (role_read (instruction_from count rest)) ρ marks rows marks' rows' n
 
 pub record BranchNoted (l : ℕ) (bytes marks rows marks' rows' : List ℕ) : Type 0 where
-  pub mark : marks' ≡ set marks l (markBehind (get_or marks l 0) (sameBytes (row l rows) bytes))
+  pub mark : marks' ≡ set marks l (mark_behind (get_or marks l 0) (bytes_same (row l rows) bytes))
   pub kept : rows' ≡ cond (eqb (get_or marks l 0) 1) (stored rows (96 * l) bytes) rows

@@ -11,7 +11,7 @@ use mir::registers::{RET, TEMP};
 
 // Divide of a by b; real: b is recorded as real.
 fn barred_divide(stable: bool, a: u8, b: u8, real: bool) -> bool
-    ensures { result ≡ Spec.barredDivide stable a b real }
+    ensures { result ≡ Spec.barred_divide stable a b real }
 {
     if stable {
         if real {
@@ -27,7 +27,7 @@ fn barred_divide(stable: bool, a: u8, b: u8, real: bool) -> bool
 
 // Abs of a complex Ret. The record is asked for a, not for Ret: a flag at a fixed index would be split off each copy of the record.
 fn barred_abs(stable: bool, a: u8, real: Realness) -> bool
-    ensures { result ≡ Spec.barredUni stable UniOp.Abs a real }
+    ensures { result ≡ Spec.barred_uni stable UniOp.Abs a real }
 {
     let x = real.is_real_reg(a);
     if stable {
@@ -40,7 +40,7 @@ fn barred_abs(stable: bool, a: u8, real: Realness) -> bool
 }
 
 fn barred_uni(stable: bool, op: UniOp, a: u8, real: Realness) -> bool
-    ensures { result ≡ Spec.barredUni stable op a real }
+    ensures { result ≡ Spec.barred_uni stable op a real }
 {
     if uni_number(op) == uni_number(UniOp::Abs) {
         return barred_abs(stable, a, real);
@@ -49,7 +49,7 @@ fn barred_uni(stable: bool, op: UniOp, a: u8, real: Realness) -> bool
 }
 
 fn barred_bin(stable: bool, op: BinOp, a: u8, b: u8, real: Realness) -> bool
-    ensures { result ≡ Spec.barredBin stable op a b real }
+    ensures { result ≡ Spec.barred_bin stable op a b real }
 {
     if bin_number(op) == bin_number(BinOp::Divide) {
         let x = real.is_real_reg(b);
@@ -59,7 +59,7 @@ fn barred_bin(stable: bool, op: BinOp, a: u8, b: u8, real: Realness) -> bool
 }
 
 fn barred_load(stable: bool, op: ArithOp, a: u8, real: bool) -> bool
-    ensures { result ≡ (Spec.isDivide op && Spec.barredDivide stable a Temp real) }
+    ensures { result ≡ (Spec.is_divide op && Spec.barred_divide stable a Temp real) }
 {
     match op {
         ArithOp::Plus => false,

@@ -2,9 +2,9 @@
 // What is known of a label stands in two lent tables by its number: a mark, and a row of 96 bytes.
 ghost use Rattle.std.specs.Prelude.{◌≡◌, cond, ◌||◌, drop, set};
 ghost use Rattle.mir.specs.Read.{got, refused};
-ghost use Rattle.sheet.specs.Instruction.{branchIfFrom};
-ghost use Rattle.lowering.specs.Labels.{labelSeen, sameBytes, labels, branches};
-ghost use Rattle.refusals.specs.Noted.{labelHere, row, unlike, seenIn, markSeen, markAll, isLabel, anyLabel, roleRead, Passed, PassedKind, PassedFirst, BranchNoted};
+ghost use Rattle.sheet.specs.Instruction.{branch_if_from};
+ghost use Rattle.lowering.specs.Labels.{label_seen, bytes_same, labels, branches};
+ghost use Rattle.refusals.specs.Noted.{label_here, row, unlike, seen_in, mark_seen, mark_all, is_label, any_label, role_read, Passed, PassedKind, PassedFirst, BranchNoted};
 
 use lowering::bytes::record_bytes;
 use lowering::realness::Realness;
@@ -37,7 +37,7 @@ fn set_mark(marks: &mut [u8], label: u8, mark: u8)
 
 // Whether looking ahead stops at the record that bytes begin with: one that would earn 1. A kind that sheets do not take is passed.
 fn is_torn(s: &[u8]) -> bool
-    ensures { labelSeen s.now ≡ cond result (refused 1) (got (labelHere s.now)) }
+    ensures { label_seen s.now ≡ cond result (refused 1) (got (label_here s.now)) }
 {
     match read_head(s, false) {
         Head::Kind(kind) => false,
@@ -47,8 +47,8 @@ fn is_torn(s: &[u8]) -> bool
 
 // Marks the label of the record that bytes begin with, where it is a Label; whether it is one.
 fn mark_label(s: &[u8], marks: &mut [u8]) -> bool
-    ensures { (result ≡ isLabel (labelHere s.now))
-        × (marks.new ≡ markSeen (labelHere s.now) marks.old) }
+    ensures { (result ≡ is_label (label_here s.now))
+        × (marks.new ≡ mark_seen (label_here s.now) marks.old) }
 {
     if u16_at(s, 2) == 14 {
         set_mark(marks, byte(s, 4), AHEAD);
@@ -57,7 +57,7 @@ fn mark_label(s: &[u8], marks: &mut [u8]) -> bool
     false
 }
 
-fn either(x: bool, y: bool) -> bool
+fn Either(x: bool, y: bool) -> bool
     ensures { result ≡ (x || y) }
 {
     if x { true } else { y }
@@ -65,8 +65,8 @@ fn either(x: bool, y: bool) -> bool
 
 // Marks the labels that stand from a position on, up to the first torn record; whether there is one.
 pub fn find_labels(sheet: &[u8], start: usize, marks: &mut [u8]) -> bool
-    ensures { (result ≡ anyLabel (seenIn (drop start sheet.now)))
-        × (marks.new ≡ markAll (seenIn (drop start sheet.now)) marks.old) }
+    ensures { (result ≡ any_label (seen_in (drop start sheet.now)))
+        × (marks.new ≡ mark_all (seen_in (drop start sheet.now)) marks.old) }
 {
     let mut at = start;
     let mut any = false;
@@ -76,7 +76,7 @@ pub fn find_labels(sheet: &[u8], start: usize, marks: &mut [u8]) -> bool
             return any;
         }
         let found = mark_label(s, marks);
-        any = either(any, found);
+        any = Either(any, found);
         let n = u16_at(s, 0);
         at += n as usize;
     }
@@ -85,7 +85,7 @@ pub fn find_labels(sheet: &[u8], start: usize, marks: &mut [u8]) -> bool
 
 // Whether a label's row holds these bytes.
 fn row_is(rows: &[u8], label: u8, bytes: [u8; 96]) -> bool
-    ensures { result ≡ sameBytes (row label rows.now) bytes }
+    ensures { result ≡ bytes_same (row label rows.now) bytes }
 {
     let at = 96 * (label as usize);
     let mut i: usize = 0;
@@ -141,7 +141,7 @@ fn is_unlike(mark: u8, label: u8, real: Realness, rows: &[u8]) -> bool
 
 // A BranchIf.
 fn pass_branch_if(s: &[u8], real: Realness, marks: &mut [u8], rows: &mut [u8]) -> u8
-    ensures { Passed (roleRead (branchIfFrom s.now)) real marks.old rows.old marks.new rows.new result }
+    ensures { Passed (role_read (branch_if_from s.now)) real marks.old rows.old marks.new rows.new result }
 {
     if LAST < byte(s, 4) {
         return 0;

@@ -4,7 +4,7 @@ use borrow.Author.Tests.{eqb-false}
 use Rattle.mir.proofs.Parts.{part}
 use Rattle.replay.specs.Numbers.{u32_at}
 use Rattle.replay.specs.Whole.{cut_at, WholeAt}
-use Rattle.replay.specs.Tally.{Cases, Replayed, tallied, replayed, replayedList}
+use Rattle.replay.specs.Tally.{Cases, Replayed, tallied, replayed, replayed_list}
 
 -- nothing is left at the end of the list, and only there
 module _ (list : List ℕ) (at : ℕ) (h : at ≤ length list) where
@@ -20,10 +20,10 @@ or-first : (a b : Bool) → (a || b) ≡ false → a ≡ false
 or-first false b e = refl
 or-first true b e = e
 
-or-rest : (a b : Bool) → (a || b) ≡ false → b ≡ false
-or-rest false b e = e
-or-rest true false e = refl
-or-rest true true e = e
+or_rest : (a b : Bool) → (a || b) ≡ false → b ≡ false
+or_rest false b e = e
+or_rest true false e = refl
+or_rest true true e = e
 
 module _ (head first second end : ℕ) (s : List ℕ) where
   -- the last test decides where the others do not hold
@@ -38,9 +38,9 @@ module _ (head first second end : ℕ) (s : List ℕ) where
   unfolding cut_at
   is_whole {size} h e b =
       let none = sym e ∙ b in
-      let one = or-rest (ltb (length s) head) _ none in
-      let two = or-rest (ltb first (u32_at s 4)) _ one in
-      let l : size ≤ length s = ltb-false (length s) size (or-rest (ltb second (u32_at s 8)) _ two) in
+      let one = or_rest (ltb (length s) head) _ none in
+      let two = or_rest (ltb first (u32_at s 4)) _ one in
+      let l : size ≤ length s = ltb-false (length s) size (or_rest (ltb second (u32_at s 8)) _ two) in
       record {
         long = ltb-false _ _ (or-first (ltb (length s) head) _ none);
         count = ltb-false _ _ (or-first (ltb first (u32_at s 4)) _ one);
@@ -56,12 +56,12 @@ pub record Left (k : Cases) (whole : Replayed) (n : ℕ) (list : List ℕ) (i : 
 
 -- a list without a count, and one with it
 module _ (k : Cases) (t list : List ℕ) where
-  pub no-count : length list < 4 → (false ≡ (replayedList k t list).whole) × (t ≡ (replayedList k t list).counts)
-  unfolding replayedList
+  pub no-count : length list < 4 → (false ≡ (replayed_list k t list).whole) × (t ≡ (replayed_list k t list).counts)
+  unfolding replayed_list
   no-count h = let b : ltb (length list) 4 ≡ true = lt-ltb (length list) 4 h in (rw b, rw b)
 
-  pub begun : {n : ℕ} → 4 ≤ length list → n ≡ u32_at list 0 → Left k (replayedList k t list) n list 0 t 4
-  unfolding replayedList
+  pub begun : {n : ℕ} → 4 ≤ length list → n ≡ u32_at list 0 → Left k (replayed_list k t list) n list 0 t 4
+  unfolding replayed_list
   begun {n} h e =
       record {
         few = omega arith;

@@ -9,5 +9,5 @@ same (x ∷ xs) [] = false
 same (x ∷ xs) (y ∷ ys) = x == y && same xs ys
 
 -- whether a row of words stands in another from a position on
-unfoldable pub samePart : List ℕ → List ℕ → ℕ → Bool
-samePart xs ys at = same xs (take (length xs) (drop at ys))
+unfoldable pub same_part : List ℕ → List ℕ → ℕ → Bool
+same_part xs ys at = same xs (take (length xs) (drop at ys))

@@ -32,6 +32,6 @@ replayed k (suc n) t s =
     (replayed k n (tallied t (k.number s) (k.differs s)) (drop (k.end s) s))
 
 -- a list: the count of its cases, then the cases
-unfoldable pub replayedList : Cases → List ℕ → List ℕ → Replayed
-replayedList k t s =
+unfoldable pub replayed_list : Cases → List ℕ → List ℕ → Replayed
+replayed_list k t s =
     cond (nat_lt (length s) 4) (record { counts = t; whole = false }) (replayed k (u32_at s 0) t (drop 4 s))

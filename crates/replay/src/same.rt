@@ -1,6 +1,6 @@
 // Slices compared.
 ghost use Rattle.std.specs.Prelude.{◌≡◌};
-ghost use Rattle.replay.specs.Same.{same, samePart};
+ghost use Rattle.replay.specs.Same.{same, same_part};
 
 // Whether two slices have the same words.
 pub fn same_words(a: &[u64], b: &[u64]) -> bool
@@ -38,7 +38,7 @@ pub fn same_bytes(a: &[u8], b: &[u8]) -> bool
 
 // Whether bytes stand in others from a position on.
 pub fn same_part(a: &[u8], s: &[u8], at: usize) -> bool
-    ensures { result ≡ samePart a.now s.now at }
+    ensures { result ≡ same_part a.now s.now at }
 {
     if s.len() < at {
         return same_bytes(a, &s[0..0]);

@@ -1,11 +1,11 @@
 // The lines that the commands print, each from its first byte to its line feed.
 ghost use Rattle.text.specs.Line.{Adds, Prints};
-ghost use Rattle.reports.specs.Lines.{refusalLine, loweredLine, playedLine, wordName, wordLine, differenceLine, moreText};
+ghost use Rattle.reports.specs.Lines.{refusal_line, lowered_line, played_line, word_name, word_line, difference_line, more_text};
 
 use text::line::{Line, empty_line};
 
 pub fn refusal_line(number: u64, index: u64) -> Line
-    ensures { Prints (refusalLine number index) result }
+    ensures { Prints (refusal_line number index) result }
 {
     empty_line()
         .text(b"refused")
@@ -22,7 +22,7 @@ pub fn refusal_line(number: u64, index: u64) -> Line
 
 // What lowering came to: its number and index, the bytes and constants of its listing.
 pub fn lowered_line(number: u64, index: u64, bytes: u64, constants: u64) -> Line
-    ensures { Prints (loweredLine number index bytes constants) result }
+    ensures { Prints (lowered_line number index bytes constants) result }
 {
     if number != 0 {
         return refusal_line(number, index);
@@ -37,7 +37,7 @@ pub fn lowered_line(number: u64, index: u64, bytes: u64, constants: u64) -> Line
 
 // What a play came to: its number and index, and how many records were played.
 pub fn played_line(number: u64, index: u64, played: u64) -> Line
-    ensures { Prints (playedLine number index played) result }
+    ensures { Prints (played_line number index played) result }
 {
     if number != 0 {
         return refusal_line(number, index);
@@ -51,7 +51,7 @@ pub fn played_line(number: u64, index: u64, played: u64) -> Line
 
 // The name of a word of the store, by its index.
 fn word_name(line: Line, index: u64) -> Line
-    ensures { Adds line (wordName index) result }
+    ensures { Adds line (word_name index) result }
 {
     if index < 66 {
         return line.register(index as u8);
@@ -65,7 +65,7 @@ fn word_name(line: Line, index: u64) -> Line
 
 // A word of a store: its name and its bits.
 pub fn word_line(index: u64, word: u64) -> Line
-    ensures { Prints (wordLine index word) result }
+    ensures { Prints (word_line index word) result }
 {
     word_name(empty_line(), index)
         .byte(b' ')
@@ -73,9 +73,9 @@ pub fn word_line(index: u64, word: u64) -> Line
         .byte(b'\n')
 }
 
-// A word that differs: its name, then the word of either store.
+// A word that differs: its name, then the word of Either store.
 pub fn difference_line(index: u64, one: u64, other: u64) -> Line
-    ensures { Prints (differenceLine index one other) result }
+    ensures { Prints (difference_line index one other) result }
 {
     word_name(empty_line(), index)
         .byte(b' ')
@@ -87,7 +87,7 @@ pub fn difference_line(index: u64, one: u64, other: u64) -> Line
 
 // How many more there are.
 pub fn more_line(n: u64) -> Line
-    ensures { Prints (moreText n) result }
+    ensures { Prints (more_text n) result }
 {
     empty_line().text(b"and").number(n).text(b" more\n")
 }

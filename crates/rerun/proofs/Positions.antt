@@ -10,7 +10,7 @@ use borrow.Author.Tests.{eq-eqb, ne_eqb, lt-ltb, le-ltb}
 use lib.ListN.{length, take, drop, replicate, get_or, set, length-append, length-take, drop_of_length-le}
 use lib.Seq.{drop-cons, drop-drop, drop-set-lt, take-suc-set}
 use lib.Dec.{eqb}
-use Rattle.lowering.specs.Complexifier.{position, appends, stableConst}
+use Rattle.lowering.specs.Complexifier.{position, appends, stable_const}
 use Rattle.rerun.specs.declared.output.Added.{Added}
 use Rattle.rerun.specs.declared.constants.Found.{Found}
 use Rattle.rerun.specs.Added.{none, table, Sought, ThreeSought}
@@ -66,12 +66,12 @@ module _ (v : ℕ) where
   pub found_nowhere : (t : List ℕ) → length t ≤ position v t → appends v t ≡ true
   found_nowhere t h = simp (le-ltb _ _ h)
 
-  pub stays : (t : List ℕ) → position v t < length t → stableConst v t ≡ t
-  unfolding stableConst
+  pub stays : (t : List ℕ) → position v t < length t → stable_const v t ≡ t
+  unfolding stable_const
   stays t h = simp (found-there t h)
 
-  pub grows : (t : List ℕ) → length t ≤ position v t → stableConst v t ≡ t ++ v ∷ []
-  unfolding stableConst
+  pub grows : (t : List ℕ) → length t ≤ position v t → stable_const v t ≡ t ++ v ∷ []
+  unfolding stable_const
   grows t h = simp (found_nowhere t h)
 
   pub at-end : (t : List ℕ) → length t ≤ position v t → position v (t ++ v ∷ []) ≡ length t
@@ -136,18 +136,18 @@ module _ {k : List ℕ} {a : Added} {v : ℕ} where
       }
 
 -- three constants, one after the other
-pub three-sought : {k : List ℕ} {a : Added} {u v w : ℕ} {f g h : Found} → a ≡ none → Sought k a u f → Sought k f.added v g
+pub three_sought : {k : List ℕ} {a : Added} {u v w : ℕ} {f g h : Found} → a ≡ none → Sought k a u f → Sought k f.added v g
     → Sought k g.added w h → ThreeSought k u v w (record { i = f.at; j = g.at; q = h.at; added = h.added })
-three-sought {k} {a} {u} {v} {w} {f} {g} {h} e p q r =
+three_sought {k} {a} {u} {v} {w} {f} {g} {h} e p q r =
     let x : table k a ≡ k = ap (table k) e ∙ append-nil k in
-    let y : table k f.added ≡ stableConst u k = p.kept ∙ ap (stableConst u) x in
-    let z : table k g.added ≡ stableConst v (stableConst u k) = q.kept ∙ ap (stableConst v) y in
+    let y : table k f.added ≡ stable_const u k = p.kept ∙ ap (stable_const u) x in
+    let z : table k g.added ≡ stable_const v (stable_const u k) = q.kept ∙ ap (stable_const v) y in
     let n : a.count ≡ 0 = ap (λ a. a.count) e in
     record {
-      first = p.at ∙ ap (λ t. position u (stableConst u t)) x;
-      second = q.at ∙ ap (λ t. position v (stableConst v t)) y;
-      third = r.at ∙ ap (λ t. position w (stableConst w t)) z;
-      kept = r.kept ∙ ap (stableConst w) z;
+      first = p.at ∙ ap (λ t. position u (stable_const u t)) x;
+      second = q.at ∙ ap (λ t. position v (stable_const v t)) y;
+      third = r.at ∙ ap (λ t. position w (stable_const w t)) z;
+      kept = r.kept ∙ ap (stable_const w) z;
       few = omega (arith, n, p.few, q.few, r.few);
       zeros = r.zeros (q.zeros (p.zeros (rw e refl)));
     }

@@ -5,9 +5,9 @@ use mathlib.Core.Bool.{Bool, true, false}
 use mathlib.Core.List.{List, append-nil}
 use native.Mathlib.Omega.{arith}
 use Rattle.mir.specs.Encode.{Buf, buf}
-use Rattle.lowering.specs.Lines.{rootBlock, plainRootMagnitude, stableRootMagnitude}
-use Rattle.lowering.specs.Complexifier.{State, Out, defineRoot, aroundBlock, position, stableConst, FLOOR_FINITE, EXP_MASK_FINITE, INFINITY}
-use Rattle.lines.specs.Lists.{Lists, pushAll}
+use Rattle.lowering.specs.Lines.{root_block, plain_root_magnitude, stable_root_magnitude}
+use Rattle.lowering.specs.Complexifier.{State, Out, define_root, around_block, position, stable_const, FLOOR_FINITE, EXP_MASK_FINITE, INFINITY}
+use Rattle.lines.specs.Lists.{Lists, push_all}
 use Rattle.complexifier.specs.declared.state.Complexifier.{Complexifier}
 use Rattle.complexifier.specs.Does.{state}
 use Rattle.rerun.specs.declared.output.Added.{Added}
@@ -17,15 +17,15 @@ use Rattle.rerun.specs.Added.{none, table, ThreeSought}
 use Rattle.rerun.specs.Ends.{Ends}
 
 abbrev pub define : Bool → State → Out
-define m s = defineRoot s.rootDefined m s
+define m s = define_root s.is_root_defined m s
 
 -- by whether the block is listed
-byDefined : {b : Buf} {s : Complexifier} {k o : List ℕ} {r : Output} (m x : Bool) → s.root_defined ≡ x → Ends b s k (defineRoot x m) o r
+by_defined : {b : Buf} {s : Complexifier} {k o : List ℕ} {r : Output} (m x : Bool) → s.root_defined ≡ x → Ends b s k (define_root x m) o r
     → Ends b s k (define m) o r
-byDefined {b} {s} {k} m x e p =
+by_defined {b} {s} {k} m x e p =
     record {
-      listed = p.listed ∙ ap (λ x. pushAll b (defineRoot x m (state s k)).records) (sym e);
-      kept = p.kept ∙ ap (λ x. (defineRoot x m (state s k)).after) (sym e);
+      listed = p.listed ∙ ap (λ x. push_all b (define_root x m (state s k)).records) (sym e);
+      kept = p.kept ∙ ap (λ x. (define_root x m (state s k)).after) (sym e);
       few = p.few;
       zeros = p.zeros;
     }
@@ -36,40 +36,40 @@ empty a e = rw e (omega arith)
 module _ {s : Complexifier} {k o : List ℕ} {n : ℕ} {a : Added} where
   pub root_before : (m : Bool) → s.root_defined ≡ true → a ≡ none
       → Ends (buf o n) s k (define m) o (record { low = s; at = n; added = a })
-  unfolding defineRoot
+  unfolding define_root
   root_before m e h =
-      byDefined m true e
+      by_defined m true e
       (record { listed = refl; kept = ap (λ a. state s (table k a)) h ∙ ap (state s) (append-nil k); few = empty a h; zeros = rw h refl })
 
 abbrev pub defined : Complexifier → Complexifier
 defined s = record { real = s.real; root_defined = true }
 
 module _ {b : Buf} {s : Complexifier} {k o : List ℕ} {n : ℕ} (e : s.root_defined ≡ false) where
-  pub root-plain : {a : Added} → a ≡ none → Lists b (aroundBlock (rootBlock plainRootMagnitude)) (buf o n)
+  pub root-plain : {a : Added} → a ≡ none → Lists b (around_block (root_block plain_root_magnitude)) (buf o n)
       → Ends b s k (define false) o (record { low = defined s; at = n; added = a })
-  unfolding defineRoot
+  unfolding define_root
   root-plain {a} h p =
-      byDefined false false e
+      by_defined false false e
       (record { listed = p.same; kept = ap (λ a. state (defined s) (table k a)) h ∙ ap (state (defined s)) (append-nil k); few = empty a h; zeros = rw h refl })
 
   pub root-stable : {t : Three} → ThreeSought k FLOOR_FINITE EXP_MASK_FINITE INFINITY t
-      → Lists b (aroundBlock (rootBlock (stableRootMagnitude t.i t.j t.q))) (buf o n)
+      → Lists b (around_block (root_block (stable_root_magnitude t.i t.j t.q))) (buf o n)
       → Ends b s k (define true) o (record { low = defined s; at = n; added = t.added })
-  unfolding defineRoot
+  unfolding define_root
   root-stable {t} h p =
-      byDefined true false e
+      by_defined true false e
       (record {
         listed =
             p.same
-            ∙ ap (λ x. pushAll b (aroundBlock (rootBlock (stableRootMagnitude x t.j t.q)))) h.first
-            ∙ ap (λ x. pushAll b (aroundBlock (rootBlock (stableRootMagnitude (position FLOOR_FINITE (stableConst FLOOR_FINITE k)) x t.q)))) h.second
+            ∙ ap (λ x. push_all b (around_block (root_block (stable_root_magnitude x t.j t.q)))) h.first
+            ∙ ap (λ x. push_all b (around_block (root_block (stable_root_magnitude (position FLOOR_FINITE (stable_const FLOOR_FINITE k)) x t.q)))) h.second
             ∙ ap
             (λ x.
-            pushAll b
-            (aroundBlock
-            (rootBlock
-            (stableRootMagnitude (position FLOOR_FINITE (stableConst FLOOR_FINITE k))
-            (position EXP_MASK_FINITE (stableConst EXP_MASK_FINITE (stableConst FLOOR_FINITE k))) x))))
+            push_all b
+            (around_block
+            (root_block
+            (stable_root_magnitude (position FLOOR_FINITE (stable_const FLOOR_FINITE k))
+            (position EXP_MASK_FINITE (stable_const EXP_MASK_FINITE (stable_const FLOOR_FINITE k))) x))))
             h.third;
         kept = ap (state (defined s)) h.kept;
         few = h.few;

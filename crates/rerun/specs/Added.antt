@@ -1,6 +1,6 @@
 -- Constants sought and added: what the functions over the lent constants promise.
 use Rattle.std.specs.Prelude.{ℕ, suc, ◌-◌, ◌≤◌, ◌≡◌, List, [], ◌∷◌, ◌++◌, take, drop, replicate}
-use Rattle.lowering.specs.Complexifier.{position, appends, stableConst, threeConsts}
+use Rattle.lowering.specs.Complexifier.{position, appends, stable_const, three_consts}
 use Rattle.rerun.specs.declared.output.Added.{Added}
 use Rattle.rerun.specs.declared.constants.Found.{Found}
 use Rattle.rerun.specs.declared.constants.Three.{Three}
@@ -19,17 +19,17 @@ Zeros a = drop a.count a.words ≡ replicate (3 - a.count) 0
 
 -- `stable_const` of v: the position, whether it was appended, and what is then added
 pub record Sought (k : List ℕ) (a : Added) (v : ℕ) (f : Found) : Type 0 where
-  pub at : f.at ≡ position v (stableConst v (table k a))
+  pub at : f.at ≡ position v (stable_const v (table k a))
   pub told : f.appended ≡ appends v (table k a)
-  pub kept : table k f.added ≡ stableConst v (table k a)
+  pub kept : table k f.added ≡ stable_const v (table k a)
   pub few : f.added.count ≤ suc a.count
   pub zeros : Zeros a → Zeros f.added
 
 -- three constants sought one after the other
 pub record ThreeSought (k : List ℕ) (u v w : ℕ) (t : Three) : Type 0 where
-  pub first : t.i ≡ position u (stableConst u k)
-  pub second : t.j ≡ position v (stableConst v (stableConst u k))
-  pub third : t.q ≡ position w (threeConsts u v w k)
-  pub kept : table k t.added ≡ threeConsts u v w k
+  pub first : t.i ≡ position u (stable_const u k)
+  pub second : t.j ≡ position v (stable_const v (stable_const u k))
+  pub third : t.q ≡ position w (three_consts u v w k)
+  pub kept : table k t.added ≡ three_consts u v w k
   pub few : t.added.count ≤ 3
   pub zeros : Zeros t.added

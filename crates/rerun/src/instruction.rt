@@ -3,7 +3,7 @@ ghost use Rattle.std.specs.Prelude.{◌≤◌, cond, length, eqb};
 ghost use Rattle.mir.specs.Encode.{buf};
 ghost use Rattle.mir.specs.Register.{Temp};
 ghost use Rattle.lowering.specs.Complexifier as Spec;
-ghost use Rattle.lowering.specs.Rerun.{compareZero, rerunUni, rerunBin, rerunArith, rerun};
+ghost use Rattle.lowering.specs.Rerun.{compare_zero, rerun_uni, rerun_bin, rerun_arith, rerun};
 ghost use Rattle.complexifier.specs.Does.{Does};
 ghost use Rattle.rerun.specs.Ends.{Ends, tabled};
 
@@ -25,7 +25,7 @@ fn compare_zero(
     dst: u8,
     s1: u8,
 ) -> Listed
-    ensures { Does (buf out.old at) low (compareZero op join dst s1) (buf out.new result.at) result.low }
+    ensures { Does (buf out.old at) low (compare_zero op join dst s1) (buf out.new result.at) result.low }
 {
     let zero = low.bits(out, at, BinOp::Xor, TEMP, TEMP, TEMP);
     let low = zero.low;
@@ -53,7 +53,7 @@ fn rerun_uni(
     s1: u8,
 ) -> Output
     requires { length constants.now ≤ 256 }
-    ensures { Ends (buf out.old at) low constants.now (rerunUni mode op dst s1) out.new result }
+    ensures { Ends (buf out.old at) low constants.now (rerun_uni mode op dst s1) out.new result }
 {
     let stable = is_stable(mode);
     match op {
@@ -104,7 +104,7 @@ fn rerun_bin(
     s2: u8,
 ) -> Output
     requires { length constants.now ≤ 256 }
-    ensures { Ends (buf out.old at) low constants.now (rerunBin mode op dst s1 s2) out.new result }
+    ensures { Ends (buf out.old at) low constants.now (rerun_bin mode op dst s1 s2) out.new result }
 {
     let unlisted = Listed { low: low, at: at };
     match op {
@@ -159,7 +159,7 @@ fn rerun_arith(
     s1: u8,
 ) -> Output
     requires { length constants.now ≤ 256 }
-    ensures { Ends (buf out.old loaded.at) loaded.low constants.now (rerunArith mode op dst s1 Temp) out.new result }
+    ensures { Ends (buf out.old loaded.at) loaded.low constants.now (rerun_arith mode op dst s1 Temp) out.new result }
 {
     let low = loaded.low;
     let at = loaded.at;

@@ -26,7 +26,7 @@ fn stable_abs(
     s1: u8,
 ) -> Output
     requires { length constants.now ≤ 256 }
-    ensures { Ends (buf out.old at) low constants.now (Spec.stableAbs dst s1) out.new result }
+    ensures { Ends (buf out.old at) low constants.now (Spec.stable_abs dst s1) out.new result }
 {
     let t = seek_three(constants, FLOOR_FINITE, EXP_MASK_FINITE, INFINITY);
     let n = stable_abs_lines(out, at, dst, s1, t.i, t.j, t.q);
@@ -47,7 +47,7 @@ fn stable_recip(
     s1: u8,
 ) -> Output
     requires { length constants.now ≤ 256 }
-    ensures { Ends (buf out.old at) low constants.now (Spec.stableRecip dst s1) out.new result }
+    ensures { Ends (buf out.old at) low constants.now (Spec.stable_recip dst s1) out.new result }
 {
     let t = seek_three(constants, MIN_POSITIVE, INFINITY, QUARTER);
     let n = stable_recip_lines(out, at, dst, s1, t.i, t.j, t.q);
@@ -71,7 +71,7 @@ fn stable_divide(
     s2: u8,
 ) -> Output
     requires { length constants.now ≤ 256 }
-    ensures { Ends (buf out.old at) low constants.now (Spec.stableDivide x dst s1 s2) out.new result }
+    ensures { Ends (buf out.old at) low constants.now (Spec.stable_divide x dst s1 s2) out.new result }
 {
     let t = seek_three(constants, MIN_POSITIVE, INFINITY, QUARTER);
     let general = dst < 30;
@@ -96,7 +96,7 @@ fn minding_divide(
     s2: u8,
 ) -> Output
     requires { length constants.now ≤ 256 }
-    ensures { Ends (buf out.old at) low constants.now (Spec.mindingDivide (eqb dst Temp) x dst s1 s2) out.new result }
+    ensures { Ends (buf out.old at) low constants.now (Spec.minding_divide (eqb dst Temp) x dst s1 s2) out.new result }
 {
     if dst == TEMP {
         let quotient = stable_divide(low, constants, out, at, x, RET, s1, s2);
@@ -223,7 +223,7 @@ fn define_root(
     at: usize,
 ) -> Output
     requires { length constants.now ≤ 256 }
-    ensures { Ends (buf out.old at) low constants.now (λ s. Spec.defineRoot s.rootDefined stable s) out.new result }
+    ensures { Ends (buf out.old at) low constants.now (λ s. Spec.define_root s.is_root_defined stable s) out.new result }
 {
     if low.root_defined {
         return Output {
@@ -288,7 +288,7 @@ pub(crate) fn real_root(
     s1: u8,
 ) -> Output
     requires { length constants.now ≤ 256 }
-    ensures { Ends (buf out.old at) low constants.now (Spec.realRoot stable dst s1) out.new result }
+    ensures { Ends (buf out.old at) low constants.now (Spec.real_root stable dst s1) out.new result }
 {
     let x = low.is_real_reg(s1);
     if x {

@@ -1,7 +1,7 @@
 // What a method that may name constants returns.
 ghost use Rattle.std.specs.Prelude.{◌≡◌};
 ghost use Rattle.rerun.specs.Added.{none};
-ghost use Rattle.rerun.specs.Ends.{asOutput};
+ghost use Rattle.rerun.specs.Ends.{as_output};
 
 use complexifier::state::{Complexifier, Listed};
 
@@ -32,7 +32,7 @@ pub(crate) fn nothing() -> Added
 
 // The output of a method that names no constants.
 pub(crate) fn no_constants(listed: Listed) -> Output
-    ensures { result ≡ asOutput listed }
+    ensures { result ≡ as_output listed }
 {
     let low = listed.low;
     Output {

@@ -3,10 +3,10 @@
 ghost use Rattle.std.specs.Prelude.{map};
 ghost use Rattle.mir.specs.Encode.{buf};
 ghost use Rattle.mir.specs.declared.records.Record.{Record};
-ghost use Rattle.lowering.specs.Lines.{stableRootMagnitude, plainRootMagnitude, rootBlock};
-ghost use Rattle.lowering.specs.Complexifier.{aroundBlock};
+ghost use Rattle.lowering.specs.Lines.{stable_root_magnitude, plain_root_magnitude, root_block};
+ghost use Rattle.lowering.specs.Complexifier.{around_block};
 ghost use Rattle.lines.specs.Lists.{Lists};
-ghost use Rattle.root_lines.specs.RootBlock.{rootMask, rootHalves};
+ghost use Rattle.root_lines.specs.RootBlock.{root_mask, root_halves};
 
 use lines::emit::{bi, branch, fused_mul_add, if_else, label, load_const, save, uni};
 use lines::parts::{RET_IM, RET_RE, T0, T1, TEMP_IM, TEMP_RE};
@@ -25,7 +25,7 @@ const BACK: u8 = 0;
 
 // `stable_root_magnitude`
 fn stable_root_magnitude(out: &mut [u8], at: usize, i: u16, j: u16, q: u16) -> usize
-    ensures { Lists (buf out.old at) (map Record.Work (stableRootMagnitude i j q)) (buf out.new result) }
+    ensures { Lists (buf out.old at) (map Record.Work (stable_root_magnitude i j q)) (buf out.new result) }
 {
     let at = stable_exponent(out, at, TEMP_RE, TEMP_IM, i, j);
     let at = uni(out, at, UniOp::Root, T0, T0);
@@ -48,7 +48,7 @@ fn stable_root_magnitude(out: &mut [u8], at: usize, i: u16, j: u16, q: u16) -> u
 
 // What the block computes first in plain mode.
 fn plain_root_magnitude(out: &mut [u8], at: usize) -> usize
-    ensures { Lists (buf out.old at) (map Record.Work (plainRootMagnitude)) (buf out.new result) }
+    ensures { Lists (buf out.old at) (map Record.Work (plain_root_magnitude)) (buf out.new result) }
 {
     let at = bi(out, at, BinOp::Times, T0, TEMP_RE, TEMP_RE);
     let at = fused_mul_add(out, at, T0, TEMP_IM, TEMP_IM, T0);
@@ -61,7 +61,7 @@ fn plain_root_magnitude(out: &mut [u8], at: usize) -> usize
 
 // The block before the magnitude.
 fn root_mask(out: &mut [u8], at: usize) -> usize
-    ensures { Lists (buf out.old at) (map Record.Work (rootMask)) (buf out.new result) }
+    ensures { Lists (buf out.old at) (map Record.Work (root_mask)) (buf out.new result) }
 {
     let at = bi(out, at, BinOp::Xor, T0, T0, T0);
     let at = bi(out, at, BinOp::LittleThan, T0, T0, TEMP_RE);
@@ -70,7 +70,7 @@ fn root_mask(out: &mut [u8], at: usize) -> usize
 
 // The block behind the magnitude.
 fn root_halves(out: &mut [u8], at: usize) -> usize
-    ensures { Lists (buf out.old at) (map Record.Work (rootHalves)) (buf out.new result) }
+    ensures { Lists (buf out.old at) (map Record.Work (root_halves)) (buf out.new result) }
 {
     let at = bi(out, at, BinOp::Divide, T1, TEMP_IM, T0);
     let at = uni(out, at, UniOp::Half, T1, T1);
@@ -85,7 +85,7 @@ fn root_halves(out: &mut [u8], at: usize) -> usize
 
 // The block of `root` from its label to `ret`, in plain mode.
 fn plain_root_block(out: &mut [u8], at: usize) -> usize
-    ensures { Lists (buf out.old at) (map Record.Work (rootBlock plainRootMagnitude)) (buf out.new result) }
+    ensures { Lists (buf out.old at) (map Record.Work (root_block plain_root_magnitude)) (buf out.new result) }
 {
     let at = root_mask(out, at);
     let at = plain_root_magnitude(out, at);
@@ -94,7 +94,7 @@ fn plain_root_block(out: &mut [u8], at: usize) -> usize
 
 // The same in stable mode.
 fn stable_root_block(out: &mut [u8], at: usize, i: u16, j: u16, q: u16) -> usize
-    ensures { Lists (buf out.old at) (map Record.Work (rootBlock (stableRootMagnitude i j q))) (buf out.new result) }
+    ensures { Lists (buf out.old at) (map Record.Work (root_block (stable_root_magnitude i j q))) (buf out.new result) }
 {
     let at = root_mask(out, at);
     let at = stable_root_magnitude(out, at, i, j, q);
@@ -103,7 +103,7 @@ fn stable_root_block(out: &mut [u8], at: usize, i: u16, j: u16, q: u16) -> usize
 
 // The block between its labels, in plain mode.
 pub fn plain_around_block(out: &mut [u8], at: usize) -> usize
-    ensures { Lists (buf out.old at) (aroundBlock (rootBlock plainRootMagnitude)) (buf out.new result) }
+    ensures { Lists (buf out.old at) (around_block (root_block plain_root_magnitude)) (buf out.new result) }
 {
     let at = branch(out, at, OVER);
     let at = label(out, at, ROOT);
@@ -114,7 +114,7 @@ pub fn plain_around_block(out: &mut [u8], at: usize) -> usize
 
 // The same in stable mode.
 pub fn stable_around_block(out: &mut [u8], at: usize, i: u16, j: u16, q: u16) -> usize
-    ensures { Lists (buf out.old at) (aroundBlock (rootBlock (stableRootMagnitude i j q))) (buf out.new result) }
+    ensures { Lists (buf out.old at) (around_block (root_block (stable_root_magnitude i j q))) (buf out.new result) }
 {
     let at = branch(out, at, OVER);
     let at = label(out, at, ROOT);

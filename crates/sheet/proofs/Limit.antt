@@ -9,11 +9,11 @@ use lib.ListN.{length, take, drop, length-take, length-drop}
 use lib.Dec.{ltb, eqb, leb-zero, leb-suc-suc, leb-suc-zero, eqb-suc-suc, eqb-zero-suc}
 use Rattle.mir.specs.declared.records.Instruction.{Instruction}
 use Rattle.mir.specs.Read.{Read, got, refused}
-use Rattle.mir.specs.Field.{u16At}
+use Rattle.mir.specs.Field.{u16_at}
 use Rattle.mir.specs.Decode.{Decoded, ahead, decoded}
 use Rattle.mir.proofs.Passing.{or_left}
 use Rattle.mir.proofs.Decoding.{Here, Done, decoded-got, decoded-torn}
-use Rattle.sheet.specs.Instruction.{instructionFrom, beyond, cut, instructionsOn}
+use Rattle.sheet.specs.Instruction.{instruction_from, beyond, cut, instructions_on}
 use Rattle.sheet.proofs.Ranges.{refused-by}
 use Rattle.sheet.proofs.Reading.{whole}
 
@@ -23,8 +23,8 @@ nothing k = record { items = []; fault = k }
 
 -- ---- the cut
 
-cut-ahead : (n : ℕ) (i : Instruction) (d : Decoded Instruction) → cut (suc n) (ahead i d) ≡ ahead i (cut n d)
-cut-ahead n i d = ap (λ t. cond t (record { items = i ∷ take n d.items; fault = 14 }) (ahead i d)) same ∙ by (beyond n d)
+cut_ahead : (n : ℕ) (i : Instruction) (d : Decoded Instruction) → cut (suc n) (ahead i d) ≡ ahead i (cut n d)
+cut_ahead n i d = ap (λ t. cond t (record { items = i ∷ take n d.items; fault = 14 }) (ahead i d)) same ∙ by (beyond n d)
   where
     same : beyond (suc n) (ahead i d) ≡ beyond n d
     same =
@@ -37,21 +37,21 @@ cut-ahead n i d = ap (λ t. cond t (record { items = i ∷ take n d.items; fault
     by false = refl
 
 -- the first number stands where there is room for one more
-cut-nothing : (n k : ℕ) → cut (suc n) (nothing k) ≡ nothing k
-cut-nothing n k =
+cut_nothing : (n k : ℕ) → cut (suc n) (nothing k) ≡ nothing k
+cut_nothing n k =
     ap (λ t. cond (t || (eqb 0 (suc n) && not (eqb k 0))) (nothing 14) (nothing k)) (leb-suc-zero (suc n))
     ∙ ap (λ t. cond (t && not (eqb k 0)) (nothing 14) (nothing k)) (eqb-zero-suc n)
 
 cut-end : (n : ℕ) → cut n (nothing 0) ≡ nothing 0
 cut-end zero = refl
-cut-end (suc n) = cut-nothing n 0
+cut-end (suc n) = cut_nothing n 0
 
 -- no room: one more instruction, or a number, is 14
 cut-more : (i : Instruction) (d : Decoded Instruction) → cut 0 (ahead i d) ≡ nothing 14
 cut-more i d = ap (λ t. cond (t || (eqb (suc (length d.items)) 0 && not (eqb d.fault 0))) (nothing 14) (ahead i d)) (leb-suc-suc 0 (length d.items) ∙ leb-zero (length d.items))
 
-cut-refused : (k : ℕ) → (k ≡ 0 → ⊥) → cut 0 (nothing k) ≡ nothing 14
-cut-refused k z = ap (λ t. cond (not t) (nothing 14) (nothing k)) (ne_eqb k 0 z)
+cut_refused : (k : ℕ) → (k ≡ 0 → ⊥) → cut 0 (nothing k) ≡ nothing 14
+cut_refused k z = ap (λ t. cond (not t) (nothing 14) (nothing k)) (ne_eqb k 0 z)
 
 -- where nothing is refused nothing was cut
 pub cut-whole : (n : ℕ) (d : Decoded Instruction) → (cut n d).fault ≡ 0 → cut n d ≡ d
@@ -77,31 +77,31 @@ pub still : {index : ℕ} → index ≤ 612 → (index ≡ 612 → ⊥) → inde
 still h z = omega (arith, h, z)
 
 module _ (count : ℕ) (s : List ℕ) (at : ℕ) where
-  pub on-here : {index : ℕ} {i : Instruction} {next : ℕ} → index < 612 → Here (instructionFrom count) s at i next
-      → instructionsOn index count (drop at s) ≡ ahead i (instructionsOn (suc index) count (drop next s))
+  pub on-here : {index : ℕ} {i : Instruction} {next : ℕ} → index < 612 → Here (instruction_from count) s at i next
+      → instructions_on index count (drop at s) ≡ ahead i (instructions_on (suc index) count (drop next s))
   on-here {index} {i} {next} l h =
-      let d = decoded (instructionFrom count) (drop next s) in
+      let d = decoded (instruction_from count) (drop next s) in
       let one : 612 - index ≡ suc (612 - suc index) = omega (arith, l) in
-      ap (λ n. cut n (decoded (instructionFrom count) (drop at s))) one
+      ap (λ n. cut n (decoded (instruction_from count) (drop at s))) one
       ∙ ap (cut (suc (612 - suc index))) (λ j. record { items = h.same j; fault = h.sound j })
-      ∙ cut-ahead (612 - suc index) i d
+      ∙ cut_ahead (612 - suc index) i d
 
-  done : {k : ℕ} → Done (instructionFrom count) s at k → decoded (instructionFrom count) (drop at s) ≡ nothing k
+  done : {k : ℕ} → Done (instruction_from count) s at k → decoded (instruction_from count) (drop at s) ≡ nothing k
   done h = λ j. record { items = h.same j; fault = h.why j }
 
-  pub on-done : {index k : ℕ} → index < 612 → Done (instructionFrom count) s at k → instructionsOn index count (drop at s) ≡ nothing k
+  pub on-done : {index k : ℕ} → index < 612 → Done (instruction_from count) s at k → instructions_on index count (drop at s) ≡ nothing k
   on-done {index} {k} l h =
       let one : 612 - index ≡ suc (612 - suc index) = omega (arith, l) in
-      ap (λ n. cut n (decoded (instructionFrom count) (drop at s))) one
+      ap (λ n. cut n (decoded (instruction_from count) (drop at s))) one
       ∙ ap (cut (suc (612 - suc index))) (done h)
-      ∙ cut-nothing (612 - suc index) k
+      ∙ cut_nothing (612 - suc index) k
 
-  pub on-end : (index : ℕ) → Done (instructionFrom count) s at 0 → instructionsOn index count (drop at s) ≡ nothing 0
+  pub on-end : (index : ℕ) → Done (instruction_from count) s at 0 → instructions_on index count (drop at s) ≡ nothing 0
   on-end index h = ap (cut (612 - index)) (done h) ∙ cut-end (612 - index)
 
   -- 14, whatever stands there
-  pub on-full : {index : ℕ} → index ≡ 612 → at < length s → instructionsOn index count (drop at s) ≡ nothing 14
-  on-full {index} e h = ap (λ n. cut n (decoded (instructionFrom count) rest)) zeroth ∙ go (instructionFrom count rest) refl
+  pub on-full : {index : ℕ} → index ≡ 612 → at < length s → instructions_on index count (drop at s) ≡ nothing 14
+  on-full {index} e h = ap (λ n. cut n (decoded (instruction_from count) rest)) zeroth ∙ go (instruction_from count rest) refl
     where
       rest : List ℕ
       rest = drop at s
@@ -109,9 +109,9 @@ module _ (count : ℕ) (s : List ℕ) (at : ℕ) where
       zeroth : 612 - index ≡ 0
       zeroth = omega (arith, e)
 
-      go : (r : Read Instruction) → instructionFrom count (drop at s) ≡ r → cut 0 (decoded (instructionFrom count) (drop at s)) ≡ nothing 14
-      go (got i) q = ap (cut 0) (decoded-got (instructionFrom count) (whole count) (drop at s) i q) ∙ cut-more i (decoded (instructionFrom count) (drop (u16At (drop at s) 0) (drop at s)))
+      go : (r : Read Instruction) → instruction_from count (drop at s) ≡ r → cut 0 (decoded (instruction_from count) (drop at s)) ≡ nothing 14
+      go (got i) q = ap (cut 0) (decoded-got (instruction_from count) (whole count) (drop at s) i q) ∙ cut-more i (decoded (instruction_from count) (drop (u16_at (drop at s) 0) (drop at s)))
       go (refused k) q =
           let g = length-drop at s in
-          ap (cut 0) (decoded-torn (instructionFrom count) (drop at s) k q (omega arith))
-          ∙ cut-refused k (λ z. refused-by count (drop at s) (q ∙ ap refused z))
+          ap (cut 0) (decoded-torn (instruction_from count) (drop at s) k q (omega arith))
+          ∙ cut_refused k (λ z. refused-by count (drop at s) (q ∙ ap refused z))

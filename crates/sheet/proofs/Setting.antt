@@ -7,7 +7,7 @@ use lib.ListN.{length, take, drop, length-take, length-drop}
 use Rattle.mir.specs.Read.{Read, got, refused}
 use Rattle.sheet.specs.declared.setup.Mode.{Mode}
 use Rattle.sheet.specs.declared.setup.Setup.{Setup}
-use Rattle.sheet.specs.Setup.{headerFrom, constantsFrom, constantsFromOn, setupWith, setupFrom, setup}
+use Rattle.sheet.specs.Setup.{header_from, constants_from, constants_from_on, setup_with, setup_from, setup}
 use Rattle.sheet.proofs.Heading.{Headed, headed}
 use Rattle.sheet.proofs.Counting.{few}
 
@@ -17,8 +17,8 @@ pub record Right (s : List ℕ) (u : Setup) : Type 0 where
   pub inside : u.start ≤ length s
   pub places : length u.places ≡ 64
 
-by_count : (s : List ℕ) (mode : Mode) (y : Read ℕ) → Headed s → constantsFrom 251 (drop 69 s) ≡ y → (setupWith s mode y).number ≡ 0
-    → Right s (setupWith s mode y)
+by_count : (s : List ℕ) (mode : Mode) (y : Read ℕ) → Headed s → constants_from 251 (drop 69 s) ≡ y → (setup_with s mode y).number ≡ 0
+    → Right s (setup_with s mode y)
 by_count s mode (got n) h e z =
     let f = few 251 (drop 69 s) n e in
     let d = length-drop 69 s in
@@ -32,15 +32,15 @@ by_count s mode (got n) h e z =
     }
 by_count s mode (refused n) h e z = absurd (omega arith)
 
-by-header : (s : List ℕ) (x : Read Mode) → headerFrom s ≡ x → (setupFrom s x).number ≡ 0 → Right s (setupFrom s x)
-by-header s (got mode) e z = by_count s mode (constantsFrom 251 (drop 69 s)) (headed s mode e) refl z
+by-header : (s : List ℕ) (x : Read Mode) → header_from s ≡ x → (setup_from s x).number ≡ 0 → Right s (setup_from s x)
+by-header s (got mode) e z = by_count s mode (constants_from 251 (drop 69 s)) (headed s mode e) refl z
 by-header s (refused n) e z = absurd (omega arith)
 
 pub right : (s : List ℕ) → (setup s).number ≡ 0 → Right s (setup s)
 unfolding setup
-right s z = by-header s (headerFrom s) refl z
+right s z = by-header s (header_from s) refl z
 
 -- as many constants as were counted
-pub length-constants : (s : List ℕ) (n i : ℕ) → length (constantsFromOn s n i) ≡ n
-length-constants s zero i = refl
-length-constants s (suc n) i = ap suc (length-constants s n (suc i))
+pub length_constants : (s : List ℕ) (n i : ℕ) → length (constants_from_on s n i) ≡ n
+length_constants s zero i = refl
+length_constants s (suc n) i = ap suc (length_constants s n (suc i))

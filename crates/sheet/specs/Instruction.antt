@@ -4,77 +4,77 @@
 -- before the place or the constant.
 use Rattle.std.specs.Prelude.{ℕ, ◌-◌, Bool, cond, false, not, ◌&&◌, ◌||◌, List, length, take, ltb, eqb}
 use Rattle.mir.specs.declared.records.Instruction.{Instruction}
-use Rattle.mir.specs.Operation.{arithOps, taken}
-use Rattle.mir.specs.Takes.{takesArith}
+use Rattle.mir.specs.Operation.{arith_ops, taken}
+use Rattle.mir.specs.Takes.{takes_arith}
 use Rattle.mir.specs.Read.{Read, got, refused, refuse, and_then, registers, constant}
-use Rattle.mir.specs.Field.{byte_at, bytes_at, u16At, takesKind, headFrom, placeAt}
-use Rattle.mir.specs.Kinds.{uniFrom, biFrom, movFrom, loadFrom, saveFrom, loadConstFrom, fusedFrom, ifElseFrom}
-use Rattle.mir.specs.Decode.{Item, readAt, Decoded, decoded}
+use Rattle.mir.specs.Field.{byte_at, bytes_at, u16_at, takes_kind, head_from, place_at}
+use Rattle.mir.specs.Kinds.{uni_from, bi_from, mov_from, load_from, save_from, load_const_from, fused_from, if_else_from}
+use Rattle.mir.specs.Decode.{Item, read_at, Decoded, decoded}
 use Rattle.sheet.specs.declared.reader.NextInstruction.{NextInstruction}
 
 -- 9 LoadMath: op, dst, s1, place
-unfoldable pub loadMathFrom : List ℕ → Read Instruction
-loadMathFrom s =
-    and_then (taken takesArith arithOps (byte_at s 4))
+unfoldable pub load_math_from : List ℕ → Read Instruction
+load_math_from s =
+    and_then (taken takes_arith arith_ops (byte_at s 4))
     (λ op.
     registers 31 (bytes_at s 5 2)
-    (and_then (placeAt s 7) (λ loc. got (Instruction.LoadMath op (byte_at s 5) (byte_at s 6) loc))))
+    (and_then (place_at s 7) (λ loc. got (Instruction.LoadMath op (byte_at s 5) (byte_at s 6) loc))))
 
 -- 10 LoadConstMath: op, dst, s1, constant
-unfoldable pub loadConstMathFrom : ℕ → List ℕ → Read Instruction
-loadConstMathFrom count s =
-    and_then (taken takesArith arithOps (byte_at s 4))
+unfoldable pub load_const_math_from : ℕ → List ℕ → Read Instruction
+load_const_math_from count s =
+    and_then (taken takes_arith arith_ops (byte_at s 4))
     (λ op.
     registers 31 (bytes_at s 5 2)
-    (constant count (u16At s 7) (got (Instruction.LoadConstMath op (byte_at s 5) (byte_at s 6) (u16At s 7)))))
+    (constant count (u16_at s 7) (got (Instruction.LoadConstMath op (byte_at s 5) (byte_at s 6) (u16_at s 7)))))
 
 -- document 02, d): "10 [..] for a label outside 3 to 255, or a third byte above 1"
-abbrev pub ownLabel : ℕ → Read Instruction → Read Instruction
-ownLabel l r = refuse (ltb l 3) 10 r
+abbrev pub own_label : ℕ → Read Instruction → Read Instruction
+own_label l r = refuse (ltb l 3) 10 r
 
 -- 14 Label, 15 Branch: label
-unfoldable pub labelFrom : List ℕ → Read Instruction
-labelFrom s = ownLabel (byte_at s 4) (got (Instruction.Label (byte_at s 4)))
+unfoldable pub label_from : List ℕ → Read Instruction
+label_from s = own_label (byte_at s 4) (got (Instruction.Label (byte_at s 4)))
 
-unfoldable pub branchFrom : List ℕ → Read Instruction
-branchFrom s = ownLabel (byte_at s 4) (got (Instruction.Branch (byte_at s 4)))
+unfoldable pub branch_from : List ℕ → Read Instruction
+branch_from s = own_label (byte_at s 4) (got (Instruction.Branch (byte_at s 4)))
 
 -- 17 BranchIf: condition register, label, is_else
-unfoldable pub branchIfFrom : List ℕ → Read Instruction
-branchIfFrom s =
+unfoldable pub branch_if_from : List ℕ → Read Instruction
+branch_if_from s =
     registers 31 (bytes_at s 4 1)
-    (ownLabel (byte_at s 5)
+    (own_label (byte_at s 5)
     (refuse (ltb 1 (byte_at s 6)) 10 (got (Instruction.BranchIf (byte_at s 4) (byte_at s 5) (eqb (byte_at s 6) 1)))))
 
 -- by kind
-unfoldable pub fieldsFrom : ℕ → ℕ → List ℕ → Read Instruction
-unfolding uniFrom biFrom movFrom loadFrom saveFrom loadConstFrom fusedFrom ifElseFrom loadMathFrom loadConstMathFrom labelFrom branchFrom branchIfFrom
-fieldsFrom count kind s =
+unfoldable pub fields_from : ℕ → ℕ → List ℕ → Read Instruction
+unfolding uni_from bi_from mov_from load_from save_from load_const_from fused_from if_else_from load_math_from load_const_math_from label_from branch_from branch_if_from
+fields_from count kind s =
     cond (eqb kind 0) (got Instruction.Nop)
-    (cond (eqb kind 1) (uniFrom false Instruction.Uni s)
-    (cond (eqb kind 2) (biFrom false Instruction.Bi s)
-    (cond (eqb kind 3) (movFrom false Instruction.Mov s)
-    (cond (eqb kind 4) (loadFrom false Instruction.Load s)
-    (cond (eqb kind 5) (saveFrom false Instruction.Save s)
-    (cond (eqb kind 6) (loadConstFrom false Instruction.LoadConst count s)
-    (cond (eqb kind 7) (fusedFrom false Instruction.Fused s)
-    (cond (eqb kind 8) (ifElseFrom false Instruction.IfElse s)
-    (cond (eqb kind 9) (loadMathFrom s)
-    (cond (eqb kind 10) (loadConstMathFrom count s)
-    (cond (eqb kind 14) (labelFrom s)
-    (cond (eqb kind 15) (branchFrom s)
-    (cond (eqb kind 17) (branchIfFrom s)
+    (cond (eqb kind 1) (uni_from false Instruction.Uni s)
+    (cond (eqb kind 2) (bi_from false Instruction.Bi s)
+    (cond (eqb kind 3) (mov_from false Instruction.Mov s)
+    (cond (eqb kind 4) (load_from false Instruction.Load s)
+    (cond (eqb kind 5) (save_from false Instruction.Save s)
+    (cond (eqb kind 6) (load_const_from false Instruction.LoadConst count s)
+    (cond (eqb kind 7) (fused_from false Instruction.Fused s)
+    (cond (eqb kind 8) (if_else_from false Instruction.IfElse s)
+    (cond (eqb kind 9) (load_math_from s)
+    (cond (eqb kind 10) (load_const_math_from count s)
+    (cond (eqb kind 14) (label_from s)
+    (cond (eqb kind 15) (branch_from s)
+    (cond (eqb kind 17) (branch_if_from s)
     (refused 2))))))))))))))
 
 -- "readable length (1), kind (2), kind's length (1), operation (2), then 3, 4, 5"; 10 is "tested after 4", and no instruction earns both 10
 -- and 5
-unfoldable pub instructionFrom : ℕ → List ℕ → Read Instruction
-unfolding headFrom fieldsFrom
-instructionFrom count s = and_then (headFrom (takesKind false) s) (λ kind. fieldsFrom count kind s)
+unfoldable pub instruction_from : ℕ → List ℕ → Read Instruction
+unfolding head_from fields_from
+instruction_from count s = and_then (head_from (takes_kind false) s) (λ kind. fields_from count kind s)
 
 -- the instruction at a position, and the position after it
-abbrev pub instructionAt : ℕ → List ℕ → ℕ → Read (Item Instruction)
-instructionAt count s at = readAt (instructionFrom count) s at
+abbrev pub instruction_at : ℕ → List ℕ → ℕ → Read (Item Instruction)
+instruction_at count s at = read_at (instruction_from count) s at
 
 -- does anything stand behind n instructions: one more, or bytes that a number refuses
 abbrev pub beyond : ℕ → Decoded Instruction → Bool
@@ -87,13 +87,13 @@ cut n d = cond (beyond n d) (record { items = take n d.items; fault = 14 }) d
 -- all instructions, from the bytes that begin with the first: "The longest of its sheets has 612 instructions. Make that the limit [..], and
 -- a Nop counts", "14 for the instruction at index 612"
 abbrev pub instructions : ℕ → List ℕ → Decoded Instruction
-instructions count s = cut 612 (decoded (instructionFrom count) s)
+instructions count s = cut 612 (decoded (instruction_from count) s)
 
 -- those from the one with an index on
-abbrev pub instructionsOn : ℕ → ℕ → List ℕ → Decoded Instruction
-instructionsOn index count s = cut (612 - index) (decoded (instructionFrom count) s)
+abbrev pub instructions_on : ℕ → ℕ → List ℕ → Decoded Instruction
+instructions_on index count s = cut (612 - index) (decoded (instruction_from count) s)
 
 -- the answer of the code
-abbrev pub asNext : NextInstruction → Read (Item Instruction)
-asNext (NextInstruction.Got i next) = got (record { item = i; next = next })
-asNext (NextInstruction.Refused n) = refused n
+abbrev pub as_next : NextInstruction → Read (Item Instruction)
+as_next (NextInstruction.Got i next) = got (record { item = i; next = next })
+as_next (NextInstruction.Refused n) = refused n

@@ -1,7 +1,7 @@
 // A sheet's instruction, read at a position.
 ghost use Rattle.std.specs.Prelude.{◌≡◌};
-ghost use Rattle.kinds.specs.Answer.{asRead};
-ghost use Rattle.sheet.specs.Instruction.{loadMathFrom, loadConstMathFrom, labelFrom, branchFrom, branchIfFrom, fieldsFrom, instructionFrom, instructionAt, asNext};
+ghost use Rattle.kinds.specs.Answer.{as_read};
+ghost use Rattle.sheet.specs.Instruction.{load_math_from, load_const_math_from, label_from, branch_from, branch_if_from, fields_from, instruction_from, instruction_at, as_next};
 
 use kinds::{
     ReadInstruction, read_bi, read_fused, read_if_else, read_load, read_load_const, read_mov,
@@ -28,7 +28,7 @@ pub enum NextInstruction {
 }
 
 fn read_load_math(s: &[u8]) -> ReadInstruction
-    ensures { asRead result ≡ loadMathFrom s.now }
+    ensures { as_read result ≡ load_math_from s.now }
 {
     match arith_op(byte(s, 4)) {
         FoundArith::Op(op) => {
@@ -50,7 +50,7 @@ fn read_load_math(s: &[u8]) -> ReadInstruction
 }
 
 fn read_load_const_math(s: &[u8], count: usize) -> ReadInstruction
-    ensures { asRead result ≡ loadConstMathFrom count s.now }
+    ensures { as_read result ≡ load_const_math_from count s.now }
 {
     match arith_op(byte(s, 4)) {
         FoundArith::Op(op) => {
@@ -73,7 +73,7 @@ fn read_load_const_math(s: &[u8], count: usize) -> ReadInstruction
 }
 
 fn read_label(s: &[u8]) -> ReadInstruction
-    ensures { asRead result ≡ labelFrom s.now }
+    ensures { as_read result ≡ label_from s.now }
 {
     let label = byte(s, 4);
     if label < FIRST_LABEL {
@@ -83,7 +83,7 @@ fn read_label(s: &[u8]) -> ReadInstruction
 }
 
 fn read_branch(s: &[u8]) -> ReadInstruction
-    ensures { asRead result ≡ branchFrom s.now }
+    ensures { as_read result ≡ branch_from s.now }
 {
     let label = byte(s, 4);
     if label < FIRST_LABEL {
@@ -93,7 +93,7 @@ fn read_branch(s: &[u8]) -> ReadInstruction
 }
 
 fn read_branch_if(s: &[u8]) -> ReadInstruction
-    ensures { asRead result ≡ branchIfFrom s.now }
+    ensures { as_read result ≡ branch_if_from s.now }
 {
     if above(s, 4, 1, LAST) {
         return ReadInstruction::Refused(3);
@@ -115,7 +115,7 @@ fn read_branch_if(s: &[u8]) -> ReadInstruction
 
 // The fields of a kind.
 fn read_fields(s: &[u8], kind: u16, count: usize) -> ReadInstruction
-    ensures { asRead result ≡ fieldsFrom count kind s.now }
+    ensures { as_read result ≡ fields_from count kind s.now }
 {
     match kind {
         0 => ReadInstruction::Got(Instruction::Nop),
@@ -138,7 +138,7 @@ fn read_fields(s: &[u8], kind: u16, count: usize) -> ReadInstruction
 
 // The instruction that bytes begin with.
 fn read_first(s: &[u8], count: usize) -> ReadInstruction
-    ensures { asRead result ≡ instructionFrom count s.now }
+    ensures { as_read result ≡ instruction_from count s.now }
 {
     match read_head(s, false) {
         Head::Kind(kind) => read_fields(s, kind, count),
@@ -148,7 +148,7 @@ fn read_first(s: &[u8], count: usize) -> ReadInstruction
 
 // The instruction at a position, and the position after it. `count` is the count of the sheet's own constants.
 pub fn read_instruction(sheet: &[u8], at: usize, count: usize) -> NextInstruction
-    ensures { asNext result ≡ instructionAt count sheet.now at }
+    ensures { as_next result ≡ instruction_at count sheet.now at }
 {
     if sheet.len() < at {
         return NextInstruction::Refused(1);

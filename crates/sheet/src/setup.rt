@@ -1,6 +1,6 @@
 // What stands before a sheet's instructions: the header and the constants.
 ghost use Rattle.std.specs.Prelude.{◌≡◌, ◌≤◌, length, take, drop};
-ghost use Rattle.sheet.specs.Setup.{modeFrom, isStable, isMinding, headerFrom, isConstant, isBroken, constantsFrom, wrong, setup, constantAt, asHeader, asConstantCount};
+ghost use Rattle.sheet.specs.Setup.{mode_from, is_stable, is_minding, header_from, is_constant, is_broken, constants_from, wrong, setup, constant_at, as_header, as_constant_count};
 
 use mir::fields::{byte, u16_at};
 use words::{put_bytes, word_at};
@@ -39,7 +39,7 @@ pub enum ConstantCount {
 
 // Whether a mode is stable.
 pub fn is_stable(mode: Mode) -> bool
-    ensures { result ≡ isStable mode }
+    ensures { result ≡ is_stable mode }
 {
     match mode {
         Mode::Plain => false,
@@ -50,7 +50,7 @@ pub fn is_stable(mode: Mode) -> bool
 
 // Whether it is mode 2.
 pub fn is_minding(mode: Mode) -> bool
-    ensures { result ≡ isMinding mode }
+    ensures { result ≡ is_minding mode }
 {
     match mode {
         Mode::Plain => false,
@@ -60,7 +60,7 @@ pub fn is_minding(mode: Mode) -> bool
 }
 
 fn read_mode(b: u8) -> Header
-    ensures { asHeader result ≡ modeFrom b }
+    ensures { as_header result ≡ mode_from b }
 {
     if b == 0 {
         return Header::Mode(Mode::Plain);
@@ -75,7 +75,7 @@ fn read_mode(b: u8) -> Header
 }
 
 fn read_header(sheet: &[u8]) -> Header
-    ensures { asHeader result ≡ headerFrom sheet.now }
+    ensures { as_header result ≡ header_from sheet.now }
 {
     if sheet.len() < 69 {
         return Header::Wrong;
@@ -92,7 +92,7 @@ fn read_header(sheet: &[u8]) -> Header
 
 // Whether a constant stands first.
 fn is_constant(s: &[u8]) -> bool
-    ensures { result ≡ isConstant s.now }
+    ensures { result ≡ is_constant s.now }
 {
     if 4 <= s.len() {
         let kind = u16_at(s, 2);
@@ -103,7 +103,7 @@ fn is_constant(s: &[u8]) -> bool
 
 // Whether the constant that stands first has another length than 12, or runs past the end.
 fn is_broken(s: &[u8]) -> bool
-    ensures { result ≡ isBroken s.now }
+    ensures { result ≡ is_broken s.now }
 {
     let n = u16_at(s, 0);
     if n != 12 {
@@ -114,7 +114,7 @@ fn is_broken(s: &[u8]) -> bool
 
 // The count of the constants that stand first, at most 251.
 fn count_constants(s: &[u8]) -> ConstantCount
-    ensures { asConstantCount result ≡ constantsFrom 251 s.now }
+    ensures { as_constant_count result ≡ constants_from 251 s.now }
 {
     let mut n: usize = 0;
     let mut at: usize = 0;
@@ -183,7 +183,7 @@ pub fn read_setup(sheet: &[u8]) -> Setup
 
 // The word of the constant with an index; 0 past the end.
 pub fn constant_at(sheet: &[u8], i: usize) -> u64
-    ensures { result ≡ constantAt sheet.now i }
+    ensures { result ≡ constant_at sheet.now i }
 {
     if sheet.len() < 73 {
         return 0;

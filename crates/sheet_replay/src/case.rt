@@ -1,9 +1,9 @@
 // One case: where it ends, and how lowering answers it.
 ghost use Rattle.std.specs.Prelude.{◌^◌, ◌<◌, ◌≤◌, ◌≡◌, ◌++◌, map, length};
-ghost use Rattle.mir.specs.Encode.{flagByte};
+ghost use Rattle.mir.specs.Encode.{flag_byte};
 ghost use Rattle.complexify.specs.Entry as Entry;
 ghost use Rattle.sheet_replay.specs.Case as Case;
-ghost use Rattle.sheet_replay.specs.Case.{WholeSheet, Lent, lentBytes, lentWords, lentNumbers, answered, differs, expected, numbersAgree, realAgrees, marksAgree, listingExpected, constantsExpected};
+ghost use Rattle.sheet_replay.specs.Case.{WholeSheet, Lent, lent_bytes, lent_words, lent_numbers, answered, differs, expected, numbers_agree, real_agrees, marks_agree, listing_expected, constants_expected};
 
 use complexify::entry::{LowerAnswer, lower};
 use lowering::bytes::{put_flags, record_bytes};
@@ -14,14 +14,14 @@ use words::{load, put_bytes};
 
 // Where the listing's bytes begin.
 fn listing_at(s: &[u8]) -> usize
-    ensures { (result ≡ Case.listingAt s.now) × (result < 2 ^ 33) }
+    ensures { (result ≡ Case.listing_at s.now) × (result < 2 ^ 33) }
 {
     256 + count_at(s, 0)
 }
 
 // Where the constants begin.
 fn constants_at(s: &[u8]) -> usize
-    ensures { (result ≡ Case.constantsAt s.now) × (result < 2 ^ 34) }
+    ensures { (result ≡ Case.constants_at s.now) × (result < 2 ^ 34) }
 {
     listing_at(s) + count_at(s, 20)
 }
@@ -35,7 +35,7 @@ pub fn end(s: &[u8]) -> usize
 
 // Whether number, index, bytes written and count of constants are the expected ones.
 fn numbers_agree(s: &[u8], a: LowerAnswer) -> bool
-    ensures { result ≡ numbersAgree s.now a }
+    ensures { result ≡ numbers_agree s.now a }
 {
     if a.number as usize != count_at(s, 12) {
         return false;
@@ -51,7 +51,7 @@ fn numbers_agree(s: &[u8], a: LowerAnswer) -> bool
 
 // Whether the registers and places recorded as real are the expected ones.
 fn real_agrees(s: &[u8], real: Realness) -> bool
-    ensures { result ≡ realAgrees s.now «real» }
+    ensures { result ≡ real_agrees s.now «real» }
 {
     let record = record_bytes(real);
     same_part(&record, s, 28)
@@ -59,7 +59,7 @@ fn real_agrees(s: &[u8], real: Realness) -> bool
 
 // The marks as bytes: of registers filled, then of those drawn on before.
 fn mark_bytes(filled: [bool; 66], drawn: [bool; 66]) -> [u8; 132]
-    ensures { result ≡ map flagByte filled ++ map flagByte drawn }
+    ensures { result ≡ map flag_byte filled ++ map flag_byte drawn }
 {
     let mut bytes = [0u8; 132];
     put_flags(&mut bytes, 0, &filled);
@@ -69,7 +69,7 @@ fn mark_bytes(filled: [bool; 66], drawn: [bool; 66]) -> [u8; 132]
 
 // Whether the marks are the expected ones.
 fn marks_agree(s: &[u8], a: LowerAnswer) -> bool
-    ensures { result ≡ marksAgree s.now a }
+    ensures { result ≡ marks_agree s.now a }
 {
     let filled = a.filled;
     let drawn = a.drawn;
@@ -86,7 +86,7 @@ fn agrees(
     bytes: &[u8],
     words: &[u64],
 ) -> bool
-    requires { (bytes.now ≡ listingExpected s.now) × (words.now ≡ constantsExpected s.now) }
+    requires { (bytes.now ≡ listing_expected s.now) × (words.now ≡ constants_expected s.now) }
     ensures { result ≡ expected s.now a listing.now constants.now }
 {
     if !numbers_agree(s, a) {
@@ -113,9 +113,9 @@ pub struct SheetOutcome {
 
 // Lowers a sheet. A case says nothing of origins: 256 numbers are lent for them.
 fn lower_case(sheet: &[u8], listing: &mut [u8], constants: &mut [u64]) -> LowerAnswer
-    ensures { (result ≡ Entry.answer sheet.now listing.old constants.old lentNumbers)
-        × (listing.new ≡ Entry.listingAfter sheet.now listing.old constants.old lentNumbers)
-        × (constants.new ≡ Entry.constantsAfter sheet.now listing.old constants.old lentNumbers) }
+    ensures { (result ≡ Entry.answer sheet.now listing.old constants.old lent_numbers)
+        × (listing.new ≡ Entry.listing_after sheet.now listing.old constants.old lent_numbers)
+        × (constants.new ≡ Entry.constants_after sheet.now listing.old constants.old lent_numbers) }
 {
     let mut origins = [0u16; 256];
     lower(sheet, listing, constants, &mut origins)
@@ -147,13 +147,13 @@ fn judge(
 
 // The most bytes and words that a case lends.
 fn all_bytes() -> [u8; 65537]
-    ensures { (result ≡ lentBytes 65537) × (65537 ≡ length result) }
+    ensures { (result ≡ lent_bytes 65537) × (65537 ≡ length result) }
 {
     [0xa5; 65537]
 }
 
 fn all_words() -> [u64; 257]
-    ensures { (result ≡ lentWords 257) × (257 ≡ length result) }
+    ensures { (result ≡ lent_words 257) × (257 ≡ length result) }
 {
     [0xa5a5_a5a5_a5a5_a5a5; 257]
 }

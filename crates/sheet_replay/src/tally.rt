@@ -1,6 +1,6 @@
 // The cases of a list, counted.
 ghost use Rattle.std.specs.Prelude.{◌≡◌};
-ghost use Rattle.replay.specs.Tally.{replayedList};
+ghost use Rattle.replay.specs.Tally.{replayed_list};
 ghost use Rattle.sheet_replay.specs.Case.{cases};
 
 use crate::case::{end, replay_case};
@@ -10,7 +10,7 @@ use replay::tally::tally;
 
 // Counts the cases of a list, and answers whether they are whole and nothing follows them.
 pub fn replay_list(t: &mut [u64; 258], list: &[u8]) -> bool
-    ensures { (result ≡ (replayedList cases t.old list.now).whole) × (t.new ≡ (replayedList cases t.old list.now).counts) }
+    ensures { (result ≡ (replayed_list cases t.old list.now).whole) × (t.new ≡ (replayed_list cases t.old list.now).counts) }
 {
     if list.len() < 4 {
         return false;

@@ -8,91 +8,91 @@ use native.Mathlib.Omega.{arith}
 use lib.ListN.{length, drop}
 use Rattle.mir.specs.declared.records.Instruction.{Instruction}
 use Rattle.mir.specs.Decode.{decoded}
-use Rattle.mir.proofs.Passing.{either}
+use Rattle.mir.proofs.Passing.{Either}
 use Rattle.mir.proofs.Decoding.{Here, ended}
 use borrow.Author.Tests.{ltb-true, ltb-false, eq-eqb, ne_eqb}
 use lib.Dec.{ltb, eqb}
 use Rattle.sheet.specs.declared.setup.Setup.{Setup}
-use Rattle.sheet.specs.Setup.{constantAt, constantsFromOn, setup}
+use Rattle.sheet.specs.Setup.{constant_at, constants_from_on, setup}
 use Rattle.sheet.proofs.Setting.{right}
-use Rattle.reports.specs.Lines.{refusalLine}
+use Rattle.reports.specs.Lines.{refusal_line}
 use Rattle.sheet.specs.declared.reader.NextInstruction.{NextInstruction}
-use Rattle.sheet.specs.Instruction.{instructionFrom, instructionAt, cut, instructions, instructionsOn, asNext}
+use Rattle.sheet.specs.Instruction.{instruction_from, instruction_at, cut, instructions, instructions_on, as_next}
 use Rattle.sheet.proofs.Limit.{nothing, length_cut, on-here, on-done, on-end}
 use Rattle.sheet.proofs.Reading.{torn-instruction}
 use Rattle.lowering.specs.Realness.{bit_at}
-use Rattle.assembly.specs.Lines.{realLine, constantLine, instructionLine}
+use Rattle.assembly.specs.Lines.{real_line, constant_line, instruction_line}
 use Rattle.sheet_text.specs.declared.printing.Seen.{Seen}
-use Rattle.sheet_text.specs.Seen.{seenOf}
-use Rattle.assembly.specs.SheetText.{realLines, constantLines, instructionLines, ofSetup, lines_of, sheetText, printedText}
+use Rattle.sheet_text.specs.Seen.{seen_of}
+use Rattle.assembly.specs.SheetText.{real_lines, constant_lines, instruction_lines, of_setup, lines_of, sheet_text, printed_text}
 
 module _ (places : List ℕ) (i : ℕ) where
   pub reals-on : i < 512
-      → realLines places (512 - i) i ≡ cond (bit_at places i) (realLine i) [] ++ realLines places (512 - (i + 1)) (i + 1)
-  unfolding realLines
+      → real_lines places (512 - i) i ≡ cond (bit_at places i) (real_line i) [] ++ real_lines places (512 - (i + 1)) (i + 1)
+  unfolding real_lines
   reals-on h =
       let e : 512 - i ≡ suc (512 - (i + 1)) = omega arith in
-      ap (λ n. realLines places n i) e
-      ∙ ap (λ j. cond (bit_at places i) (realLine i) [] ++ realLines places (512 - (i + 1)) j) (sym (add-one i))
+      ap (λ n. real_lines places n i) e
+      ∙ ap (λ j. cond (bit_at places i) (real_line i) [] ++ real_lines places (512 - (i + 1)) j) (sym (add-one i))
 
-  pub reals-end : 512 ≤ i → realLines places (512 - i) i ≡ []
-  unfolding realLines
-  reals-end h = let e : 512 - i ≡ 0 = omega arith in ap (λ n. realLines places n i) e
+  pub reals-end : 512 ≤ i → real_lines places (512 - i) i ≡ []
+  unfolding real_lines
+  reals-end h = let e : 512 - i ≡ 0 = omega arith in ap (λ n. real_lines places n i) e
 
 module _ (s : List ℕ) (count i : ℕ) where
   pub constants-on : i < count
-      → constantLines (constantsFromOn s (count - i) i)
-      ≡ constantLine (constantAt s i) ++ constantLines (constantsFromOn s (count - (i + 1)) (i + 1))
-  unfolding constantLines
+      → constant_lines (constants_from_on s (count - i) i)
+      ≡ constant_line (constant_at s i) ++ constant_lines (constants_from_on s (count - (i + 1)) (i + 1))
+  unfolding constant_lines
   constants-on h =
       let e : count - i ≡ suc (count - (i + 1)) = omega arith in
-      ap (λ n. constantLines (constantsFromOn s n i)) e
-      ∙ ap (λ j. constantLine (constantAt s i) ++ constantLines (constantsFromOn s (count - (i + 1)) j)) (sym (add-one i))
+      ap (λ n. constant_lines (constants_from_on s n i)) e
+      ∙ ap (λ j. constant_line (constant_at s i) ++ constant_lines (constants_from_on s (count - (i + 1)) j)) (sym (add-one i))
 
-  pub constants-end : count ≤ i → constantLines (constantsFromOn s (count - i) i) ≡ []
-  unfolding constantLines
-  constants-end h = let e : count - i ≡ 0 = omega arith in ap (λ n. constantLines (constantsFromOn s n i)) e
+  pub constants-end : count ≤ i → constant_lines (constants_from_on s (count - i) i) ≡ []
+  unfolding constant_lines
+  constants-end h = let e : count - i ≡ 0 = omega arith in ap (λ n. constant_lines (constants_from_on s n i)) e
 
 no_item : (l : List Instruction) → length l ≤ 0 → l ≡ []
 no_item [] h = refl
 no_item (i ∷ l) h = absurd (omega (arith, h))
 
 -- the lines of the instructions from an index on
-abbrev pub linesOn : ℕ → ℕ → List ℕ → List ℕ
-linesOn n count s = instructionLines (instructionsOn n count s).items
+abbrev pub lines_on : ℕ → ℕ → List ℕ → List ℕ
+lines_on n count s = instruction_lines (instructions_on n count s).items
 
 module _ (count : ℕ) (s : List ℕ) (at : ℕ) {n : ℕ} where
-  pub instructions-on : {next : ℕ} {x : Instruction} → n < 612 → Here (instructionFrom count) s at x next
-      → linesOn n count (drop at s) ≡ instructionLine x ++ linesOn (n + 1) count (drop next s)
-  unfolding instructionLines
+  pub instructions-on : {next : ℕ} {x : Instruction} → n < 612 → Here (instruction_from count) s at x next
+      → lines_on n count (drop at s) ≡ instruction_line x ++ lines_on (n + 1) count (drop next s)
+  unfolding instruction_lines
   instructions-on {next} {x} l h =
-      ap (λ d. instructionLines d.items) (on-here count s at l h)
-      ∙ ap (λ n. instructionLine x ++ linesOn n count (drop next s)) (sym (add-one n))
+      ap (λ d. instruction_lines d.items) (on-here count s at l h)
+      ∙ ap (λ n. instruction_line x ++ lines_on n count (drop next s)) (sym (add-one n))
 
-  pub instructions-torn : {r : NextInstruction} {k : ℕ} → n < 612 → asNext r ≡ instructionAt count s at → r ≡ NextInstruction.Refused k
-      → linesOn n count (drop at s) ≡ []
-  unfolding instructionLines
+  pub instructions-torn : {r : NextInstruction} {k : ℕ} → n < 612 → as_next r ≡ instruction_at count s at → r ≡ NextInstruction.Refused k
+      → lines_on n count (drop at s) ≡ []
+  unfolding instruction_lines
   instructions-torn l e f =
-      either (ltb at (length s))
-      (λ t. ap (λ d. instructionLines d.items) (on-done count s at l (torn-instruction count s at e f (ltb-true at (length s) t))))
-      (λ t. ap (λ d. instructionLines d.items) (on-end count s at n (ended (instructionFrom count) s at (ltb-false at (length s) t))))
+      Either (ltb at (length s))
+      (λ t. ap (λ d. instruction_lines d.items) (on-done count s at l (torn-instruction count s at e f (ltb-true at (length s) t))))
+      (λ t. ap (λ d. instruction_lines d.items) (on-end count s at n (ended (instruction_from count) s at (ltb-false at (length s) t))))
 
-  pub instructions-all : 612 ≤ n → linesOn n count (drop at s) ≡ []
-  unfolding instructionLines
+  pub instructions-all : 612 ≤ n → lines_on n count (drop at s) ≡ []
+  unfolding instruction_lines
   instructions-all h =
       let z : 612 - n ≡ 0 = omega (arith, h) in
-      let d = decoded (instructionFrom count) (drop at s) in
+      let d = decoded (instruction_from count) (drop at s) in
       let l = length_cut 0 d in
-      ap (λ k. instructionLines (cut k d).items) z ∙ ap instructionLines (no_item (cut 0 d).items l)
+      ap (λ k. instruction_lines (cut k d).items) z ∙ ap instruction_lines (no_item (cut 0 d).items l)
 
 -- what was counted, and what stands behind a position, are the whole
 pub record Counted (count : ℕ) (s : List ℕ) (first at n : ℕ) : Type 0 where
   pub few : n ≤ 612
-  pub many : n + length (instructionsOn n count (drop at s)).items ≡ length (instructions count (drop first s)).items
-  pub fault : (instructionsOn n count (drop at s)).fault ≡ (instructions count (drop first s)).fault
+  pub many : n + length (instructions_on n count (drop at s)).items ≡ length (instructions count (drop first s)).items
+  pub fault : (instructions_on n count (drop at s)).fault ≡ (instructions count (drop first s)).fault
 
 module _ {count : ℕ} {s : List ℕ} {first at n : ℕ} (c : Counted count s first at n) where
-  pub counts-on : {next : ℕ} {x : Instruction} → n < 612 → Here (instructionFrom count) s at x next → Counted count s first next (n + 1)
+  pub counts-on : {next : ℕ} {x : Instruction} → n < 612 → Here (instruction_from count) s at x next → Counted count s first next (n + 1)
   counts-on {next} l h =
       let e = on-here count s at l h in
       let k = ap (λ d. length d.items) e in
@@ -100,8 +100,8 @@ module _ {count : ℕ} {s : List ℕ} {first at n : ℕ} (c : Counted count s fi
       subst (Counted count s first next) (sym (add-one n))
       (record { few = omega (arith, l); many = omega (arith, k, a); fault = sym (ap (λ d. d.fault) e) ∙ c.fault })
 
-  pub counts_end : {k : ℕ} → instructionsOn n count (drop at s) ≡ nothing k
-      → ◌≡◌ {A = Seen} (record { number = k; index = n }) (seenOf (instructions count (drop first s)))
+  pub counts_end : {k : ℕ} → instructions_on n count (drop at s) ≡ nothing k
+      → ◌≡◌ {A = Seen} (record { number = k; index = n }) (seen_of (instructions count (drop first s)))
   counts_end {k} e =
       let p = sym (ap (λ d. d.fault) e) ∙ c.fault in
       let z = ap (λ d. length d.items) e in
@@ -111,34 +111,34 @@ module _ {count : ℕ} {s : List ℕ} {first at n : ℕ} (c : Counted count s fi
 
 -- the three texts, as the code comes to them
 module _ (sheet : List ℕ) (u : Setup) (e : u ≡ setup sheet) where
-  pub unset : (u.number ≡ 0 → ⊥) → refusalLine 8 0 ≡ printedText sheet
-  unfolding printedText
+  pub unset : (u.number ≡ 0 → ⊥) → refusal_line 8 0 ≡ printed_text sheet
+  unfolding printed_text
   unset h =
-      sym (ap (λ b. cond b (cond (eqb (ofSetup sheet (setup sheet)).fault 0) (sheetText sheet) (refusalLine (ofSetup sheet (setup sheet)).fault (length (ofSetup sheet (setup sheet)).items))) (refusalLine 8 0))
+      sym (ap (λ b. cond b (cond (eqb (of_setup sheet (setup sheet)).fault 0) (sheet_text sheet) (refusal_line (of_setup sheet (setup sheet)).fault (length (of_setup sheet (setup sheet)).items))) (refusal_line 8 0))
       (ne_eqb (setup sheet).number 0 (λ z. h (ap (λ u. u.number) e ∙ z))))
 
-  module _ (h : u.number ≡ 0) {number index : ℕ} (n : number ≡ (ofSetup sheet u).fault) (i : index ≡ length (ofSetup sheet u).items) where
+  module _ (h : u.number ≡ 0) {number index : ℕ} (n : number ≡ (of_setup sheet u).fault) (i : index ≡ length (of_setup sheet u).items) where
     set : eqb (setup sheet).number 0 ≡ true
     set = eq-eqb (setup sheet).number 0 (sym (ap (λ u. u.number) e) ∙ h)
 
-    pub refused : (number ≡ 0 → ⊥) → refusalLine number index ≡ printedText sheet
-    unfolding printedText
+    pub refused : (number ≡ 0 → ⊥) → refusal_line number index ≡ printed_text sheet
+    unfolding printed_text
     refused k =
-        let f = n ∙ ap (λ u. (ofSetup sheet u).fault) e in
-        let g = i ∙ ap (λ u. length (ofSetup sheet u).items) e in
-        (λ x. refusalLine (f x) (g x))
-        ∙ sym (ap (λ b. cond b (cond (eqb (ofSetup sheet (setup sheet)).fault 0) (sheetText sheet) (refusalLine (ofSetup sheet (setup sheet)).fault (length (ofSetup sheet (setup sheet)).items))) (refusalLine 8 0)) set
-        ∙ ap (λ b. cond b (sheetText sheet) (refusalLine (ofSetup sheet (setup sheet)).fault (length (ofSetup sheet (setup sheet)).items)))
-        (ne_eqb (ofSetup sheet (setup sheet)).fault 0 (λ z. k (f ∙ z))))
+        let f = n ∙ ap (λ u. (of_setup sheet u).fault) e in
+        let g = i ∙ ap (λ u. length (of_setup sheet u).items) e in
+        (λ x. refusal_line (f x) (g x))
+        ∙ sym (ap (λ b. cond b (cond (eqb (of_setup sheet (setup sheet)).fault 0) (sheet_text sheet) (refusal_line (of_setup sheet (setup sheet)).fault (length (of_setup sheet (setup sheet)).items))) (refusal_line 8 0)) set
+        ∙ ap (λ b. cond b (sheet_text sheet) (refusal_line (of_setup sheet (setup sheet)).fault (length (of_setup sheet (setup sheet)).items)))
+        (ne_eqb (of_setup sheet (setup sheet)).fault 0 (λ z. k (f ∙ z))))
 
-    pub printed : number ≡ 0 → lines_of sheet u ≡ printedText sheet
-    unfolding printedText sheetText
+    pub printed : number ≡ 0 → lines_of sheet u ≡ printed_text sheet
+    unfolding printed_text sheet_text
     printed k =
-        let f = n ∙ ap (λ u. (ofSetup sheet u).fault) e in
+        let f = n ∙ ap (λ u. (of_setup sheet u).fault) e in
         ap (lines_of sheet) e
-        ∙ sym (ap (λ b. cond b (cond (eqb (ofSetup sheet (setup sheet)).fault 0) (sheetText sheet) (refusalLine (ofSetup sheet (setup sheet)).fault (length (ofSetup sheet (setup sheet)).items))) (refusalLine 8 0)) set
-        ∙ ap (λ b. cond b (sheetText sheet) (refusalLine (ofSetup sheet (setup sheet)).fault (length (ofSetup sheet (setup sheet)).items)))
-        (eq-eqb (ofSetup sheet (setup sheet)).fault 0 (sym f ∙ k)))
+        ∙ sym (ap (λ b. cond b (cond (eqb (of_setup sheet (setup sheet)).fault 0) (sheet_text sheet) (refusal_line (of_setup sheet (setup sheet)).fault (length (of_setup sheet (setup sheet)).items))) (refusal_line 8 0)) set
+        ∙ ap (λ b. cond b (sheet_text sheet) (refusal_line (of_setup sheet (setup sheet)).fault (length (of_setup sheet (setup sheet)).items)))
+        (eq-eqb (of_setup sheet (setup sheet)).fault 0 (sym f ∙ k)))
 
   -- what is known of a sheet that is set up
   pub few : u.number ≡ 0 → u.count ≤ 251

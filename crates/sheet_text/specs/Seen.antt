@@ -4,5 +4,5 @@ use Rattle.mir.specs.declared.records.Instruction.{Instruction}
 use Rattle.mir.specs.Decode.{Decoded}
 use Rattle.sheet_text.specs.declared.printing.Seen.{Seen}
 
-abbrev pub seenOf : Decoded Instruction → Seen
-seenOf d = record { number = d.fault; index = length d.items }
+abbrev pub seen_of : Decoded Instruction → Seen
+seen_of d = record { number = d.fault; index = length d.items }

@@ -2,7 +2,7 @@
 // and each instruction; or the refusal.
 ghost use Rattle.std.specs.Prelude.{◌≤◌, length};
 ghost use Rattle.text.specs.Puts.{Puts};
-ghost use Rattle.assembly.specs.SheetText.{printedText};
+ghost use Rattle.assembly.specs.SheetText.{printed_text};
 
 mod printing;
 
@@ -14,7 +14,7 @@ use text::put::put_line;
 // The text for a sheet, and its length. A line has at most 80 bytes: one for the mode, 512 places, 251 constants and 612 instructions.
 fn put_sheet(out: &mut [u8], sheet: &[u8]) -> usize
     requires { 110080 ≤ length out.old }
-    ensures { Puts out.old 0 (printedText sheet.now) out.new result }
+    ensures { Puts out.old 0 (printed_text sheet.now) out.new result }
 {
     let s = read_setup(sheet);
     if s.number != 0 {

@@ -1,12 +1,12 @@
 // The text of a sheet, put into lent bytes.
 ghost use Rattle.std.specs.Prelude.{◌+◌, ◌*◌, ◌≤◌, ◌≡◌, [], cond, length, drop};
 ghost use Rattle.text.specs.Line.{Prints};
-ghost use Rattle.sheet.specs.Setup.{constantsOf};
+ghost use Rattle.sheet.specs.Setup.{constants_of};
 ghost use Rattle.sheet.specs.Instruction.{instructions};
 ghost use Rattle.text.specs.Puts.{Puts};
-ghost use Rattle.assembly.specs.Lines.{realLine};
-ghost use Rattle.sheet_text.specs.Seen.{seenOf};
-ghost use Rattle.assembly.specs.SheetText.{realLines, constantLines, instructionLines, lines_of};
+ghost use Rattle.assembly.specs.Lines.{real_line};
+ghost use Rattle.sheet_text.specs.Seen.{seen_of};
+ghost use Rattle.assembly.specs.SheetText.{real_lines, constant_lines, instruction_lines, lines_of};
 
 use assembly::lines::{constant_line, instruction_line, mode_line, real_line};
 use lowering::realness::bit_at;
@@ -17,7 +17,7 @@ use text::put::put_line;
 
 // The line of a place that is recorded as real, or no line.
 fn real_or_none(real: bool, i: u16) -> Line
-    ensures { Prints (cond real (realLine i) []) result }
+    ensures { Prints (cond real (real_line i) []) result }
 {
     if real {
         return real_line(i);
@@ -27,7 +27,7 @@ fn real_or_none(real: bool, i: u16) -> Line
 
 fn put_reals(out: &mut [u8], start: usize, places: [u8; 64]) -> usize
     requires { start + 40960 ≤ length out.old }
-    ensures { (Puts out.old start (realLines places 512 0) out.new result) × (result ≤ start + 40960) }
+    ensures { (Puts out.old start (real_lines places 512 0) out.new result) × (result ≤ start + 40960) }
 {
     let mut at = start;
     let mut i: u16 = 0;
@@ -42,7 +42,7 @@ fn put_reals(out: &mut [u8], start: usize, places: [u8; 64]) -> usize
 
 fn put_constants(out: &mut [u8], start: usize, sheet: &[u8], count: usize) -> usize
     requires { start + 80 * count ≤ length out.old }
-    ensures { (Puts out.old start (constantLines (constantsOf sheet.now count)) out.new result) × (result ≤ start + 80 * count) }
+    ensures { (Puts out.old start (constant_lines (constants_of sheet.now count)) out.new result) × (result ≤ start + 80 * count) }
 {
     let mut at = start;
     let mut i: usize = 0;
@@ -63,7 +63,7 @@ pub(crate) struct Seen {
 
 // The instructions from a position on, up to the first that is refused, or to the one that is too many.
 pub(crate) fn examined(sheet: &[u8], first: usize, count: usize) -> Seen
-    ensures { result ≡ seenOf (instructions count (drop first sheet.now)) }
+    ensures { result ≡ seen_of (instructions count (drop first sheet.now)) }
 {
     let mut at = first;
     let mut n: u64 = 0;
@@ -97,7 +97,7 @@ pub(crate) fn examined(sheet: &[u8], first: usize, count: usize) -> Seen
 // The lines of the instructions from a position on, up to the first that is refused, or to the last that a sheet may have.
 fn put_instructions(out: &mut [u8], start: usize, sheet: &[u8], first: usize, count: usize) -> usize
     requires { start + 48960 ≤ length out.old }
-    ensures { Puts out.old start (instructionLines (instructions count (drop first sheet.now)).items) out.new result }
+    ensures { Puts out.old start (instruction_lines (instructions count (drop first sheet.now)).items) out.new result }
 {
     let mut at = start;
     let mut from = first;

@@ -1,6 +1,6 @@
 // Reads a sheet from standard input and prints how much shelf it will take, or the refusal.
-ghost use Rattle.text.specs.Line.{emptyLine, Adds, Prints};
-ghost use Rattle.shelf.specs.Printed.{figuresText, printed};
+ghost use Rattle.text.specs.Line.{empty_line, Adds, Prints};
+ghost use Rattle.shelf.specs.Printed.{figures_text, printed};
 
 use figures::entry::shelf;
 use files::read_all;
@@ -10,7 +10,7 @@ use text::lines::refused_line;
 
 // Three lines, one for each figure.
 fn figures_text(bytes: u64, constants: u64, records: u64) -> Line
-    ensures { Adds emptyLine (figuresText bytes constants records) result }
+    ensures { Adds empty_line (figures_text bytes constants records) result }
 {
     empty_line()
         .text(b"bytes")

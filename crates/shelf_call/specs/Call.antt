@@ -14,8 +14,8 @@ abbrev pub numbers : Figures → List ℕ
 numbers f = f.number ∷ f.index ∷ f.bytes ∷ f.constants ∷ f.records ∷ []
 
 -- An answer of another length than 40 bytes is refused by 8 with nothing written. Otherwise the call gives what the entry gives.
-unfoldable pub shelfCall : List ℕ → List ℕ → ShelfCall
+unfoldable pub shelf_call : List ℕ → List ℕ → ShelfCall
 unfolding bytes_of
-shelfCall sheet lent =
+shelf_call sheet lent =
     cond (not (eqb (length lent) 40)) (record { number = 8; answer = lent })
     (let f = shelf sheet in record { number = f.number; answer = bytes_of (numbers f) })

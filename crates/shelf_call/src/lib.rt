@@ -1,6 +1,6 @@
 // The entry of `shelf` as a C function.
 ghost use Rattle.std.specs.Prelude.{◌≡◌};
-ghost use Rattle.shelf_call.specs.Call.{shelfCall};
+ghost use Rattle.shelf_call.specs.Call.{shelf_call};
 
 use figures::entry::shelf;
 use words::save;
@@ -8,7 +8,7 @@ use words::save;
 // The figures of a sheet. The answer's 40 bytes: number, index, bytes, constants, records. Returns the number.
 #[unsafe(no_mangle)]
 pub extern "C" fn tulipcricket_shelf_unguarded(sheet: &[u8], answer: &mut [u8]) -> u32
-    ensures { record { number = result; answer = answer.new } ≡ shelfCall sheet.now answer.old }
+    ensures { record { number = result; answer = answer.new } ≡ shelf_call sheet.now answer.old }
 {
     if answer.len() != 40 {
         return 8;

@@ -4,7 +4,7 @@ ghost use Rattle.std.specs.Prelude.{map};
 ghost use Rattle.mir.specs.Encode.{buf};
 ghost use Rattle.mir.specs.Register.{re, im};
 ghost use Rattle.mir.specs.declared.records.Record.{Record};
-ghost use Rattle.lowering.specs.Lines.{stableExponent, stableDivisorScale, scaledDivide, stableDivideLines, stableRecipLines, stableAbsLines};
+ghost use Rattle.lowering.specs.Lines.{stable_exponent, stable_divisor_scale, scaled_divide, stable_divide_lines, stable_recip_lines, stable_abs_lines};
 ghost use Rattle.lines.specs.Parts.{part_of};
 ghost use Rattle.lines.specs.Lists.{Lists};
 
@@ -15,7 +15,7 @@ use mir::registers::TEMP;
 
 // `stable_exponent`
 pub fn stable_exponent(out: &mut [u8], at: usize, x: Part, y: Part, i: u16, j: u16) -> usize
-    ensures { Lists (buf out.old at) (map Record.Work (stableExponent (part_of x) (part_of y) i j)) (buf out.new result) }
+    ensures { Lists (buf out.old at) (map Record.Work (stable_exponent (part_of x) (part_of y) i j)) (buf out.new result) }
 {
     let at = uni(out, at, UniOp::Abs, T0, x);
     let at = uni(out, at, UniOp::Half, T0, T0);
@@ -38,7 +38,7 @@ pub fn stable_divisor_scale(
     j: u16,
     q: u16,
 ) -> usize
-    ensures { Lists (buf out.old at) (map Record.Work (stableDivisorScale (part_of x) (part_of y) i j q)) (buf out.new result) }
+    ensures { Lists (buf out.old at) (map Record.Work (stable_divisor_scale (part_of x) (part_of y) i j q)) (buf out.new result) }
 {
     let at = stable_exponent(out, at, x, y, i, j);
     let at = bi(out, at, BinOp::Xor, T0, T0, T1);
@@ -48,7 +48,7 @@ pub fn stable_divisor_scale(
 
 // `stable_divide` behind the scale: the scaled dividend stands in the halves of n, the divisor in those of m
 fn scaled_divide(out: &mut [u8], at: usize, x: bool, d: u8, a: u8, b: u8, n: u8, m: u8) -> usize
-    ensures { Lists (buf out.old at) (map Record.Work (scaledDivide x d a b (re n) (im n) (re m) (im m))) (buf out.new result) }
+    ensures { Lists (buf out.old at) (map Record.Work (scaled_divide x d a b (re n) (im n) (re m) (im m))) (buf out.new result) }
 {
     if x {
         let at = bi(out, at, BinOp::Times, Part::Re(n), Part::Re(a), T0);
@@ -82,7 +82,7 @@ pub fn stable_divide_lines(
     j: u16,
     q: u16,
 ) -> usize
-    ensures { Lists (buf out.old at) (map Record.Work (stableDivideLines general x d a b i j q)) (buf out.new result) }
+    ensures { Lists (buf out.old at) (map Record.Work (stable_divide_lines general x d a b i j q)) (buf out.new result) }
 {
     let at = stable_divisor_scale(out, at, Part::Re(b), Part::Im(b), i, j, q);
     if general {
@@ -93,7 +93,7 @@ pub fn stable_divide_lines(
 
 // `stable_recip`
 pub fn stable_recip_lines(out: &mut [u8], at: usize, d: u8, a: u8, i: u16, j: u16, q: u16) -> usize
-    ensures { Lists (buf out.old at) (map Record.Work (stableRecipLines d a i j q)) (buf out.new result) }
+    ensures { Lists (buf out.old at) (map Record.Work (stable_recip_lines d a i j q)) (buf out.new result) }
 {
     let at = stable_divisor_scale(out, at, Part::Re(a), Part::Im(a), i, j, q);
     let at = bi(out, at, BinOp::Times, TEMP_RE, Part::Re(a), T0);
@@ -109,7 +109,7 @@ pub fn stable_recip_lines(out: &mut [u8], at: usize, d: u8, a: u8, i: u16, j: u1
 
 // `stable_abs`
 pub fn stable_abs_lines(out: &mut [u8], at: usize, d: u8, a: u8, i: u16, j: u16, q: u16) -> usize
-    ensures { Lists (buf out.old at) (map Record.Work (stableAbsLines d a i j q)) (buf out.new result) }
+    ensures { Lists (buf out.old at) (map Record.Work (stable_abs_lines d a i j q)) (buf out.new result) }
 {
     let at = stable_exponent(out, at, Part::Re(a), Part::Im(a), i, j);
     let at = load_const(out, at, T1, q);

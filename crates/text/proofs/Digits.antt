@@ -10,21 +10,21 @@ use lib.ListN.{length, take, drop, set, length-drop, length-set}
 use lib.Seq.{take_all, drop-cons, get_or-set_same, drop-set-lt}
 use Rattle.text.specs.declared.line.Line.{Line}
 use Rattle.text.specs.Line.{Adds, ◌▹◌}
-use Rattle.text.specs.Text.{hexIn, decimalIn}
+use Rattle.text.specs.Text.{hex_in, decimal_in}
 
 -- n without its last b hexadecimal digits
 abbrev pub without : ℕ → ℕ → ℕ
 without zero n = n
 without (suc b) n = without b (n / 16)
 
-hexIn-add : (a b n : ℕ) → hexIn (b + a) n ≡ hexIn a (without b n) ++ hexIn b n
-unfolding hexIn
-hexIn-add a zero n = rw (zero-add a, append-nil (hexIn a n))
-hexIn-add a (suc b) n = rw (suc-add b a, hexIn-add a b (n / 16), append_assoc)
+hex_in_add : (a b n : ℕ) → hex_in (b + a) n ≡ hex_in a (without b n) ++ hex_in b n
+unfolding hex_in
+hex_in_add a zero n = rw (zero-add a, append-nil (hex_in a n))
+hex_in_add a (suc b) n = rw (suc-add b a, hex_in_add a b (n / 16), append_assoc)
 
 -- the digits of the upper half and then those of the lower
-pub halves : {l m r : Line} (b n k : ℕ) → without b n ≡ k → Adds l (hexIn b k) m → Adds m (hexIn b n) r → Adds l (hexIn (b + b) n) r
-halves b n k e p q = rw (hexIn-add b b n, e) (p ▹ q)
+pub halves : {l m r : Line} (b n k : ℕ) → without b n ≡ k → Adds l (hex_in b k) m → Adds m (hex_in b n) r → Adds l (hex_in (b + b) n) r
+halves b n k e p q = rw (hex_in_add b b n, e) (p ▹ q)
 
 drop-set : (d : List ℕ) (i v : ℕ) → i < length d → drop i (set d i v) ≡ v ∷ drop (suc i) d
 drop-set d i v h =
@@ -33,8 +33,8 @@ drop-set d i v h =
 
 -- one digit more is found
 pub found : (d : List ℕ) (at n : ℕ) → 0 < at → 10 ≤ n → at < length d
-    → decimalIn (at - 1) (n / 10) ++ drop (at - 1 + 1) (set d at (48 + n % 10)) ≡ decimalIn at n ++ drop (at + 1) d
-unfolding decimalIn
+    → decimal_in (at - 1) (n / 10) ++ drop (at - 1 + 1) (set d at (48 + n % 10)) ≡ decimal_in at n ++ drop (at + 1) d
+unfolding decimal_in
 found d zero n h t w = absurd (omega arith)
 found d (suc k) n h t w =
     let e : suc k - 1 ≡ k = omega arith in
@@ -42,8 +42,8 @@ found d (suc k) n h t w =
 
 -- the first digit is found
 first : (d : List ℕ) (at n : ℕ) → (0 < at → n < 10) → at < length d
-    → drop at (set d at (48 + n % 10)) ≡ decimalIn at n ++ drop (at + 1) d
-unfolding decimalIn
+    → drop at (set d at (48 + n % 10)) ≡ decimal_in at n ++ drop (at + 1) d
+unfolding decimal_in
 first d zero n h w = drop-set d zero (48 + n % 10) w
 first d (suc k) n h w =
     let t : n < 10 = h (omega arith) in
@@ -51,6 +51,6 @@ first d (suc k) n h w =
     rw (add-one (suc k), drop-set d (suc k) (48 + n % 10) w, lt-ltb n 10 t, e)
 
 pub all : (d : List ℕ) (at n : ℕ) → (0 < at → n < 10) → at < 20 → length d ≡ 20
-    → take (20 - at) (drop at (set d at (48 + n % 10))) ≡ decimalIn at n ++ drop (at + 1) d
+    → take (20 - at) (drop at (set d at (48 + n % 10))) ≡ decimal_in at n ++ drop (at + 1) d
 all d at n h w e =
     take_all (20 - at) (drop at (set d at (48 + n % 10))) (simp (length-drop, length-set) (omega arith)) ∙ first d at n h (omega arith)

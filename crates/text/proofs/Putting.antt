@@ -8,20 +8,20 @@ use lib.ListN.{length, take, length-append}
 use lib.Seq.{sets, length-sets, take_all}
 use Rattle.words.specs.Bytes.{stored}
 use Rattle.words.proofs.Lengths.{sets-append}
-use Rattle.words.proofs.Stored.{stored-fits}
+use Rattle.words.proofs.Stored.{stored_fits}
 use Rattle.mir.specs.Encode.{buf, placed}
-use Rattle.mir.proofs.Placing.{placed-fits, placed-full}
+use Rattle.mir.proofs.Placing.{placed_fits, placed_full}
 use Rattle.text.specs.declared.line.Line.{Line}
 use Rattle.text.specs.Line.{Prints}
-use Rattle.text.specs.Puts.{Puts, lineText}
+use Rattle.text.specs.Puts.{Puts, line_text}
 
 -- what the code puts is what is placed
 module _ (o : List ℕ) (at : ℕ) (s : List ℕ) where
   pub stays : length o < at + length s → buf o at ≡ placed (buf o at) s
-  stays h = sym (placed-full o at s h)
+  stays h = sym (placed_full o at s h)
 
   pub goes : {o' : List ℕ} → o' ≡ stored o at s → at + length s ≤ length o → buf o' (at + length s) ≡ placed (buf o at) s
-  goes e h = ap (λ x. buf x (at + length s)) (e ∙ stored-fits o at s h) ∙ sym (placed-fits o at s h)
+  goes e h = ap (λ x. buf x (at + length s)) (e ∙ stored_fits o at s h) ∙ sym (placed_fits o at s h)
 
 pub all_of : (o : List ℕ) (at n : ℕ) (s : List ℕ) {o' : List ℕ} {r : ℕ} → length s ≤ n → buf o' r ≡ placed (buf o at) s
     → buf o' r ≡ placed (buf o at) (take n s)
@@ -34,7 +34,7 @@ some_of o at n s e = e ∙ ap (λ k. placed (buf o at) (take k s)) (sub-zero n)
 -- placed with room for all of it
 pub putting : {o o' text : List ℕ} {at r : ℕ} → at + length text ≤ length o → buf o' r ≡ placed (buf o at) text → Puts o at text o' r
 putting {o} {o'} {text} {at} {r} h e =
-    let f = e ∙ placed-fits o at text h in
+    let f = e ∙ placed_fits o at text h in
     let same : o' ≡ sets o at text = cc in
     let ends : r ≡ at + length text = cc in
     let n = ap length same ∙ length-sets o at text in
@@ -75,13 +75,13 @@ module _ {text : List ℕ} {l : Line} (p : Prints text l) where
   pub whole-fits : l.len ≤ length l.bytes
   whole-fits = let n = p.whole.size in let f = p.whole.fits in omega (arith, n, f)
 
-  own : lineText l ≡ text
+  own : line_text l ≡ text
   own = ap (λ n. take n l.bytes) p.whole.count ∙ p.whole.bytes
 
-  pub printing : {o o' : List ℕ} {at r : ℕ} → Puts o at (lineText l) o' r → Puts o at text o' r
+  pub printing : {o o' : List ℕ} {at r : ℕ} → Puts o at (line_text l) o' r → Puts o at text o' r
   printing q = renamed own q
 
-  pub line-put : {o o' : List ℕ} {at r : ℕ} → at + l.len ≤ length o → buf o' r ≡ placed (buf o at) (lineText l) → Puts o at text o' r
+  pub line-put : {o o' : List ℕ} {at r : ℕ} → at + l.len ≤ length o → buf o' r ≡ placed (buf o at) (line_text l) → Puts o at text o' r
   line-put h e = let n = ap length own in printing (putting (omega (arith, n, p.whole.count, h)) e)
 
 -- what a loop keeps: with the rest put behind what stands, the whole text stands

@@ -9,7 +9,7 @@ use lib.Dec.{lit≤}
 use lib.ListN.{length, length-append, length-set}
 use lib.Seq.{take-suc-set}
 use Rattle.text.specs.declared.line.Line.{Line}
-use Rattle.text.specs.Line.{added, addAll, emptyLine, Adds, Holds, Prints}
+use Rattle.text.specs.Line.{added, add_all, empty_line, Adds, Holds, Prints}
 
 one_more : (l : Line) (s : List ℕ) (b : ℕ) → length s < 80 → Holds l s → Holds (added l b) (s ++ b ∷ [])
 unfolding added
@@ -26,16 +26,16 @@ one_more l s b h p =
       bytes = rw (e, p.count, take-suc-set l.bytes (length s) b (omega arith), p.bytes);
     })
 
-further : (l : Line) (s t : List ℕ) → length s + length t ≤ 80 → Holds l s → Holds (addAll l t) (s ++ t)
+further : (l : Line) (s t : List ℕ) → length s + length t ≤ 80 → Holds l s → Holds (add_all l t) (s ++ t)
 further l s [] h p = rw (append-nil s) p
 further l s (b ∷ t) h p =
     let e : length (s ++ b ∷ []) ≡ suc (length s) = length-append s (b ∷ []) ∙ add-one (length s) in
     rw append_assoc at (further (added l b) (s ++ b ∷ []) t (omega arith) (one_more l s b (omega arith) p))
 
-pub whole : (text : List ℕ) → length text ≤ 80 → Holds (addAll emptyLine text) text
-whole text h = further emptyLine [] text (omega arith) (record { size = refl; count = refl; fits = lit≤ tt; bytes = refl })
+pub whole : (text : List ℕ) → length text ≤ 80 → Holds (add_all empty_line text) text
+whole text h = further empty_line [] text (omega arith) (record { size = refl; count = refl; fits = lit≤ tt; bytes = refl })
 
-pub prints : {l m : Line} {text : List ℕ} → l ≡ emptyLine → Adds l text m → length text ≤ 80 → Prints text m
+pub prints : {l m : Line} {text : List ℕ} → l ≡ empty_line → Adds l text m → length text ≤ 80 → Prints text m
 prints {l} {m} {text} e p h =
-    let same : m ≡ addAll emptyLine text = p.same ∙ ap (λ x. addAll x text) e in
+    let same : m ≡ add_all empty_line text = p.same ∙ ap (λ x. add_all x text) e in
     record { same = same; whole = rw same (whole text h) }

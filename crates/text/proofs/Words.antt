@@ -12,23 +12,23 @@ use lib.ListN.{length, drop, get_or, drop_of_length-le}
 use lib.Seq.{drop-cons}
 use Rattle.mir.proofs.Tables.{and_left, and_right}
 use Rattle.text.specs.declared.line.Line.{Line}
-use Rattle.text.specs.Line.{added, addAll, Adds}
+use Rattle.text.specs.Line.{added, add_all, Adds}
 use Rattle.text.specs.Text.{ascii, name_of}
 use Rattle.text.specs.Words.{word_in}
 
 -- no word begins past the end
-pub past_words : (l : Line) (s : List ℕ) (i n : ℕ) → length s ≤ i → addAll l (word_in (drop i s) n) ≡ l
+pub past_words : (l : Line) (s : List ℕ) (i n : ℕ) → length s ≤ i → add_all l (word_in (drop i s) n) ≡ l
 unfolding word_in
 past_words l s i n h = rw (drop_of_length-le s h)
 
 -- the byte at i, where n words end before the one that is looked for
 module _ (l : Line) (s : List ℕ) (i : ℕ) (h : i < length s) where
-  pub byte-before : (n : ℕ) → 0 < n → (get_or s i 0 ≡ 47 → ⊥) → addAll l (word_in (drop (i + 1) s) n) ≡ addAll l (word_in (drop i s) n)
+  pub byte-before : (n : ℕ) → 0 < n → (get_or s i 0 ≡ 47 → ⊥) → add_all l (word_in (drop (i + 1) s) n) ≡ add_all l (word_in (drop i s) n)
   unfolding word_in
   byte-before zero p e = absurd (omega arith)
   byte-before (suc n) p e = rw (add-one i, drop-cons s i 0 h, ne_eqb _ _ e)
 
-  pub end_before : (n : ℕ) → 0 < n → get_or s i 0 ≡ 47 → addAll l (word_in (drop (i + 1) s) (n - 1)) ≡ addAll l (word_in (drop i s) n)
+  pub end_before : (n : ℕ) → 0 < n → get_or s i 0 ≡ 47 → add_all l (word_in (drop (i + 1) s) (n - 1)) ≡ add_all l (word_in (drop i s) n)
   unfolding word_in
   end_before zero p e = absurd (omega arith)
   end_before (suc n) p e =
@@ -36,12 +36,12 @@ module _ (l : Line) (s : List ℕ) (i : ℕ) (h : i < length s) where
       rw (k, add-one i, drop-cons s i 0 h, eq-eqb _ _ e)
 
   pub byte_of : (n : ℕ) → n ≤ 0 → (get_or s i 0 ≡ 47 → ⊥)
-      → addAll (added l (get_or s i 0)) (word_in (drop (i + 1) s) n) ≡ addAll l (word_in (drop i s) n)
+      → add_all (added l (get_or s i 0)) (word_in (drop (i + 1) s) n) ≡ add_all l (word_in (drop i s) n)
   unfolding word_in
   byte_of zero p e = rw (add-one i, drop-cons s i 0 h, ne_eqb _ _ e)
   byte_of (suc n) p e = absurd (omega arith)
 
-  pub end_of : (n : ℕ) → n ≤ 0 → get_or s i 0 ≡ 47 → addAll l (word_in (drop i s) n) ≡ l
+  pub end_of : (n : ℕ) → n ≤ 0 → get_or s i 0 ≡ 47 → add_all l (word_in (drop i s) n) ≡ l
   unfolding word_in
   end_of zero p e = rw (drop-cons s i 0 h, eq-eqb _ _ e)
   end_of (suc n) p e = absurd (omega arith)
@@ -75,15 +75,15 @@ unfolding word_in
 later-word [] s n t = refl
 later-word (b ∷ w) s n t = rw (no_slash (eqb b 47) (plain w) t, later-word w s n (and_right (not (eqb b 47)) (plain w) t))
 
-name-word : (names : List String) → T (all_plain names) → (n : ℕ) → word_in (slashed names) n ≡ name_of names n
+name_word : (names : List String) → T (all_plain names) → (n : ℕ) → word_in (slashed names) n ≡ name_of names n
 unfolding ascii word_in
-name-word [] t n = refl
-name-word (w ∷ ws) t zero = first_word (ascii w) (slashed ws) (and_left (plain (ascii w)) (all_plain ws) t)
-name-word (w ∷ ws) t (suc n) =
+name_word [] t n = refl
+name_word (w ∷ ws) t zero = first_word (ascii w) (slashed ws) (and_left (plain (ascii w)) (all_plain ws) t)
+name_word (w ∷ ws) t (suc n) =
     later-word (ascii w) (slashed ws) n (and_left (plain (ascii w)) (all_plain ws) t)
-    ∙ name-word ws (and_right (plain (ascii w)) (all_plain ws) t) n
+    ∙ name_word ws (and_right (plain (ascii w)) (all_plain ws) t) n
 
 -- the word of a number among a table's names is its name there
 pub by_name : {l r : Line} (names : List String) → T (all_plain names) → {m n : ℕ} → m ≡ n → Adds l (word_in (slashed names) m) r
     → Adds l (name_of names n) r
-by_name {l} {r} names t {m} {n} e p = record { same = p.same ∙ ap (addAll l) (name-word names t m ∙ ap (name_of names) e) }
+by_name {l} {r} names t {m} {n} e p = record { same = p.same ∙ ap (add_all l) (name_word names t m ∙ ap (name_of names) e) }

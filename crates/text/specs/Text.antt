@@ -6,11 +6,11 @@ use Rattle.mir.specs.declared.ops.UniOp.{UniOp}
 use Rattle.mir.specs.declared.ops.BinOp.{BinOp}
 use Rattle.mir.specs.declared.ops.ArithOp.{ArithOp}
 use Rattle.mir.specs.declared.ops.FusedOp.{FusedOp}
-use Rattle.mir.specs.Operation.{uniNumber, binNumber, arithNumber, fusedNumber}
+use Rattle.mir.specs.Operation.{uni_number, bin_number, arith_number, fused_number}
 use Rattle.mir.specs.declared.records.Loc.{Loc}
 use Rattle.mir.specs.declared.records.Work.{Work}
 use Rattle.mir.specs.declared.records.Record.{Record}
-use Rattle.mir.specs.Encode.{flagByte}
+use Rattle.mir.specs.Encode.{flag_byte}
 
 -- the bytes of a quoted text
 unfoldable pub ascii : String → List ℕ
@@ -18,35 +18,35 @@ ascii ε = []
 ascii (c ∷ᶜ s) = code c ∷ ascii s
 
 -- a number in decimal, with as many digits as it has, here at most d + 1
-unfoldable pub decimalIn : ℕ → ℕ → List ℕ
-decimalIn zero n = (48 + n % 10) ∷ []
-decimalIn (suc d) n = cond (ltb n 10) ((48 + n) ∷ []) (decimalIn d (n / 10) ++ (48 + n % 10) ∷ [])
+unfoldable pub decimal_in : ℕ → ℕ → List ℕ
+decimal_in zero n = (48 + n % 10) ∷ []
+decimal_in (suc d) n = cond (ltb n 10) ((48 + n) ∷ []) (decimal_in d (n / 10) ++ (48 + n % 10) ∷ [])
 
 abbrev pub decimal : ℕ → List ℕ
-decimal n = decimalIn 19 n
+decimal n = decimal_in 19 n
 
 -- "16 hexadecimal digits, which are the bits of an f64"
-abbrev pub hexDigit : ℕ → ℕ
-hexDigit n = cond (ltb n 10) (48 + n) (87 + n)
+abbrev pub hex_digit : ℕ → ℕ
+hex_digit n = cond (ltb n 10) (48 + n) (87 + n)
 
-unfoldable pub hexIn : ℕ → ℕ → List ℕ
-hexIn zero n = []
-hexIn (suc d) n = hexIn d (n / 16) ++ hexDigit (n % 16) ∷ []
+unfoldable pub hex_in : ℕ → ℕ → List ℕ
+hex_in zero n = []
+hex_in (suc d) n = hex_in d (n / 16) ++ hex_digit (n % 16) ∷ []
 
 abbrev pub hex : ℕ → List ℕ
-hex w = hexIn 16 w
+hex w = hex_in 16 w
 
 abbrev pub space : List ℕ → List ℕ
 space l = 32 ∷ l
 
 -- "Registers print as Ret, Temp or G and a number"
 unfoldable pub register : ℕ → List ℕ
-unfolding ascii decimalIn
+unfolding ascii decimal_in
 register r = cond (eqb r 64) (ascii "Ret") (cond (eqb r 65) (ascii "Temp") (ascii "G" ++ decimal r))
 
 -- "a place as class and index"
 unfoldable pub place : Loc → List ℕ
-unfolding ascii decimalIn
+unfolding ascii decimal_in
 place (Loc.Stack i) = ascii "Stack" ++ space (decimal i)
 place (Loc.Mem i) = ascii "Mem" ++ space (decimal i)
 place (Loc.Param i) = ascii "Param" ++ space (decimal i)
@@ -56,137 +56,137 @@ abbrev pub name_of : List String → ℕ → List ℕ
 name_of names n = ascii (get_or names n ε)
 
 -- "a kind with operations prints the operation alone": the names in mir.rs, by number
-abbrev pub uniNames : List String
-uniNames =
+abbrev pub uni_names : List String
+uni_names =
     "Neg" ∷ "Not" ∷ "Abs" ∷ "Root" ∷ "RealRoot" ∷ "Recip" ∷ "Round" ∷ "Floor" ∷ "Ceiling" ∷ "Trunc" ∷ "Real" ∷
     "Imaginary" ∷ "Conjugate" ∷ "Half" ∷ "IsZero" ∷ "IsNotZero" ∷ "Sign" ∷ "Abs2" ∷ "TimesI" ∷ "TimesNegI" ∷ []
 
-unfoldable pub uniName : UniOp → List ℕ
+unfoldable pub uni_name : UniOp → List ℕ
 unfolding ascii
-uniName op = name_of uniNames (uniNumber op)
+uni_name op = name_of uni_names (uni_number op)
 
-abbrev pub binNames : List String
-binNames =
+abbrev pub bin_names : List String
+bin_names =
     "Plus" ∷ "Minus" ∷ "Times" ∷ "Divide" ∷ "GreaterThan" ∷ "GreaterThanEqual" ∷ "LittleThan" ∷ "LittleThanEqual" ∷
     "Equal" ∷ "NotEqual" ∷ "And" ∷ "AndNot" ∷ "Or" ∷ "Xor" ∷ "Complex" ∷ []
 
-unfoldable pub binName : BinOp → List ℕ
+unfoldable pub bin_name : BinOp → List ℕ
 unfolding ascii
-binName op = name_of binNames (binNumber op)
+bin_name op = name_of bin_names (bin_number op)
 
-abbrev pub fusedNames : List String
-fusedNames = "MulAdd" ∷ "MulSub" ∷ "NegMulAdd" ∷ "NegMulSub" ∷ []
+abbrev pub fused_names : List String
+fused_names = "MulAdd" ∷ "MulSub" ∷ "NegMulAdd" ∷ "NegMulSub" ∷ []
 
-unfoldable pub fusedName : FusedOp → List ℕ
+unfoldable pub fused_name : FusedOp → List ℕ
 unfolding ascii
-fusedName op = name_of fusedNames (fusedNumber op)
+fused_name op = name_of fused_names (fused_number op)
 
 -- "a ComplexBi with Complex added"
-abbrev pub complexNames : List String
-complexNames = "PlusComplex" ∷ "MinusComplex" ∷ "TimesComplex" ∷ "DivideComplex" ∷ []
+abbrev pub complex_names : List String
+complex_names = "PlusComplex" ∷ "MinusComplex" ∷ "TimesComplex" ∷ "DivideComplex" ∷ []
 
-unfoldable pub complexName : ArithOp → List ℕ
+unfoldable pub complex_name : ArithOp → List ℕ
 unfolding ascii
-complexName op = name_of complexNames (arithNumber op)
+complex_name op = name_of complex_names (arith_number op)
 
 abbrev pub registers : List ℕ → List ℕ
 registers [] = []
 registers (r ∷ rs) = space (register r) ++ registers rs
 
 -- a record's name: "a kind with operations prints the operation alone, a ComplexBi with Complex added", another kind its own
-unfoldable pub workName : Work → List ℕ
-unfolding ascii uniName binName fusedName complexName
-workName (Work.Uni op dst s1) = uniName op
-workName (Work.Bi op dst s1 s2) = binName op
-workName (Work.Mov dst s1) = ascii "Mov"
-workName (Work.Load dst loc) = ascii "Load"
-workName (Work.Save src loc) = ascii "Save"
-workName (Work.LoadConst dst idx) = ascii "LoadConst"
-workName (Work.Fused op dst a b c) = fusedName op
-workName (Work.IfElse dst t f loc) = ascii "IfElse"
-workName (Work.LoadComplex xd yd loc) = ascii "LoadComplex"
-workName (Work.SaveComplex xs ys loc) = ascii "SaveComplex"
-workName (Work.ComplexBi op xd yd x1 y1 x2 y2) = complexName op
+unfoldable pub work_name : Work → List ℕ
+unfolding ascii uni_name bin_name fused_name complex_name
+work_name (Work.Uni op dst s1) = uni_name op
+work_name (Work.Bi op dst s1 s2) = bin_name op
+work_name (Work.Mov dst s1) = ascii "Mov"
+work_name (Work.Load dst loc) = ascii "Load"
+work_name (Work.Save src loc) = ascii "Save"
+work_name (Work.LoadConst dst idx) = ascii "LoadConst"
+work_name (Work.Fused op dst a b c) = fused_name op
+work_name (Work.IfElse dst t f loc) = ascii "IfElse"
+work_name (Work.LoadComplex xd yd loc) = ascii "LoadComplex"
+work_name (Work.SaveComplex xs ys loc) = ascii "SaveComplex"
+work_name (Work.ComplexBi op xd yd x1 y1 x2 y2) = complex_name op
 
-unfoldable pub recordName : Record → List ℕ
-unfolding workName ascii
-recordName (Record.Work w) = workName w
-recordName (Record.Label l) = ascii "Label"
-recordName (Record.Branch l) = ascii "Branch"
-recordName (Record.Call l) = ascii "Call"
-recordName (Record.BranchIf c l e) = ascii "BranchIf"
+unfoldable pub record_name : Record → List ℕ
+unfolding work_name ascii
+record_name (Record.Work w) = work_name w
+record_name (Record.Label l) = ascii "Label"
+record_name (Record.Branch l) = ascii "Branch"
+record_name (Record.Call l) = ascii "Call"
+record_name (Record.BranchIf c l e) = ascii "BranchIf"
 
 -- "labels by number, [..] fields in order": a space between each and the next
-unfoldable pub workOperands : Work → List ℕ
-unfolding decimalIn register place
-workOperands (Work.Uni op dst s1) = register dst ++ registers (s1 ∷ [])
-workOperands (Work.Bi op dst s1 s2) = register dst ++ registers (s1 ∷ s2 ∷ [])
-workOperands (Work.Mov dst s1) = register dst ++ registers (s1 ∷ [])
-workOperands (Work.Load dst loc) = register dst ++ space (place loc)
-workOperands (Work.Save src loc) = register src ++ space (place loc)
-workOperands (Work.LoadConst dst idx) = register dst ++ space (decimal idx)
-workOperands (Work.Fused op dst a b c) = register dst ++ registers (a ∷ b ∷ c ∷ [])
-workOperands (Work.IfElse dst t f loc) = register dst ++ registers (t ∷ f ∷ []) ++ space (place loc)
-workOperands (Work.LoadComplex xd yd loc) = register xd ++ registers (yd ∷ []) ++ space (place loc)
-workOperands (Work.SaveComplex xs ys loc) = register xs ++ registers (ys ∷ []) ++ space (place loc)
-workOperands (Work.ComplexBi op xd yd x1 y1 x2 y2) = register xd ++ registers (yd ∷ x1 ∷ y1 ∷ x2 ∷ y2 ∷ [])
+unfoldable pub work_operands : Work → List ℕ
+unfolding decimal_in register place
+work_operands (Work.Uni op dst s1) = register dst ++ registers (s1 ∷ [])
+work_operands (Work.Bi op dst s1 s2) = register dst ++ registers (s1 ∷ s2 ∷ [])
+work_operands (Work.Mov dst s1) = register dst ++ registers (s1 ∷ [])
+work_operands (Work.Load dst loc) = register dst ++ space (place loc)
+work_operands (Work.Save src loc) = register src ++ space (place loc)
+work_operands (Work.LoadConst dst idx) = register dst ++ space (decimal idx)
+work_operands (Work.Fused op dst a b c) = register dst ++ registers (a ∷ b ∷ c ∷ [])
+work_operands (Work.IfElse dst t f loc) = register dst ++ registers (t ∷ f ∷ []) ++ space (place loc)
+work_operands (Work.LoadComplex xd yd loc) = register xd ++ registers (yd ∷ []) ++ space (place loc)
+work_operands (Work.SaveComplex xs ys loc) = register xs ++ registers (ys ∷ []) ++ space (place loc)
+work_operands (Work.ComplexBi op xd yd x1 y1 x2 y2) = register xd ++ registers (yd ∷ x1 ∷ y1 ∷ x2 ∷ y2 ∷ [])
 
-unfoldable pub recordOperands : Record → List ℕ
-unfolding workOperands decimalIn register
-recordOperands (Record.Work w) = workOperands w
-recordOperands (Record.Label l) = decimal l
-recordOperands (Record.Branch l) = decimal l
-recordOperands (Record.Call l) = decimal l
-recordOperands (Record.BranchIf c l e) = register c ++ space (decimal l) ++ space (decimal (flagByte e))
+unfoldable pub record_operands : Record → List ℕ
+unfolding work_operands decimal_in register
+record_operands (Record.Work w) = work_operands w
+record_operands (Record.Label l) = decimal l
+record_operands (Record.Branch l) = decimal l
+record_operands (Record.Call l) = decimal l
+record_operands (Record.BranchIf c l e) = register c ++ space (decimal l) ++ space (decimal (flag_byte e))
 
 -- its name, and its operands behind a space
-unfoldable pub recordText : Record → List ℕ
-unfolding recordName recordOperands
-recordText r = recordName r ++ space (recordOperands r)
+unfoldable pub record_text : Record → List ℕ
+unfolding record_name record_operands
+record_text r = record_name r ++ space (record_operands r)
 
 -- a line ends with a line feed
 abbrev pub line : List ℕ → List ℕ
 line l = l ++ 10 ∷ []
 
 -- "constants (count, then index and bits)"
-unfoldable pub constantsHeading : ℕ → List ℕ
-unfolding ascii decimalIn
-constantsHeading count = line (ascii "constants" ++ space (decimal count))
+unfoldable pub constants_heading : ℕ → List ℕ
+unfolding ascii decimal_in
+constants_heading count = line (ascii "constants" ++ space (decimal count))
 
-unfoldable pub constantLine : ℕ → ℕ → List ℕ
-unfolding decimalIn hexIn
-constantLine index word = line (decimal index ++ space (hex word))
+unfoldable pub constant_line : ℕ → ℕ → List ℕ
+unfolding decimal_in hex_in
+constant_line index word = line (decimal index ++ space (hex word))
 
 -- "records and bytes"
-unfoldable pub listingHeading : ℕ → ℕ → List ℕ
-unfolding ascii decimalIn
-listingHeading records bytes = line (ascii "listing" ++ space (decimal records) ++ space (decimal bytes))
+unfoldable pub listing_heading : ℕ → ℕ → List ℕ
+unfolding ascii decimal_in
+listing_heading records bytes = line (ascii "listing" ++ space (decimal records) ++ space (decimal bytes))
 
-unfoldable pub recordLine : Record → List ℕ
-unfolding recordText
-recordLine r = line (recordText r)
+unfoldable pub record_line : Record → List ℕ
+unfolding record_text
+record_line r = line (record_text r)
 
 -- "A refusal prints only `refused`, its number and index."
-unfoldable pub refusedLine : ℕ → ℕ → List ℕ
-unfolding ascii decimalIn
-refusedLine number index = line (ascii "refused" ++ space (decimal number) ++ space (decimal index))
+unfoldable pub refused_line : ℕ → ℕ → List ℕ
+unfolding ascii decimal_in
+refused_line number index = line (ascii "refused" ++ space (decimal number) ++ space (decimal index))
 
 -- a table of constants from an index on, and records, line by line
-unfoldable pub constantLines : ℕ → List ℕ → List ℕ
-unfolding constantLine
-constantLines index [] = []
-constantLines index (w ∷ ws) = constantLine index w ++ constantLines (suc index) ws
+unfoldable pub constant_lines : ℕ → List ℕ → List ℕ
+unfolding constant_line
+constant_lines index [] = []
+constant_lines index (w ∷ ws) = constant_line index w ++ constant_lines (suc index) ws
 
-unfoldable pub recordLines : List Record → List ℕ
-unfolding recordLine
-recordLines [] = []
-recordLines (r ∷ rs) = recordLine r ++ recordLines rs
+unfoldable pub record_lines : List Record → List ℕ
+unfolding record_line
+record_lines [] = []
+record_lines (r ∷ rs) = record_line r ++ record_lines rs
 
 -- the whole page of an accepted sheet: its constants, and its listing's records and bytes
 unfoldable pub page : List ℕ → List Record → ℕ → List ℕ
-unfolding constantsHeading constantLines listingHeading recordLines
+unfolding constants_heading constant_lines listing_heading record_lines
 page constants records bytes =
-    constantsHeading (length constants)
-    ++ constantLines 0 constants
-    ++ listingHeading (length records) bytes
-    ++ recordLines records
+    constants_heading (length constants)
+    ++ constant_lines 0 constants
+    ++ listing_heading (length records) bytes
+    ++ record_lines records

@@ -1,7 +1,7 @@
 // A line of text, byte by byte. A full line takes no further byte.
 ghost use Rattle.std.specs.Prelude.{◌≡◌, [], ◌∷◌};
-ghost use Rattle.text.specs.Line.{emptyLine, Adds};
-ghost use Rattle.text.specs.Text.{decimal, hexIn, hex};
+ghost use Rattle.text.specs.Line.{empty_line, Adds};
+ghost use Rattle.text.specs.Text.{decimal, hex_in, hex};
 ghost use Rattle.text.specs.Words.{word_in};
 
 #[derive(Drop)]
@@ -11,7 +11,7 @@ pub struct Line {
 }
 
 pub fn empty_line() -> Line
-    ensures { result ≡ emptyLine }
+    ensures { result ≡ empty_line }
 {
     let bytes = [0u8; 80];
     Line {
@@ -93,7 +93,7 @@ impl Line {
 
     // A hexadecimal digit: the last of n.
     fn hex1(self, n: u64) -> Line
-        ensures { Adds self (hexIn 1 n) result }
+        ensures { Adds self (hex_in 1 n) result }
     {
         let d = (n % 16) as u8;
         if d < 10 {
@@ -103,19 +103,19 @@ impl Line {
     }
 
     fn hex2(self, n: u64) -> Line
-        ensures { Adds self (hexIn 2 n) result }
+        ensures { Adds self (hex_in 2 n) result }
     {
         self.hex1(n / 16).hex1(n)
     }
 
     fn hex4(self, n: u64) -> Line
-        ensures { Adds self (hexIn 4 n) result }
+        ensures { Adds self (hex_in 4 n) result }
     {
         self.hex2(n / 0x100).hex2(n)
     }
 
     fn hex8(self, n: u64) -> Line
-        ensures { Adds self (hexIn 8 n) result }
+        ensures { Adds self (hex_in 8 n) result }
     {
         self.hex4(n / 0x1_0000).hex4(n)
     }

@@ -3,7 +3,7 @@ ghost use Rattle.std.specs.Prelude.{◌*◌, ◌≤◌, length};
 ghost use Rattle.mir.specs.Encode.{encode};
 ghost use Rattle.text.specs.Line.{Adds, Prints};
 ghost use Rattle.text.specs.Sized.{SizedWork, SizedRecord};
-ghost use Rattle.text.specs.Text.{workName, recordName, workOperands, recordOperands, constantsHeading, constantLine, listingHeading, recordLine, refusedLine};
+ghost use Rattle.text.specs.Text.{work_name, record_name, work_operands, record_operands, constants_heading, constant_line, listing_heading, record_line, refused_line};
 
 use super::line::{Line, empty_line};
 use mir::records::{Record, Work};
@@ -11,7 +11,7 @@ use mir::writer::flag_byte;
 
 impl Line {
     fn work_name(self, work: Work) -> Line
-        ensures { Adds self (workName work) result }
+        ensures { Adds self (work_name work) result }
     {
         match work {
             Work::Uni { op, .. } => self.uni_name(op),
@@ -29,7 +29,7 @@ impl Line {
     }
 
     pub fn record_name(self, record: Record) -> Line
-        ensures { Adds self (recordName «record») result }
+        ensures { Adds self (record_name «record») result }
     {
         match record {
             Record::Work(work) => self.work_name(work),
@@ -41,7 +41,7 @@ impl Line {
     }
 
     fn work_operands(self, work: Work) -> Line
-        ensures { (Adds self (workOperands work) result) × SizedWork work }
+        ensures { (Adds self (work_operands work) result) × SizedWork work }
     {
         match work {
             Work::Uni { op, dst, s1 } => self.register(dst).registers(&[s1]),
@@ -75,7 +75,7 @@ impl Line {
     }
 
     pub fn record_operands(self, record: Record) -> Line
-        ensures { (Adds self (recordOperands «record») result) × SizedRecord «record» }
+        ensures { (Adds self (record_operands «record») result) × SizedRecord «record» }
     {
         match record {
             Record::Work(work) => self.work_operands(work),
@@ -95,19 +95,19 @@ impl Line {
 }
 
 pub fn constants_heading(count: u64) -> Line
-    ensures { Prints (constantsHeading count) result }
+    ensures { Prints (constants_heading count) result }
 {
     empty_line().text(b"constants").number(count).byte(b'\n')
 }
 
 pub fn constant_line(index: u64, word: u64) -> Line
-    ensures { Prints (constantLine index word) result }
+    ensures { Prints (constant_line index word) result }
 {
     empty_line().decimal(index).byte(b' ').hex(word).byte(b'\n')
 }
 
 pub fn listing_heading(records: u64, bytes: u64) -> Line
-    ensures { Prints (listingHeading records bytes) result }
+    ensures { Prints (listing_heading records bytes) result }
 {
     empty_line()
         .text(b"listing")
@@ -118,7 +118,7 @@ pub fn listing_heading(records: u64, bytes: u64) -> Line
 
 // At most five bytes for each byte of the record.
 pub fn record_line(record: Record) -> Line
-    ensures { (Prints (recordLine «record») result) × (result.len ≤ 5 * length (encode «record»)) }
+    ensures { (Prints (record_line «record») result) × (result.len ≤ 5 * length (encode «record»)) }
 {
     empty_line()
         .record_name(record)
@@ -128,7 +128,7 @@ pub fn record_line(record: Record) -> Line
 }
 
 pub fn refused_line(number: u64, index: u64) -> Line
-    ensures { Prints (refusedLine number index) result }
+    ensures { Prints (refused_line number index) result }
 {
     empty_line()
         .text(b"refused")

@@ -1,6 +1,6 @@
 // The operations' names, by their numbers.
 ghost use Rattle.text.specs.Line.{Adds};
-ghost use Rattle.text.specs.Text.{uniName, binName, fusedName, complexName};
+ghost use Rattle.text.specs.Text.{uni_name, bin_name, fused_name, complex_name};
 
 use super::line::Line;
 use mir::ops::{
@@ -9,7 +9,7 @@ use mir::ops::{
 
 impl Line {
     pub fn uni_name(self, op: UniOp) -> Line
-        ensures { Adds self (uniName op) result }
+        ensures { Adds self (uni_name op) result }
     {
         self.word_in(
             b"Neg/Not/Abs/Root/RealRoot/Recip/Round/Floor/Ceiling/Trunc/Real/Imaginary/Conjugate/Half/IsZero/IsNotZero/Sign/Abs2/\
@@ -19,7 +19,7 @@ impl Line {
     }
 
     pub fn bin_name(self, op: BinOp) -> Line
-        ensures { Adds self (binName op) result }
+        ensures { Adds self (bin_name op) result }
     {
         self.word_in(
             b"Plus/Minus/Times/Divide/GreaterThan/GreaterThanEqual/LittleThan/LittleThanEqual/Equal/NotEqual/And/AndNot/Or/Xor/\
@@ -29,7 +29,7 @@ impl Line {
     }
 
     pub fn fused_name(self, op: FusedOp) -> Line
-        ensures { Adds self (fusedName op) result }
+        ensures { Adds self (fused_name op) result }
     {
         self.word_in(
             b"MulAdd/MulSub/NegMulAdd/NegMulSub/",
@@ -38,7 +38,7 @@ impl Line {
     }
 
     pub fn complex_name(self, op: ArithOp) -> Line
-        ensures { Adds self (complexName op) result }
+        ensures { Adds self (complex_name op) result }
     {
         self.word_in(
             b"PlusComplex/MinusComplex/TimesComplex/DivideComplex/",

@@ -1,7 +1,7 @@
 // Text put into lent bytes, line by line.
 ghost use Rattle.std.specs.Prelude.{◌≡◌, take};
 ghost use Rattle.mir.specs.Encode.{buf, placed};
-ghost use Rattle.text.specs.Puts.{lineText};
+ghost use Rattle.text.specs.Puts.{line_text};
 
 use super::line::Line;
 use words::put_bytes;
@@ -32,7 +32,7 @@ fn put_first(out: &mut [u8], at: usize, s: &[u8], n: usize) -> usize
 
 // A line's text, likewise.
 pub fn put_line(out: &mut [u8], at: usize, line: Line) -> usize
-    ensures { buf out.new result ≡ placed (buf out.old at) (lineText line) }
+    ensures { buf out.new result ≡ placed (buf out.old at) (line_text line) }
 {
     let bytes = line.bytes;
     put_first(out, at, &bytes, line.len)

@@ -13,19 +13,19 @@ use Rattle.mir.specs.declared.records.Work.{Work}
 use Rattle.mir.specs.declared.records.Record.{Record}
 use Rattle.mir.specs.Register.{im}
 use Rattle.mir.specs.Length.{length_of}
-use Rattle.mir.specs.Operation.{uniOps}
-use Rattle.mir.specs.Field.{u16At, takesKind}
+use Rattle.mir.specs.Operation.{uni_ops}
+use Rattle.mir.specs.Field.{u16_at, takes_kind}
 use Rattle.mir.specs.Decode.{decoded}
 use Rattle.sheet.specs.Setup.{setup}
-use Rattle.sheet.specs.Instruction.{instructionFrom}
-use Rattle.records.specs.Record.{recordFrom}
+use Rattle.sheet.specs.Instruction.{instruction_from}
+use Rattle.records.specs.Record.{record_from}
 use Rattle.assembly.specs.Assembled as Assembled
-use Rattle.assembly.specs.Faults.{lineFault}
+use Rattle.assembly.specs.Faults.{line_fault}
 use Rattle.assembly.specs.Naming.{FaultLaw}
-use Rattle.float.specs.Word.{ifElse}
+use Rattle.float.specs.Word.{if_else}
 use Rattle.float.specs.Mends.{estimate, EightMends}
 use Rattle.float.specs.Laws.{IfElseLaw}
-use Rattle.player_machine.specs.Machine.{Write, ◌≔◌, writes, execs, works, seek, isLabel, block, ticks, play}
+use Rattle.player_machine.specs.Machine.{Write, ◌≔◌, writes, execs, works, seek, is_label, block, ticks, play}
 use Rattle.player_machine.specs.Jumps.{breach}
 use Rattle.player_machine.specs.Answer.{answer}
 use Rattle.player_machine.specs.Refusal as Player
@@ -33,20 +33,20 @@ use Rattle.player_machine.specs.Count.{Bounds}
 use Rattle.player_machine.specs.Step.{follows, written, step, steps, PlaysBySteps}
 use Rattle.player_machine.specs.Draws.{draws, fills, done, Confined}
 use Rattle.lowering.specs.declared.realness.Realness.{Realness}
-use Rattle.lowering.specs.Realness.{fresh, setReg}
+use Rattle.lowering.specs.Realness.{fresh, set_reg}
 use Rattle.lowering.specs.Complexifier as c
 use Rattle.lowering.specs.Complexifier.{State}
-use Rattle.lowering.specs.Rerun.{rerunUni, rerun}
+use Rattle.lowering.specs.Rerun.{rerun_uni, rerun}
 use Rattle.lowering.specs.Elsewhere.{ElsewhereStable}
-use Rattle.lowering.specs.Lower.{lowerFrom, lowerSheet}
+use Rattle.lowering.specs.Lower.{lower_from, lower_sheet}
 use Rattle.leftovers.specs.Leftovers.{Leftover, half, Accepted}
-use Rattle.leftovers.specs.Kept.{Kept, kept-im, Parted}
-use Rattle.leftovers.specs.Examples.{zeros, header, touched, mixing, stableMixing, mindingMixing, clean}
+use Rattle.leftovers.specs.Kept.{Kept, kept_im, Parted}
+use Rattle.leftovers.specs.Examples.{zeros, header, touched, mixing, stable_mixing, minding_mixing, clean}
 use Rattle.entries.specs.Examples.{bytes, words, names, Needed, Minded, Met, JumpedOver}
 use Rattle.entries.specs.Drawn.{NoneDrawn}
-use Rattle.entries.specs.DrawnExamples.{filling, drawing, filledWith, DrawnApart}
+use Rattle.entries.specs.DrawnExamples.{filling, drawing, filled_with, DrawnApart}
 use Rattle.entries.proofs.Entered.{answered}
-use Rattle.entries.proofs.Demand.{entries-demand-3}
+use Rattle.entries.proofs.Demand.{entries_demand-3}
 use Rattle.entries.proofs.Examples.{needed, needed-stable, minded, met}
 use Rattle.entries.proofs.Drawn.{none-drawn}
 use Rattle.entries.proofs.DrawnExamples.{undrawn, drawn-apart}
@@ -55,9 +55,9 @@ use Rattle.tidy.specs.First.{told}
 use Rattle.tidy.specs.Told.{TellsTidy}
 use Rattle.figures.specs.Shelf.{refusal}
 use Rattle.figures.specs.Told.{FiguresReported}
-use Rattle.pages.specs.Pages.{row_line, blankLine, constantRow, pagesFrom}
+use Rattle.pages.specs.Pages.{row_line, blank_line, constant_row, pages_from}
 use Rattle.unprint.specs.Typed.{unfed, unreturned, difference}
-use Rattle.unprint.specs.Unprinted.{Unprinted, accepted, refusedAt, stepped, unprinted}
+use Rattle.unprint.specs.Unprinted.{Unprinted, accepted, refused_at, stepped, unprinted}
 use Rattle.unprint.specs.ReadBack.{ReadBack}
 use Rattle.pages.specs.Uncut.{UncutLaw}
 
@@ -65,29 +65,29 @@ use Rattle.pages.specs.Uncut.{UncutLaw}
 
 -- where the endings differ the condition fails, and where it holds they are alike
 apart : (sheet : List ℕ) (i : ℕ) → Needed sheet i → Met sheet i → ⊥
-apart sheet i n m = n.differs ((entries-demand-3 sheet bytes words names zeros i zeros touched n.given).ending m.unmixed)
+apart sheet i n m = n.differs ((entries_demand-3 sheet bytes words names zeros i zeros touched n.given).ending m.unmixed)
 
-pub met-where-mixing : Met mixing 1 → ⊥
-met-where-mixing m = apart mixing 1 needed m
+pub met_where_mixing : Met mixing 1 → ⊥
+met_where_mixing m = apart mixing 1 needed m
 
-pub needed-where-met : Needed clean 2 → ⊥
-needed-where-met n = apart clean 2 n met
+pub needed_where_met : Needed clean 2 → ⊥
+needed_where_met n = apart clean 2 n met
 
-pub reached-half-jumped-over : JumpedOver mixing 1 1 → ⊥
-reached-half-jumped-over j = met-where-mixing j.met
+pub reached_half_jumped_over : JumpedOver mixing 1 1 → ⊥
+reached_half_jumped_over j = met_where_mixing j.met
 
-pub needed-where-minding : Needed mindingMixing 1 → ⊥
-needed-where-minding n = n.differs minded.alike
+pub needed_where_minding : Needed minding_mixing 1 → ⊥
+needed_where_minding n = n.differs minded.alike
 
-pub minded-where-stable : Minded stableMixing 1 1 → ⊥
-minded-where-stable m = needed-stable.differs m.alike
+pub minded_where_stable : Minded stable_mixing 1 1 → ⊥
+minded_where_stable m = needed-stable.differs m.alike
 
 -- general 0 is complex in the one record and real in the other: its imaginary half would be kept and a leftover
-pub parted-by-two-records : ((ρ π : Realness) → Parted (Kept ρ) (Leftover π)) → ⊥
-parted-by-two-records p =
+pub parted_by_two_records : ((ρ π : Realness) → Parted (Kept ρ) (Leftover π)) → ⊥
+parted_by_two_records p =
     let ρ = fresh (replicate 64 0) in
-    let π = setReg ρ 0 true in
-    (p ρ π).notBoth (im 0) (kept-im 0 (lit< tt) refl) (half 0 (lit< tt) refl)
+    let π = set_reg ρ 0 true in
+    (p ρ π).not_both (im 0) (kept_im 0 (lit< tt) refl) (half 0 (lit< tt) refl)
 
 -- ---- marks
 
@@ -95,21 +95,21 @@ parted-by-two-records p =
 pub none_filled : NoneDrawn (λ a. a.filled) → ⊥
 none_filled law =
     let d = drawn-apart in
-    d.apart ((law drawing bytes words names (filledWith 0) (filledWith 1) d.accepted d.unfilled d.places).places 578 (lit≤ tt))
+    d.apart ((law drawing bytes words names (filled_with 0) (filled_with 1) d.accepted d.unfilled d.places).places 578 (lit≤ tt))
 
-pub apart-where-unmarked : DrawnApart filling (filledWith 0) (filledWith 1) 578 → ⊥
-apart-where-unmarked d =
-    d.apart ((none-drawn filling bytes words names (filledWith 0) (filledWith 1) d.accepted undrawn.unmarked d.places).places 578 (lit≤ tt))
+pub apart_where_unmarked : DrawnApart filling (filled_with 0) (filled_with 1) 578 → ⊥
+apart_where_unmarked d =
+    d.apart ((none-drawn filling bytes words names (filled_with 0) (filled_with 1) d.accepted undrawn.unmarked d.places).places 578 (lit≤ tt))
 
 -- ---- mode 2
 
 -- of a Half of a real register mode 2 lists one line, stable mode two
-realFirst : State
-realFirst = record { real = record { regs = true ∷ []; places = [] }; rootDefined = false; consts = [] }
+real_first : State
+real_first = record { real = record { regs = true ∷ []; places = [] }; is_root_defined = false; consts = [] }
 
-pub stable-everywhere : ElsewhereStable (λ i. false) → ⊥
-unfolding rerun rerunUni c.half realFirst
-stable-everywhere f = differ (ap (λ o. length o.records) (f (Instruction.Uni UniOp.Half 1 0) realFirst refl))
+pub stable_everywhere : ElsewhereStable (λ i. false) → ⊥
+unfolding rerun rerun_uni c.half real_first
+stable_everywhere f = differ (ap (λ o. length o.records) (f (Instruction.Uni UniOp.Half 1 0) real_first refl))
   where
     differ : ◌≡◌ {A = ℕ} 1 2 → ⊥
     differ e = omega arith
@@ -117,9 +117,9 @@ stable-everywhere f = differ (ap (λ o. length o.records) (f (Instruction.Uni Un
 -- ---- what a record draws on and fills
 
 -- LoadComplex writes two words
-pub second-word-not-filled : Confined draws (λ w. take 1 (fills w)) → ⊥
+pub second_word_not_filled : Confined draws (λ w. take 1 (fills w)) → ⊥
 unfolding writes
-second-word-not-filled c = differ (ap length (c.written [] (Work.LoadComplex 0 1 (Loc.Stack 0)) []))
+second_word_not_filled c = differ (ap length (c.written [] (Work.LoadComplex 0 1 (Loc.Stack 0)) []))
   where
     differ : ◌≡◌ {A = ℕ} 2 1 → ⊥
     differ e = omega arith
@@ -129,9 +129,9 @@ value : List Write → ℕ
 value [] = 0
 value (i ≔ v ∷ ws) = v
 
-pub first-word-not-drawn-on : Confined (λ w. drop 1 (draws w)) fills → ⊥
+pub first_word_not_drawn_on : Confined (λ w. drop 1 (draws w)) fills → ⊥
 unfolding writes value
-first-word-not-drawn-on c = differ (ap value (c.depends [] (Work.Mov 0 1) [] (0 ∷ 5 ∷ []) done))
+first_word_not_drawn_on c = differ (ap value (c.depends [] (Work.Mov 0 1) [] (0 ∷ 5 ∷ []) done))
   where
     differ : ◌≡◌ {A = ℕ} 0 5 → ⊥
     differ e = omega arith
@@ -147,16 +147,16 @@ called : List Record
 called =
     Record.Branch 2 ∷ Record.Label 1 ∷ Record.Branch 0 ∷ Record.Label 2 ∷ Record.Call 1 ∷ Record.Call 1 ∷ Record.Call 1 ∷ []
 
-pub bound-without-calls : Bounds length → ⊥
-unfolding calling zeros answer decoded recordFrom takesKind u16At length_of play works ticks execs seek isLabel block breach
-bound-without-calls law = differ (law calling [] 0 zeros)
+pub bound_without_calls : Bounds length → ⊥
+unfolding calling zeros answer decoded record_from takes_kind u16_at length_of play works ticks execs seek is_label block breach
+bound_without_calls law = differ (law calling [] 0 zeros)
   where
     differ : 11 ≤ 7 → ⊥
     differ h = omega (arith, h)
 
-pub steps-without-calls : PlaysBySteps length → ⊥
-unfolding called steps step follows written play works ticks execs seek isLabel block breach
-steps-without-calls law = differ (ap (λ e. e.played) (law [] called 0 7 [] refl (lit≤ tt)))
+pub steps_without_calls : PlaysBySteps length → ⊥
+unfolding called steps step follows written play works ticks execs seek is_label block breach
+steps_without_calls law = differ (ap (λ e. e.played) (law [] called 0 7 [] refl (lit≤ tt)))
   where
     differ : ◌≡◌ {A = ℕ} 7 11 → ⊥
     differ e = omega arith
@@ -164,8 +164,8 @@ steps-without-calls law = differ (ap (λ e. e.played) (law [] called 0 7 [] refl
 -- ---- the arithmetic
 
 -- of 1 and 0 chosen by a one
-pub false-first : IfElseLaw (λ c t f. ifElse c f t) → ⊥
-false-first law = differ (law 0 1 1 0 (lit< tt) (lit< tt))
+pub false_first : IfElseLaw (λ c t f. if_else c f t) → ⊥
+false_first law = differ (law 0 1 1 0 (lit< tt) (lit< tt))
   where
     differ : ◌≡◌ {A = ℕ} 0 1 → ⊥
     differ e = omega arith
@@ -177,16 +177,16 @@ estimate-not-mended law = let h = (law (2 ^ 53) (lit≤ tt) (lit< tt)).0.1 in om
 -- ---- figures
 
 -- a header alone is accepted
-header-accepted : Accepted header 65536
-unfolding header lowerSheet setup u16At lowerFrom decoded
-header-accepted = record { right = refl; slice = lit≤ tt; number = refl }
+header_accepted : Accepted header 65536
+unfolding header lower_sheet setup u16_at lower_from decoded
+header_accepted = record { right = refl; slice = lit≤ tt; number = refl }
 
-pub figures-of-no-sheet : FiguresReported (λ sheet. refusal 8 0) → ⊥
-figures-of-no-sheet law =
+pub figures_of_no_sheet : FiguresReported (λ sheet. refusal 8 0) → ⊥
+figures_of_no_sheet law =
     let listing : List ℕ = replicate 65536 0 in
     let long : length listing ≡ 65536 = length-replicate {A = ℕ} 65536 0 in
     let two : length (replicate {A = ℕ} 256 0) ≡ 256 = length-replicate {A = ℕ} 256 0 in
-    let a = answered header listing (replicate 256 0) (replicate 256 0) (subst (λ n. Accepted header n) (sym long) header-accepted) two two in
+    let a = answered header listing (replicate 256 0) (replicate 256 0) (subst (λ n. Accepted header n) (sym long) header_accepted) two two in
     differ (sym a ∙ (law header listing (replicate 256 0) (replicate 256 0) long two two).number)
   where
     differ : ◌≡◌ {A = ℕ} 0 8 → ⊥
@@ -195,24 +195,24 @@ figures-of-no-sheet law =
 -- ---- the printed page
 
 -- a constant alone, its line cut behind 72 characters
-pub line-feed-lost : UncutLaw (λ row. take 72 (row_line row)) → ⊥
-unfolding Player.refusal breach decoded row_line constantRow
-line-feed-lost law = differ (law [] (0 ∷ []) (λ i. lit< tt) refl).0.0.long
+pub line_feed_lost : UncutLaw (λ row. take 72 (row_line row)) → ⊥
+unfolding Player.refusal breach decoded row_line constant_row
+line_feed_lost law = differ (law [] (0 ∷ []) (λ i. lit< tt) refl).0.0.long
   where
     differ : ◌≡◌ {A = ℕ} 72 73 → ⊥
     differ e = omega arith
 
 -- a constant where 251 stand, whose words are of their sorts
-pub full-sheet-unnamed : FaultLaw (λ why stage count ws. lineFault stage count ws) → ⊥
-unfolding Assembled.stepped lineFault
-full-sheet-unnamed law =
+pub full_sheet_unnamed : FaultLaw (λ why stage count ws. line_fault stage count ws) → ⊥
+unfolding Assembled.stepped line_fault
+full_sheet_unnamed law =
     let constant : List ℕ = 99 ∷ 111 ∷ 110 ∷ 115 ∷ 116 ∷ 97 ∷ 110 ∷ 116 ∷ 32 ∷ 52 ∷ replicate 15 48 in
     law.of-refused (record { bytes = []; count = 251; instructions = 0; stage = 2 }) constant 2 refl refl
 
 -- a constant alone, its page lost: what is read is nothing
-pub first-page-lost : ReadBack (pagesFrom 1 1) → ⊥
-unfolding Player.refusal breach decoded constantRow blankLine unprinted stepped difference unfed unreturned
-first-page-lost law = differ (ap count (law [] (0 ∷ []) (λ i. lit< tt) low refl))
+pub first_page_lost : ReadBack (pages_from 1 1) → ⊥
+unfolding Player.refusal breach decoded constant_row blank_line unprinted stepped difference unfed unreturned
+first_page_lost law = differ (ap count (law [] (0 ∷ []) (λ i. lit< tt) low refl))
   where
     low : (i : ℕ) → get_or (0 ∷ []) i 0 < 256 ^ 8
     low zero = lit< tt
@@ -220,15 +220,15 @@ first-page-lost law = differ (ap count (law [] (0 ∷ []) (λ i. lit< tt) low re
 
     count : Unprinted → ℕ
     count (accepted s) = s.count
-    count (refusedAt n row column) = 0
+    count (refused_at n row column) = 0
 
     differ : ◌≡◌ {A = ℕ} 0 1 → ⊥
     differ e = omega arith
 
 -- a Neg into Ret is not tidy
-pub every-sheet-tidy : TellsTidy (λ sheet. told 0 0) → ⊥
-unfolding header setup u16At decoded instructionFrom takesKind length_of uniOps tidiness
-every-sheet-tidy law = differ (law.tidy (header ++ 7 ∷ 0 ∷ 1 ∷ 0 ∷ 0 ∷ 30 ∷ 0 ∷ []) refl refl 0 (lit< tt))
+pub every_sheet_tidy : TellsTidy (λ sheet. told 0 0) → ⊥
+unfolding header setup u16_at decoded instruction_from takes_kind length_of uni_ops tidiness
+every_sheet_tidy law = differ (law.tidy (header ++ 7 ∷ 0 ∷ 1 ∷ 0 ∷ 0 ∷ 30 ∷ 0 ∷ []) refl refl 0 (lit< tt))
   where
     differ : ◌≡◌ {A = ℕ} 1 0 → ⊥
     differ e = omega arith

@@ -1,7 +1,7 @@
 // The lowering entry with the realness record lent.
 ghost use Rattle.std.specs.Prelude.{◌≡◌};
 ghost use Rattle.complexify.specs.Entry as Spec;
-ghost use Rattle.thin_lower.specs.Numbers.{numbersOf, held_of};
+ghost use Rattle.thin_lower.specs.Numbers.{numbers_of, held_of};
 
 use lowering::realness::Realness;
 
@@ -31,11 +31,11 @@ pub fn lower(
     constants: &mut [u64],
     origins: &mut [u16],
 ) -> Numbers
-    ensures { (result ≡ numbersOf (Spec.answer sheet.now listing.old constants.old origins.old))
+    ensures { (result ≡ numbers_of (Spec.answer sheet.now listing.old constants.old origins.old))
         × (realness.new ≡ held_of (Spec.answer sheet.now listing.old constants.old origins.old))
-        × (listing.new ≡ Spec.listingAfter sheet.now listing.old constants.old origins.old)
-        × (constants.new ≡ Spec.constantsAfter sheet.now listing.old constants.old origins.old)
-        × (origins.new ≡ Spec.originsAfter sheet.now listing.old constants.old origins.old) }
+        × (listing.new ≡ Spec.listing_after sheet.now listing.old constants.old origins.old)
+        × (constants.new ≡ Spec.constants_after sheet.now listing.old constants.old origins.old)
+        × (origins.new ≡ Spec.origins_after sheet.now listing.old constants.old origins.old) }
 {
     let answer = complexify::entry::lower(sheet, listing, constants, origins);
     *realness = Held {

@@ -41,13 +41,13 @@ abbrev ahead : ℕ → ℕ → ℕ
 ahead zero i = i
 ahead (suc j) i = ahead j (suc i)
 
-ahead-suc : (j i : ℕ) → ahead j (suc i) ≡ suc (ahead j i)
-ahead-suc zero i = refl
-ahead-suc (suc j) i = ahead-suc j (suc i)
+ahead_suc : (j i : ℕ) → ahead j (suc i) ≡ suc (ahead j i)
+ahead_suc zero i = refl
+ahead_suc (suc j) i = ahead_suc j (suc i)
 
-ahead-zero : (j : ℕ) → ahead j 0 ≡ j
-ahead-zero zero = refl
-ahead-zero (suc j) = ahead-suc j 0 ∙ ap suc (ahead-zero j)
+ahead_zero : (j : ℕ) → ahead j 0 ≡ j
+ahead_zero zero = refl
+ahead_zero (suc j) = ahead_suc j 0 ∙ ap suc (ahead_zero j)
 
 module _ {M : Type 1} (𝓤 : Ura M) (H : Heap 𝓤) where
   abbrev pub env : (τs : List Ty) → Blocks τs → Env 𝓤 H → Env 𝓤 H
@@ -68,7 +68,7 @@ module _ {M : Type 1} (𝓤 : Ura M) (H : Heap 𝓤) where
 
   -- the whole of it, its next local, and past a run
   all-on : (E : Env 𝓤 H) → Runs-on E 0 E
-  all-on E j = ap (spot_of 𝓤 H E) (ahead-zero j)
+  all-on E j = ap (spot_of 𝓤 H E) (ahead_zero j)
 
   next-on : (E : Env 𝓤 H) (i : ℕ) (e : Ty × ℕ) (F : Env 𝓤 H) → Runs-on E i (e ∷ F) → Runs-on E (suc i) F
   next-on E i e F on j = on (suc j)

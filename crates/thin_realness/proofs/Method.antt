@@ -36,8 +36,8 @@ use Rattle.thin_realness.proofs.Values.{Value, slots, rows, spells, machs, Passe
 abbrev pub mach : Realness → Val
 mach h = LL.tuple_val T.the_type T'.the_laws ((T.the_type).to h)
 
-pub mach-typed : {M : Type 1} {𝓤 : Ura M} (𝓛 : Logic 𝓤) → (h : Realness) (v : Val) → Is T.the_row h (v ∷ []) → Holds (has_ty T'.mir v) × WT v
-mach-typed 𝓛 h v is = ((LL.lawful T.the_type T'.the_laws 𝓛).typed h (v ∷ []) is).0
+pub mach_typed : {M : Type 1} {𝓤 : Ura M} (𝓛 : Logic 𝓤) → (h : Realness) (v : Val) → Is T.the_row h (v ∷ []) → Holds (has_ty T'.mir v) × WT v
+mach_typed 𝓛 h v is = ((LL.lawful T.the_type T'.the_laws 𝓛).typed h (v ∷ []) is).0
 
 abbrev pub Result : List Value → RattleType → Type 0
 Result ps Z = Realness → Denots (rows 0 tt ps) → Z.Denot
@@ -45,8 +45,8 @@ Result ps Z = Realness → Denots (rows 0 tt ps) → Z.Denot
 abbrev pub method : List Value → RattleType → Ended
 method ps Z = record { signature = record { lifetimes = 0; outlives = []; params = plain (λ _. T.the_row) ∷ slots 0 ps; result = plain (λ _. Z) }; kept = (yes, all yes (slots 0 ps)) }
 
-abbrev pub says-method : {M : Type 1} (𝓤 : Ura M) (ps : List Value) (Z : RattleType) → Result ps Z → Clauses 𝓤 (method ps Z)
-says-method 𝓤 ps Z R κs a = record { ghost = Unit {0}; requires = λ _. emp 𝓤; ensures = λ _ r _. fact 𝓤 (r ≡ R a.0 a.1) }
+abbrev pub says_method : {M : Type 1} (𝓤 : Ura M) (ps : List Value) (Z : RattleType) → Result ps Z → Clauses 𝓤 (method ps Z)
+says_method 𝓤 ps Z R κs a = record { ghost = Unit {0}; requires = λ _. emp 𝓤; ensures = λ _ r _. fact 𝓤 (r ≡ R a.0 a.1) }
 
 -- at the machine value v: a value s that it owns, beside what E says of s
 abbrev pub gave : {M : Type 1} (𝓤 : Ura M) (Z : RattleType) → (Z.Denot → SProp 𝓤) → Val → Item 𝓤
@@ -56,11 +56,11 @@ module _ {M : Type 1} {𝓤 : Ura M} (𝓛 : Logic 𝓤) (ps : List Value) (Z : 
   open 𝓛 use {H}
 
   abbrev pub G : Contract 𝓤
-  G = triple_of 𝓛 (method ps Z).signature (closing 𝓛 (method ps Z) (says-method 𝓤 ps Z R))
+  G = triple_of 𝓛 (method ps Z).signature (closing 𝓛 (method ps Z) (says_method 𝓤 ps Z R))
 
   module _ (h : Realness) (x : Denots (rows 0 tt ps)) where
     abbrev pub E : Z.Denot → SProp 𝓤
-    E s = ensured 𝓛 (method ps Z) (says-method 𝓤 ps Z R) tt (h, x) tt s
+    E s = ensured 𝓛 (method ps Z) (says_method 𝓤 ps Z R) tt (h, x) tt s
 
     pub made_of : (s : Z.Denot) → ent 𝓤 (E s) (fact 𝓤 (s ≡ R h x))
     made_of s = ex_e 𝓤 _ (λ ws. snd∗ 𝓤 (sem 𝓛 (lasts (method ps Z) tt (h, x) ws)) (fact 𝓤 (s ≡ R h x)))

@@ -40,8 +40,8 @@ use Rattle.lowering.specs.declared.realness.Realness.{Realness}
 use Rattle.lowering.specs.contracts.realness.Realness as T
 use Rattle.lowering.proofs.realness.Realness.TheLaws as T'
 use Rattle.thin_realness.proofs.Locals.{locals, operands, past, run_on, rest-on, allocs-all, passes-all, reads_of, reads_all, frees_all, found}
-use Rattle.thin_realness.proofs.Method.{mach, mach-typed, Result, G, gave, E, made_of, called}
-use Rattle.thin_realness.proofs.Values.{Value, tys, slots, stays, rows, spells, machs, Passed, owned_by, tells_all, lasts-all, fits_all, had, typed-all, had-all, goes-all, taken}
+use Rattle.thin_realness.proofs.Method.{mach, mach_typed, Result, G, gave, E, made_of, called}
+use Rattle.thin_realness.proofs.Values.{Value, tys, slots, stays, rows, spells, machs, Passed, owned_by, tells_all, lasts-all, fits_all, had, typed-all, had-all, goes_all, taken}
 
 -- the type of the reference
 abbrev lent : Ty
@@ -83,7 +83,7 @@ module _ {M : Type 1} {𝓤 : Ura M} (𝓛 : Logic 𝓤) (Q : Value) (κ : Lft) 
         spelt ! T.the_row (Is T.the_row) (shows 𝓛 T.the_row) (LL.vals T.the_type T'.the_laws) (LL.tells T.the_type T'.the_laws) q' h us b o $
         move ! (1 ∷ []) $ peeks ! T.the_row (Is T.the_row) (shows 𝓛 T.the_row) h (mach h ∷ []) (λ was. move ! (1 ∷ 0 ∷ []) $
         -- [a share of the record's cell; what it owns; what shuts it; the fractured borrow; true; res; rest; the values at 7; the copy at 8; …; the reference at 10; …; room for _0 at 12; …]
-        assigns ! (of_opd ! (load ! (from ! (hop ! (look ! 10 refl) (stop !))) (look_raw ! 0 refl))) (found ! (rest-on 𝓤 H (Q.ty, l₀) (lent, l₁) τs bs ((T'.mir, l₂) ∷ []) 0)) (init ! 8 refl (mach-typed 𝓛 h _ was)) $
+        assigns ! (of_opd ! (load ! (from ! (hop ! (look ! 10 refl) (stop !))) (look_raw ! 0 refl))) (found ! (rest-on 𝓤 H (Q.ty, l₀) (lent, l₁) τs bs ((T'.mir, l₂) ∷ []) 0)) (init ! 8 refl (mach_typed 𝓛 h _ was)) $
         shuts ! tt T.the_row q' h (mach h ∷ []) b o $
         -- what the copy owns is made anew, and goes to the callee
         owned ! T.the_row (Is T.the_row) (LL.makes T.the_type T'.the_plain 𝓛) h _ was $
@@ -102,8 +102,8 @@ module _ {M : Type 1} {𝓤 : Ura M} (𝓛 : Logic 𝓤) (Q : Value) (κ : Lft) 
 abbrev pub reader : List Value → Value → Ended
 reader ps Q = record { signature = record { lifetimes = 1; outlives = []; params = RefOf (0 ∷ []) tt (plain (λ _. T.the_row)) (λ _. tt) ∷ slots 1 ps; result = plain (λ _. Q.row) }; kept = (yes, all yes (slots 1 ps)) }
 
-abbrev pub says-reader : {M : Type 1} (𝓤 : Ura M) (ps : List Value) (Q : Value) → Result ps Q.row → Clauses 𝓤 (reader ps Q)
-says-reader 𝓤 ps Q R κs a = record { ghost = Unit {0}; requires = λ _. emp 𝓤; ensures = λ _ r _. fact 𝓤 (r ≡ R a.0.now (taken 1 0 κs tt ps a.1)) }
+abbrev pub says_reader : {M : Type 1} (𝓤 : Ura M) (ps : List Value) (Q : Value) → Result ps Q.row → Clauses 𝓤 (reader ps Q)
+says_reader 𝓤 ps Q R κs a = record { ghost = Unit {0}; requires = λ _. emp 𝓤; ensures = λ _ r _. fact 𝓤 (r ≡ R a.0.now (taken 1 0 κs tt ps a.1)) }
 
 abbrev stayed : (ps : List Value) (Q : Value) → Stays (reader ps Q).signature.params (reader ps Q).kept
 stayed ps Q = (stay_none_ref (0 ∷ []) tt (plain (λ _. T.the_row)) yes, stays 1 ps)
@@ -123,12 +123,12 @@ module _ {M : Type 1} {𝓤 : Ura M} (𝓛 : Logic 𝓤) (ps : List Value) (Q : 
     x₀ = taken 1 0 κs tt ps x
 
     abbrev Post : Val → SProp 𝓤
-    Post = (walk_of 𝓛 (reader ps Q) (stayed ps Q) (says-reader 𝓤 ps Q R)).post ((κs, qs, tt, a, at), tt)
+    Post = (walk_of 𝓛 (reader ps Q) (stayed ps Q) (says_reader 𝓤 ps Q R)).post ((κs, qs, tt, a, at), tt)
 
     exits : (t : Q.row.Denot) (v : Val) → t ≡ R h x₀ → ent 𝓤 (⋆ 𝓛 (left 𝓛 Q κs.0 qs.0 b o γ h t v)) (Post v)
     exits t v e =
         qed 𝓛 (left 𝓛 Q κs.0 qs.0 b o γ h t v) ∵
-        suffices ! _ (ends_at 𝓛 (reader ps Q) (stayed ps Q) (says-reader 𝓤 ps Q R) ((κs, qs, tt, a, at), tt) v t (tt, lasts-all 1 κs ps x) (tt, fits_all 1 κs ps x)) $ says ! e $ nothing ! $ move ! (1 ∷ 0 ∷ []) $ join ! $
+        suffices ! _ (ends_at 𝓛 (reader ps Q) (stayed ps Q) (says_reader 𝓤 ps Q R) ((κs, qs, tt, a, at), tt) v t (tt, lasts-all 1 κs ps x) (tt, fits_all 1 κs ps x)) $ says ! e $ nothing ! $ move ! (1 ∷ 0 ∷ []) $ join ! $
         frame ! $ feq_i ! (List Val) (vptr b o ∷ []) (vptr b o ∷ []) refl $ fjoin3 ! $ use0 𝓛 (‵ (had 1 κs ps x)) (had-all 1 κs 𝓛 ps x x-is) $ move ! (1 ∷ 0 ∷ []) $ fjoin ! $ frame ! $ done !
 
     walk : (C : Calls 𝓤 H) (Λ : Loops 𝓤 H) → FmC 𝓤 H 𝓛.laws C → Triple 𝓤 (C key) (G 𝓛 ps Q.row R)
@@ -136,12 +136,12 @@ module _ {M : Type 1} {𝓤 : Ura M} (𝓛 : Logic 𝓤) (ps : List Value) (Q : 
     walk C Λ fm known = thin 𝓛 Q κs.0 qs.0 b o γ h (tys ps) (machs 1 κs ps x) (typed-all 1 κs 𝓛 ps x x-is) C Λ fm key
         (owned_by 1 κs ps x) (E 𝓛 ps Q.row R h x₀) (λ t. t ≡ R h x₀) (made_of 𝓛 ps Q.row R h x₀) (called 𝓛 ps Q.row R 1 κs h x x-is C key known) Post exits
 
-  walks : (C : Calls 𝓤 H) (Λ : Loops 𝓤 H) → FmC 𝓤 H 𝓛.laws C → Triple 𝓤 (C key) (G 𝓛 ps Q.row R) → Walks 𝓛 (reader ps Q) (stayed ps Q) (WpFn 𝓤 H C Λ (function Q.ty (tys ps) key)) (says-reader 𝓤 ps Q R)
-  walks C Λ fm known = walked 𝓛 (reader ps Q) (stayed ps Q) (says-reader 𝓤 ps Q R) (WpFn 𝓤 H C Λ (function Q.ty (tys ps) key)) (λ κs. (shr_vals, spells 1 κs ps)) (λ κs. (shr_Tells (named 0) κs.0 T.the_row, tells_all 1 κs ps))
+  walks : (C : Calls 𝓤 H) (Λ : Loops 𝓤 H) → FmC 𝓤 H 𝓛.laws C → Triple 𝓤 (C key) (G 𝓛 ps Q.row R) → Walks 𝓛 (reader ps Q) (stayed ps Q) (WpFn 𝓤 H C Λ (function Q.ty (tys ps) key)) (says_reader 𝓤 ps Q R)
+  walks C Λ fm known = walked 𝓛 (reader ps Q) (stayed ps Q) (says_reader 𝓤 ps Q R) (WpFn 𝓤 H C Λ (function Q.ty (tys ps) key)) (λ κs. (shr_vals, spells 1 κs ps)) (λ κs. (shr_Tells (named 0) κs.0 T.the_row, tells_all 1 κs ps))
       (λ κs qs bounds a _ are. via 𝓤 _ (fst∗ 𝓤 _ (emp 𝓤)) (walk κs qs a.0.ref_ptr.0 a.0.ref_ptr.1 0 a.0.now a.1 are.1 C Λ fm known))
 
   goes : AllGo 𝓛 1 (reader ps Q).signature.params (reader ps Q).kept (stayed ps Q)
-  goes = (Goes-none_ref 𝓛 1 (0 ∷ []) tt (plain (λ _. T.the_row)) yes, goes-all 𝓛 1 ps)
+  goes = (Goes-none_ref 𝓛 1 (0 ∷ []) tt (plain (λ _. T.the_row)) yes, goes_all 𝓛 1 ps)
 
-  pub reader-meets : (𝓣 : Tables 𝓤 H) → Triple 𝓤 (𝓣.C key) (G 𝓛 ps Q.row R) → Meets 𝓛 (reader ps Q).signature (WpFn 𝓤 H 𝓣.C 𝓣.Λ (function Q.ty (tys ps) key)) (closing 𝓛 (reader ps Q) (says-reader 𝓤 ps Q R))
-  reader-meets 𝓣 known = walk_Meets 𝓛 (reader ps Q) (stayed ps Q) goes (says-reader 𝓤 ps Q R) (WpFn 𝓤 H 𝓣.C 𝓣.Λ (function Q.ty (tys ps) key)) (WpFn-mono 𝓤 H 𝓛.laws 𝓣 (function Q.ty (tys ps) key)) (walks 𝓣.C 𝓣.Λ (fm_of 𝓤 H 𝓛.laws 𝓣) known)
+  pub reader-meets : (𝓣 : Tables 𝓤 H) → Triple 𝓤 (𝓣.C key) (G 𝓛 ps Q.row R) → Meets 𝓛 (reader ps Q).signature (WpFn 𝓤 H 𝓣.C 𝓣.Λ (function Q.ty (tys ps) key)) (closing 𝓛 (reader ps Q) (says_reader 𝓤 ps Q R))
+  reader-meets 𝓣 known = walk_Meets 𝓛 (reader ps Q) (stayed ps Q) goes (says_reader 𝓤 ps Q R) (WpFn 𝓤 H 𝓣.C 𝓣.Λ (function Q.ty (tys ps) key)) (WpFn-mono 𝓤 H 𝓛.laws 𝓣 (function Q.ty (tys ps) key)) (walks 𝓣.C 𝓣.Λ (fm_of 𝓤 H 𝓛.laws 𝓣) known)

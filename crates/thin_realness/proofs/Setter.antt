@@ -42,8 +42,8 @@ use Rattle.lowering.specs.declared.realness.Realness.{Realness}
 use Rattle.lowering.specs.contracts.realness.Realness as T
 use Rattle.lowering.proofs.realness.Realness.TheLaws as T'
 use Rattle.thin_realness.proofs.Locals.{locals, operands, past, run_on, rest-on, allocs-all, passes-all, reads_of, reads_all, frees_all, found}
-use Rattle.thin_realness.proofs.Method.{mach, mach-typed, Result, G, gave, E, made_of, called}
-use Rattle.thin_realness.proofs.Values.{Value, tys, slots, stays, rows, spells, machs, Passed, owned_by, tells_all, lasts-all, fits_all, had, typed-all, had-all, goes-all, taken}
+use Rattle.thin_realness.proofs.Method.{mach, mach_typed, Result, G, gave, E, made_of, called}
+use Rattle.thin_realness.proofs.Values.{Value, tys, slots, stays, rows, spells, machs, Passed, owned_by, tells_all, lasts-all, fits_all, had, typed-all, had-all, goes_all, taken}
 
 -- the type of the reference
 abbrev lent : Ty
@@ -86,7 +86,7 @@ module _ {M : Type 1} {𝓤 : Ura M} (𝓛 : Logic 𝓤) (κ : Lft) (q : Share) 
         opens ! tt T.the_row {h = h} b o (λ us. spelt ! T.the_row (Is T.the_row) (shows 𝓛 T.the_row) (LL.vals T.the_type T'.the_laws) (LL.tells T.the_type T'.the_laws) full_share h us b o $
         move ! (1 ∷ []) $ peeks ! T.the_row (Is T.the_row) (shows 𝓛 T.the_row) h (mach h ∷ []) (λ was. move ! (1 ∷ 0 ∷ []) $
         -- [the record's cell; what it owns; the open borrow; obs; auth; true; rest; the values at 7; the copy at 8; …; the result at 10; …; the reference at 12; …; room for _0 at 14; …]
-        assigns ! (of_opd ! (load ! (from ! (hop ! (look ! 12 refl) (stop !))) (look_raw ! 0 refl))) (found ! (rest-on 𝓤 H (ty_unit, l₀) (lent, l₁) τs bs ((T'.mir, l₂) ∷ (T'.mir, l₃) ∷ []) 1)) (init ! 8 refl (mach-typed 𝓛 h _ was)) $
+        assigns ! (of_opd ! (load ! (from ! (hop ! (look ! 12 refl) (stop !))) (look_raw ! 0 refl))) (found ! (rest-on 𝓤 H (ty_unit, l₀) (lent, l₁) τs bs ((T'.mir, l₂) ∷ (T'.mir, l₃) ∷ []) 1)) (init ! 8 refl (mach_typed 𝓛 h _ was)) $
         -- what the copy owns is made anew, and goes to the callee
         owned ! T.the_row (Is T.the_row) (LL.makes T.the_type T'.the_plain 𝓛) h _ was $
         calls_from ! fm (‵ ((T.the_row).own_val h (mach h ∷ []))) (mach h ∷ vs) (λ v. mean 𝓛 (gave 𝓤 T.the_row E v)) called
@@ -96,8 +96,8 @@ module _ {M : Type 1} {𝓤 : Ura M} (𝓛 : Logic 𝓤) (κ : Lft) (q : Share) 
         split ! $ move ! (1 ∷ []) $ use1 𝓛 (raw (fact 𝓤 (φ s))) (says-φ s) $ heard ! (φ s) (λ e. split ! $ drop ! $
         peeks ! T.the_row (Is T.the_row) (shows 𝓛 T.the_row) s (v ∷ []) (λ is.
         -- [what the result owns; the record's cell; what it owned; the open borrow; obs; auth; true; rest; the values at 8; the copy; …; the result at 11; …; the reference at 13; …; room for _0 at 15; …]
-        land ! (found ! (rest-on 𝓤 H (ty_unit, l₀) (lent, l₁) τs bs ((T'.mir, l₂) ∷ (T'.mir, l₃) ∷ []) 0)) (init ! 11 refl (mach-typed 𝓛 s _ is)) $
-        assigns ! (of_opd ! (load ! (found ! (rest-on 𝓤 H (ty_unit, l₀) (lent, l₁) τs bs ((T'.mir, l₂) ∷ (T'.mir, l₃) ∷ []) 0)) (look ! 11 refl))) (from ! (hop ! (look ! 13 refl) (stop !))) (store_raw ! 1 refl (mach-typed 𝓛 s _ is)) $
+        land ! (found ! (rest-on 𝓤 H (ty_unit, l₀) (lent, l₁) τs bs ((T'.mir, l₂) ∷ (T'.mir, l₃) ∷ []) 0)) (init ! 11 refl (mach_typed 𝓛 s _ is)) $
+        assigns ! (of_opd ! (load ! (found ! (rest-on 𝓤 H (ty_unit, l₀) (lent, l₁) τs bs ((T'.mir, l₂) ∷ (T'.mir, l₃) ∷ []) 0)) (look ! 11 refl))) (from ! (hop ! (look ! 13 refl) (stop !))) (store_raw ! 1 refl (mach_typed 𝓛 s _ is)) $
         assigns ! (of_opd ! (unit_lit !)) (from ! (stop !)) (init ! 15 refl (tt, tt)) $
         move ! (2 ∷ []) $ drop ! $ move ! (1 ∷ 0 ∷ []) $ closes ! tt T.the_row s (v ∷ []) b o $
         returns ! (look ! 12 refl) $ forget ! 6 refl $ forget ! 8 refl $ forget ! 10 refl $ forget ! 12 refl $
@@ -107,8 +107,8 @@ module _ {M : Type 1} {𝓤 : Ura M} (𝓛 : Logic 𝓤) (κ : Lft) (q : Share) 
 abbrev pub setter : List Value → Ended
 setter ps = record { signature = record { lifetimes = 1; outlives = []; params = RefMutOf (0 ∷ []) tt (plain (λ _. T.the_row)) (λ _. tt) ∷ slots 1 ps; result = plain (λ _. unit) }; kept = (yes, all yes (slots 1 ps)) }
 
-abbrev pub says-setter : {M : Type 1} (𝓤 : Ura M) (ps : List Value) → Result ps T.the_row → Clauses 𝓤 (setter ps)
-says-setter 𝓤 ps R κs a = record { ghost = Unit {0}; requires = λ _. emp 𝓤; ensures = λ _ _ e. fact 𝓤 (e.0.now ≡ R a.0.now (taken 1 0 κs tt ps a.1)) }
+abbrev pub says_setter : {M : Type 1} (𝓤 : Ura M) (ps : List Value) → Result ps T.the_row → Clauses 𝓤 (setter ps)
+says_setter 𝓤 ps R κs a = record { ghost = Unit {0}; requires = λ _. emp 𝓤; ensures = λ _ _ e. fact 𝓤 (e.0.now ≡ R a.0.now (taken 1 0 κs tt ps a.1)) }
 
 abbrev stayed : (ps : List Value) → Stays (setter ps).signature.params (setter ps).kept
 stayed ps = (stay_ref (0 ∷ []) tt (plain (λ _. T.the_row)), stays 1 ps)
@@ -128,12 +128,12 @@ module _ {M : Type 1} {𝓤 : Ura M} (𝓛 : Logic 𝓤) (ps : List Value) (R : 
     x₀ = taken 1 0 κs tt ps x
 
     abbrev Post : Val → SProp 𝓤
-    Post = (walk_of 𝓛 (setter ps) (stayed ps) (says-setter 𝓤 ps R)).post ((κs, qs, tt, a, at), tt)
+    Post = (walk_of 𝓛 (setter ps) (stayed ps) (says_setter 𝓤 ps R)).post ((κs, qs, tt, a, at), tt)
 
     exits : (s : Realness) → s ≡ R h x₀ → ent 𝓤 (⋆ 𝓛 (left 𝓛 κs.0 qs.0 b o γ h s)) (Post vunit)
     exits s e =
         qed 𝓛 (left 𝓛 κs.0 qs.0 b o γ h s) ∵
-        suffices ! _ (ends_at 𝓛 (setter ps) (stayed ps) (says-setter 𝓤 ps R) ((κs, qs, tt, a, at), tt) vunit tt (s, lasts-all 1 κs ps x) (tt, fits_all 1 κs ps x)) $ says ! e $ nothing ! $ move ! (3 ∷ 0 ∷ []) $ join ! $
+        suffices ! _ (ends_at 𝓛 (setter ps) (stayed ps) (says_setter 𝓤 ps R) ((κs, qs, tt, a, at), tt) vunit tt (s, lasts-all 1 κs ps x) (tt, fits_all 1 κs ps x)) $ says ! e $ nothing ! $ move ! (3 ∷ 0 ∷ []) $ join ! $
         frame ! $ feq_i ! (List Val) (vptr b o ∷ []) (vptr b o ∷ []) refl $ fjoin3 ! $ use0 𝓛 (‵ (had 1 κs ps x)) (had-all 1 κs 𝓛 ps x x-is) $ move ! (1 ∷ 0 ∷ []) $ fjoin ! $
         feq_i ! (List Val) (vunit ∷ []) (vunit ∷ []) refl $ move ! (1 ∷ 0 ∷ []) $ done !
 
@@ -141,12 +141,12 @@ module _ {M : Type 1} {𝓤 : Ura M} (𝓛 : Logic 𝓤) (ps : List Value) (R : 
     walk C Λ fm known = thin 𝓛 κs.0 qs.0 b o γ h (tys ps) (machs 1 κs ps x) (typed-all 1 κs 𝓛 ps x x-is) C Λ fm key
         (owned_by 1 κs ps x) (E 𝓛 ps T.the_row R h x₀) (λ s. s ≡ R h x₀) (made_of 𝓛 ps T.the_row R h x₀) (called 𝓛 ps T.the_row R 1 κs h x x-is C key known) Post exits
 
-  walks : (C : Calls 𝓤 H) (Λ : Loops 𝓤 H) → FmC 𝓤 H 𝓛.laws C → Triple 𝓤 (C key) (G 𝓛 ps T.the_row R) → Walks 𝓛 (setter ps) (stayed ps) (WpFn 𝓤 H C Λ (function (tys ps) key)) (says-setter 𝓤 ps R)
-  walks C Λ fm known = walked 𝓛 (setter ps) (stayed ps) (says-setter 𝓤 ps R) (WpFn 𝓤 H C Λ (function (tys ps) key)) (λ κs. (mut_vals, spells 1 κs ps)) (λ κs. (mut_Tells (named 0) κs.0 T.the_row, tells_all 1 κs ps))
+  walks : (C : Calls 𝓤 H) (Λ : Loops 𝓤 H) → FmC 𝓤 H 𝓛.laws C → Triple 𝓤 (C key) (G 𝓛 ps T.the_row R) → Walks 𝓛 (setter ps) (stayed ps) (WpFn 𝓤 H C Λ (function (tys ps) key)) (says_setter 𝓤 ps R)
+  walks C Λ fm known = walked 𝓛 (setter ps) (stayed ps) (says_setter 𝓤 ps R) (WpFn 𝓤 H C Λ (function (tys ps) key)) (λ κs. (mut_vals, spells 1 κs ps)) (λ κs. (mut_Tells (named 0) κs.0 T.the_row, tells_all 1 κs ps))
       (λ κs qs bounds a _ are. via 𝓤 _ (fst∗ 𝓤 _ (emp 𝓤)) (walk κs qs a.0.ref_ptr.0 a.0.ref_ptr.1 a.0.ghost_name a.0.now a.1 are.1 C Λ fm known))
 
   goes : AllGo 𝓛 1 (setter ps).signature.params (setter ps).kept (stayed ps)
-  goes = (Goes-ref 𝓛 1 0 tt (plain (λ _. T.the_row)), goes-all 𝓛 1 ps)
+  goes = (Goes-ref 𝓛 1 0 tt (plain (λ _. T.the_row)), goes_all 𝓛 1 ps)
 
-  pub setter-meets : (𝓣 : Tables 𝓤 H) → Triple 𝓤 (𝓣.C key) (G 𝓛 ps T.the_row R) → Meets 𝓛 (setter ps).signature (WpFn 𝓤 H 𝓣.C 𝓣.Λ (function (tys ps) key)) (closing 𝓛 (setter ps) (says-setter 𝓤 ps R))
-  setter-meets 𝓣 known = walk_Meets 𝓛 (setter ps) (stayed ps) goes (says-setter 𝓤 ps R) (WpFn 𝓤 H 𝓣.C 𝓣.Λ (function (tys ps) key)) (WpFn-mono 𝓤 H 𝓛.laws 𝓣 (function (tys ps) key)) (walks 𝓣.C 𝓣.Λ (fm_of 𝓤 H 𝓛.laws 𝓣) known)
+  pub setter-meets : (𝓣 : Tables 𝓤 H) → Triple 𝓤 (𝓣.C key) (G 𝓛 ps T.the_row R) → Meets 𝓛 (setter ps).signature (WpFn 𝓤 H 𝓣.C 𝓣.Λ (function (tys ps) key)) (closing 𝓛 (setter ps) (says_setter 𝓤 ps R))
+  setter-meets 𝓣 known = walk_Meets 𝓛 (setter ps) (stayed ps) goes (says_setter 𝓤 ps R) (WpFn 𝓤 H 𝓣.C 𝓣.Λ (function (tys ps) key)) (WpFn-mono 𝓤 H 𝓛.laws 𝓣 (function (tys ps) key)) (walks 𝓣.C 𝓣.Λ (fm_of 𝓤 H 𝓛.laws 𝓣) known)

@@ -120,9 +120,9 @@ module _ (n : ℕ) (κs : Lfts n) where
     pub had-all : (ps : List Value) (a : Denots (rows ps)) → Passed ps a → ent 𝓤 (emp 𝓤) (sem 𝓛 (had ps a))
     had-all ps a are = subst (λ (P : Fml). ent 𝓤 (emp 𝓤) (sem 𝓛 P)) (had-owns ps a) (owns-all ps a are)
 
-pub goes-all : {M : Type 1} {𝓤 : Ura M} (𝓛 : Logic 𝓤) (n : ℕ) (ps : List Value) → AllGo 𝓛 n (slots n ps) (all yes (slots n ps)) (stays n ps)
-goes-all 𝓛 n [] = tt
-goes-all 𝓛 n (P ∷ ps) = (Goes-none 𝓛 n (λ _. P.row) yes (λ κs x w. P.silent x w), goes-all 𝓛 n ps)
+pub goes_all : {M : Type 1} {𝓤 : Ura M} (𝓛 : Logic 𝓤) (n : ℕ) (ps : List Value) → AllGo 𝓛 n (slots n ps) (all yes (slots n ps)) (stays n ps)
+goes_all 𝓛 n [] = tt
+goes_all 𝓛 n (P ∷ ps) = (Goes-none 𝓛 n (λ _. P.row) yes (λ κs x w. P.silent x w), goes_all 𝓛 n ps)
 
 module _ (m n : ℕ) (κs : Lfts m) (λs : Lfts n) where
   abbrev pub taken : (ps : List Value) → Denots (rows m κs ps) → Denots (rows n λs ps)

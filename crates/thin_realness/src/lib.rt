@@ -8,49 +8,49 @@ use mir::records::Loc;
 
 // A register recorded as real, or as complex.
 pub fn set_reg(realness: &mut Realness, r: u8, real: bool)
-    ensures { realness.new ≡ Spec.setReg realness.old r real }
+    ensures { realness.new ≡ Spec.set_reg realness.old r real }
 {
     *realness = realness.set_reg(r, real);
 }
 
 pub fn set_reg_real(realness: &mut Realness, dst: u8)
-    ensures { realness.new ≡ Spec.setRegReal realness.old dst }
+    ensures { realness.new ≡ Spec.set_reg_real realness.old dst }
 {
     *realness = realness.set_reg_real(dst);
 }
 
 pub fn set_reg_complex(realness: &mut Realness, dst: u8)
-    ensures { realness.new ≡ Spec.setRegComplex realness.old dst }
+    ensures { realness.new ≡ Spec.set_reg_complex realness.old dst }
 {
     *realness = realness.set_reg_complex(dst);
 }
 
 pub fn copy_real(realness: &mut Realness, dst: u8, s1: u8)
-    ensures { realness.new ≡ Spec.copyReal realness.old dst s1 }
+    ensures { realness.new ≡ Spec.copy_real realness.old dst s1 }
 {
     *realness = realness.copy_real(dst, s1);
 }
 
 pub fn promote_real(realness: &mut Realness, dst: u8, s1: u8, s2: u8)
-    ensures { realness.new ≡ Spec.promoteReal realness.old dst s1 s2 }
+    ensures { realness.new ≡ Spec.promote_real realness.old dst s1 s2 }
 {
     *realness = realness.promote_real(dst, s1, s2);
 }
 
 pub fn set_loc_complex(realness: &mut Realness, loc: Loc)
-    ensures { realness.new ≡ Spec.setLocComplex realness.old loc }
+    ensures { realness.new ≡ Spec.set_loc_complex realness.old loc }
 {
     *realness = realness.set_loc_complex(loc);
 }
 
 pub fn is_real_reg(realness: &Realness, r: u8) -> bool
-    ensures { result ≡ Spec.isRealReg realness.now r }
+    ensures { result ≡ Spec.is_real_reg realness.now r }
 {
     realness.is_real_reg(r)
 }
 
 pub fn is_real_loc(realness: &Realness, loc: Loc) -> bool
-    ensures { result ≡ Spec.isRealLoc realness.now.places loc }
+    ensures { result ≡ Spec.is_real_loc realness.now.places loc }
 {
     realness.is_real_loc(loc)
 }

@@ -8,16 +8,16 @@ use borrow.Author.Tests.{eq-eqb, ne_eqb, eqb-true, eqb-false}
 use lib.ListN.{length, get_or, take}
 use lib.Dec.{eqb}
 use Rattle.mir.specs.declared.records.Instruction.{Instruction}
-use Rattle.mir.proofs.Passing.{either}
+use Rattle.mir.proofs.Passing.{Either}
 use Rattle.sheet.specs.declared.setup.Mode.{Mode}
 use Rattle.sheet.specs.Setup.{setup}
 use Rattle.lowering.specs.Complexifier.{State, unlisted, then}
 use Rattle.lowering.specs.Rerun.{rerun, complexify}
-use Rattle.lowering.specs.Lower.{Ended, startState, lowerSheet}
-use Rattle.leftovers.specs.Leftovers.{Sheet, sheetOf}
+use Rattle.lowering.specs.Lower.{Ended, start_state, lower_sheet}
+use Rattle.leftovers.specs.Leftovers.{Sheet, sheet_of}
 use Rattle.meaning.specs.Tidy.{untidy}
 use Rattle.tidy.specs.declared.entry.Tidiness.{Tidiness}
-use Rattle.tidy.specs.First.{refusal, told, firstFrom, tidy}
+use Rattle.tidy.specs.First.{refusal, told, first_from, tidy}
 use Rattle.tidy.specs.Told.{roots, TellsTidy}
 
 -- the test that instruction j of a list fails, from a state on
@@ -56,7 +56,7 @@ one : (m : Mode) (roots : Bool) (index : ℕ) (i : Instruction) (is : List Instr
     → Finds m roots (suc index) is (rerun m i s).after t
     → Finds m roots index (i ∷ is) s (cond (eqb (untidy m roots s.real i) 0) t (told index (untidy m roots s.real i)))
 unfolding complexify unlisted then
-one m roots index i is s t f = either (eqb u 0) clean dirty
+one m roots index i is s t f = Either (eqb u 0) clean dirty
   where
     u : ℕ
     u = untidy m roots s.real i
@@ -72,11 +72,11 @@ one m roots index i is s t f = either (eqb u 0) clean dirty
         subst (λ b. Finds m roots index (i ∷ is) s (found b)) (sym e)
         (some 0 (omega (arith)) (eqb-false u 0 e) (record { there = omega (arith); fails = refl; before = λ k h. absurd (omega (arith, h)) }))
 
-finds : (m : Mode) (roots : Bool) (index : ℕ) (is : List Instruction) (s : State) → Finds m roots index is s (firstFrom m roots index is s)
-unfolding firstFrom
+finds : (m : Mode) (roots : Bool) (index : ℕ) (is : List Instruction) (s : State) → Finds m roots index is s (first_from m roots index is s)
+unfolding first_from
 finds m roots index [] s = none refl (λ j h. absurd (omega (arith, h)))
 finds m roots index (i ∷ is) s =
-    one m roots index i is s (firstFrom m roots (suc index) is (rerun m i s).after) (finds m roots (suc index) is (rerun m i s).after)
+    one m roots index i is s (first_from m roots (suc index) is (rerun m i s).after) (finds m roots (suc index) is (rerun m i s).after)
 
 -- an answer of number 0 is no refusal
 pick : (a b : Bool) (n index : ℕ) (f : Tidiness) → (b ≡ false → n ≡ 0 → ⊥)
@@ -86,40 +86,40 @@ pick false true n index f h e = refl
 pick false false n index f h e = absurd (h refl e)
 
 -- what is found of a sheet that is not refused
-of-sheet : (sheet : List ℕ) → (tidy sheet).number ≡ 0
-    → Finds (sheetOf sheet).mode (roots (sheetOf sheet)) 0 (sheetOf sheet).instructions
-    (startState (sheetOf sheet).places (sheetOf sheet).constants) (tidy sheet)
+of_sheet : (sheet : List ℕ) → (tidy sheet).number ≡ 0
+    → Finds (sheet_of sheet).mode (roots (sheet_of sheet)) 0 (sheet_of sheet).instructions
+    (start_state (sheet_of sheet).places (sheet_of sheet).constants) (tidy sheet)
 unfolding tidy
-of-sheet sheet e =
+of_sheet sheet e =
     subst (Finds s.mode (roots s) 0 s.instructions s₀)
     (sym (pick (not (eqb (setup sheet).number 0)) (eqb l.number 0) l.number l.index found (eqb-false l.number 0) e))
     (finds s.mode (roots s) 0 s.instructions s₀)
   where
     s : Sheet
-    s = sheetOf sheet
+    s = sheet_of sheet
 
     s₀ : State
-    s₀ = startState s.places s.constants
+    s₀ = start_state s.places s.constants
 
     l : Ended
-    l = lowerSheet sheet 65536
+    l = lower_sheet sheet 65536
 
     found : Tidiness
-    found = firstFrom s.mode (roots s) 0 s.instructions s₀
+    found = first_from s.mode (roots s) 0 s.instructions s₀
 
-none-fails : {m : Mode} {b : Bool} {is : List Instruction} {s : State} {t : Tidiness} → t.test ≡ 0 → Finds m b 0 is s t
+none_fails : {m : Mode} {b : Bool} {is : List Instruction} {s : State} {t : Tidiness} → t.test ≡ 0 → Finds m b 0 is s t
     → (j : ℕ) → j < length is → at m b is s j ≡ 0
-none-fails z (none x all) = all
-none-fails z (some j x n a) = absurd (n z)
+none_fails z (none x all) = all
+none_fails z (some j x n a) = absurd (n z)
 
-first-fails : {m : Mode} {b : Bool} {is : List Instruction} {s : State} {t : Tidiness} → (t.test ≡ 0 → ⊥) → Finds m b 0 is s t
+first_fails : {m : Mode} {b : Bool} {is : List Instruction} {s : State} {t : Tidiness} → (t.test ≡ 0 → ⊥) → Finds m b 0 is s t
     → Ahead m b is s t.index t.test
-first-fails n (none z all) = absurd (n z)
-first-fails {m} {b} {is} {s} {t} n (some j x y a) = subst (λ k. Ahead m b is s k t.test) (sym (omega (arith, x))) a
+first_fails n (none z all) = absurd (n z)
+first_fails {m} {b} {is} {s} {t} n (some j x y a) = subst (λ k. Ahead m b is s k t.test) (sym (omega (arith, x))) a
 
-pub tells-tidy : TellsTidy tidy
-tells-tidy =
+pub tells_tidy : TellsTidy tidy
+tells_tidy =
     record {
-      tidy = λ sheet e z. none-fails z (of-sheet sheet e);
-      untidy = λ sheet e n. let a = first-fails n (of-sheet sheet e) in record { there = a.there; fails = a.fails; before = a.before };
+      tidy = λ sheet e z. none_fails z (of_sheet sheet e);
+      untidy = λ sheet e n. let a = first_fails n (of_sheet sheet e) in record { there = a.there; fails = a.fails; before = a.before };
     }

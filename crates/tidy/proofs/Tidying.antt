@@ -9,54 +9,54 @@ use borrow.Author.Tests.{eq-eqb, ne_eqb, eqb-true, eqb-false}
 use lib.ListN.{length, take, drop, length-append}
 use lib.Dec.{eqb}
 use Rattle.mir.specs.declared.records.Instruction.{Instruction}
-use Rattle.mir.specs.Encode.{encodeAll}
-use Rattle.mir.proofs.Passing.{either}
+use Rattle.mir.specs.Encode.{encode_all}
+use Rattle.mir.proofs.Passing.{Either}
 use Rattle.mir.proofs.Decoding.{Done}
 use Rattle.sheet.specs.declared.setup.Mode.{Mode}
-use Rattle.sheet.specs.Instruction.{instructionFrom}
+use Rattle.sheet.specs.Instruction.{instruction_from}
 use Rattle.lowering.specs.Complexifier.{State, Out}
 use Rattle.lowering.specs.Rerun.{rerun}
-use Rattle.lowering.specs.Labels.{role, Standing, noneStanding, passed}
-use Rattle.lowering.specs.Lower.{Ended, ended, past, tests, byFirst, lowerFrom}
+use Rattle.lowering.specs.Labels.{role, Standing, none_standing, passed}
+use Rattle.lowering.specs.Lower.{Ended, ended, past, tests, by_first, lower_from}
 use Rattle.lowering.proofs.Tests.{by_tests}
 use Rattle.refusals.specs.Noted.{Noted}
 use Rattle.complexify.specs.declared.turn.Cursor.{Cursor}
 use Rattle.complexify.specs.declared.turn.Next.{Next}
 use Rattle.complexify.specs.Taken.{Ready, stand}
-use Rattle.complexify.proofs.Turns.{Walk, walk, decodedAt, stateAt, left_of, Turn, Underway, underway-first, underway-next, halted, ended_here}
+use Rattle.complexify.proofs.Turns.{Walk, walk, decoded_at, state_at, left_of, Turn, Underway, underway-first, underway-next, halted, ended_here}
 use Rattle.meaning.specs.Tidy.{untidy}
 use Rattle.tidy.specs.declared.entry.Tidiness.{Tidiness}
 use Rattle.tidy.specs.declared.entry.Found.{Found}
 use Rattle.tidy.specs.declared.entry.Looked.{Looked}
-use Rattle.tidy.specs.First.{isRoot, rootsIn, refusal, told, firstFrom}
-use Rattle.tidy.specs.Looking.{lookOn, looked, nothing, Low, foundOf, tidinessAt, left}
+use Rattle.tidy.specs.First.{is_root, roots_in, refusal, told, first_from}
+use Rattle.tidy.specs.Looking.{look_on, looked, nothing, Low, found_of, tidiness_at, left}
 
 abbrev pub tidying : Mode → Walk Tidiness Looked
 tidying mode =
     record {
       size = λ kept. kept.bytes;
-      stop = λ n index kept s. tidinessAt n kept index;
-      on = λ kept i s. looked mode s.real i (length (encodeAll (rerun mode i s).records)) kept;
+      stop = λ n index kept s. tidiness_at n kept index;
+      on = λ kept i s. looked mode s.real i (length (encode_all (rerun mode i s).records)) kept;
     }
 
 -- all instructions looked at
 all_of : Mode → List Instruction → Looked → State → Looked
 all_of m [] kept s = kept
-all_of m (i ∷ is) kept s = all_of m is (looked m s.real i (length (encodeAll (rerun m i s).records)) kept) (rerun m i s).after
+all_of m (i ∷ is) kept s = all_of m is (looked m s.real i (length (encode_all (rerun m i s).records)) kept) (rerun m i s).after
 
-foundIn : Mode → Bool → List Instruction → Found → State → Found
-foundIn m roots [] f s = f
-foundIn m roots (i ∷ is) f s = foundIn m roots is (lookOn f (untidy m roots s.real i)) (rerun m i s).after
+found_in : Mode → Bool → List Instruction → Found → State → Found
+found_in m roots [] f s = f
+found_in m roots (i ∷ is) f s = found_in m roots is (look_on f (untidy m roots s.real i)) (rerun m i s).after
 
-all-rooted : (m : Mode) (is : List Instruction) (kept : Looked) (s : State) → (all_of m is kept s).rooted ≡ foundIn m true is kept.rooted s
-unfolding all_of foundIn
-all-rooted m [] kept s = refl
-all-rooted m (i ∷ is) kept s = all-rooted m is (looked m s.real i (length (encodeAll (rerun m i s).records)) kept) (rerun m i s).after
+all_rooted : (m : Mode) (is : List Instruction) (kept : Looked) (s : State) → (all_of m is kept s).rooted ≡ found_in m true is kept.rooted s
+unfolding all_of found_in
+all_rooted m [] kept s = refl
+all_rooted m (i ∷ is) kept s = all_rooted m is (looked m s.real i (length (encode_all (rerun m i s).records)) kept) (rerun m i s).after
 
-all-rootless : (m : Mode) (is : List Instruction) (kept : Looked) (s : State) → (all_of m is kept s).rootless ≡ foundIn m false is kept.rootless s
-unfolding all_of foundIn
-all-rootless m [] kept s = refl
-all-rootless m (i ∷ is) kept s = all-rootless m is (looked m s.real i (length (encodeAll (rerun m i s).records)) kept) (rerun m i s).after
+all_rootless : (m : Mode) (is : List Instruction) (kept : Looked) (s : State) → (all_of m is kept s).rootless ≡ found_in m false is kept.rootless s
+unfolding all_of found_in
+all_rootless m [] kept s = refl
+all_rootless m (i ∷ is) kept s = all_rootless m is (looked m s.real i (length (encode_all (rerun m i s).records)) kept) (rerun m i s).after
 
 or_assoc : (x y z : Bool) → ((x || y) || z) ≡ (x || (y || z))
 or_assoc true y z = refl
@@ -66,26 +66,26 @@ or-none : (x : Bool) → (x || false) ≡ x
 or-none true = refl
 or-none false = refl
 
-all-roots : (m : Mode) (is : List Instruction) (kept : Looked) (s : State) → (all_of m is kept s).roots ≡ (kept.roots || rootsIn is)
+all_roots : (m : Mode) (is : List Instruction) (kept : Looked) (s : State) → (all_of m is kept s).roots ≡ (kept.roots || roots_in is)
 unfolding all_of
-all-roots m [] kept s = sym (or-none kept.roots)
-all-roots m (i ∷ is) kept s =
-    all-roots m is (looked m s.real i (length (encodeAll (rerun m i s).records)) kept) (rerun m i s).after
-    ∙ or_assoc kept.roots (isRoot i) (rootsIn is)
+all_roots m [] kept s = sym (or-none kept.roots)
+all_roots m (i ∷ is) kept s =
+    all_roots m is (looked m s.real i (length (encode_all (rerun m i s).records)) kept) (rerun m i s).after
+    ∙ or_assoc kept.roots (is_root i) (roots_in is)
 
 -- what was found first stays
-stays : (m : Mode) (roots : Bool) (is : List Instruction) (f : Found) (s : State) → (f.test ≡ 0 → ⊥) → foundIn m roots is f s ≡ f
-unfolding foundIn
+stays : (m : Mode) (roots : Bool) (is : List Instruction) (f : Found) (s : State) → (f.test ≡ 0 → ⊥) → found_in m roots is f s ≡ f
+unfolding found_in
 stays m roots [] f s h = refl
 stays m roots (i ∷ is) f s h =
-    ap (λ x. foundIn m roots is (cond x (cond (eqb (untidy m roots s.real i) 0) (record { index = f.index + 1; test = 0 }) (record { index = f.index; test = untidy m roots s.real i })) f) (rerun m i s).after)
+    ap (λ x. found_in m roots is (cond x (cond (eqb (untidy m roots s.real i) 0) (record { index = f.index + 1; test = 0 }) (record { index = f.index; test = untidy m roots s.real i })) f) (rerun m i s).after)
     (ne_eqb f.test 0 h)
     ∙ stays m roots is f (rerun m i s).after h
 
 -- and else it is the first that is left
 finds : (m : Mode) (roots : Bool) (is : List Instruction) (index : ℕ) (s : State)
-    → foundOf (foundIn m roots is (record { index = index; test = 0 }) s) ≡ firstFrom m roots index is s
-unfolding firstFrom foundIn
+    → found_of (found_in m roots is (record { index = index; test = 0 }) s) ≡ first_from m roots index is s
+unfolding first_from found_in
 finds m roots [] index s = refl
 finds m roots (i ∷ is) index s = go (eqb n 0) refl (finds m roots is (suc index) after)
   where
@@ -95,28 +95,28 @@ finds m roots (i ∷ is) index s = go (eqb n 0) refl (finds m roots is (suc inde
     after : State
     after = (rerun m i s).after
 
-    go : (x : Bool) → eqb n 0 ≡ x → foundOf (foundIn m roots is (record { index = suc index; test = 0 }) after) ≡ firstFrom m roots (suc index) is after
-        → foundOf (foundIn m roots is (cond x (record { index = index + 1; test = 0 }) (record { index = index; test = n })) after)
-        ≡ cond x (firstFrom m roots (suc index) is after) (told index n)
-    go true e h = ap (λ k. foundOf (foundIn m roots is (record { index = k; test = 0 }) after)) (add-one index) ∙ h
-    go false e h = ap foundOf (stays m roots is (record { index = index; test = n }) after (eqb-false n 0 e))
+    go : (x : Bool) → eqb n 0 ≡ x → found_of (found_in m roots is (record { index = suc index; test = 0 }) after) ≡ first_from m roots (suc index) is after
+        → found_of (found_in m roots is (cond x (record { index = index + 1; test = 0 }) (record { index = index; test = n })) after)
+        ≡ cond x (first_from m roots (suc index) is after) (told index n)
+    go true e h = ap (λ k. found_of (found_in m roots is (record { index = k; test = 0 }) after)) (add-one index) ∙ h
+    go false e h = ap found_of (stays m roots is (record { index = index; test = n }) after (eqb-false n 0 e))
 
 -- what lowering's end tells
 abbrev tell : Ended → Tidiness → Tidiness
 tell e t = cond (eqb e.number 0) t (refusal e.number e.index)
 
 abbrev chosen : Looked → Tidiness
-chosen kept = cond kept.roots (foundOf kept.rooted) (foundOf kept.rootless)
+chosen kept = cond kept.roots (found_of kept.rooted) (found_of kept.rootless)
 
 walked : (m : Mode) (is : List Instruction) (fault : ℕ) (rest : List ℕ) (b : Standing) (index : ℕ) (kept : Looked) (bytes : List ℕ) (s : State)
     → kept.bytes ≡ length bytes
-    → walk (tidying m) m 65536 is fault rest b index kept s ≡ tell (lowerFrom m 65536 is fault rest b index bytes s) (chosen (all_of m is kept s))
-unfolding walk lowerFrom all_of
+    → walk (tidying m) m 65536 is fault rest b index kept s ≡ tell (lower_from m 65536 is fault rest b index bytes s) (chosen (all_of m is kept s))
+unfolding walk lower_from all_of
 walked m [] fault rest b index kept bytes s h = refl
 walked m (i ∷ is) fault rest b index kept bytes s h =
-    ap (λ written. byFirst (tests m 65536 i b (past rest) written s) (λ n. tidinessAt n kept index) on) h
+    ap (λ written. by_first (tests m 65536 i b (past rest) written s) (λ n. tidiness_at n kept index) on) h
     ∙ by_tests m 65536 i b (past rest) (length bytes) s
-    (λ by. by Tidiness (λ n. tidinessAt n kept index) on ≡ tell (by Ended (λ n. ended n index bytes s) lowered) (chosen (all_of m is next o.after)))
+    (λ by. by Tidiness (λ n. tidiness_at n kept index) on ≡ tell (by Ended (λ n. ended n index bytes s) lowered) (chosen (all_of m is next o.after)))
     (λ n z. rw (ne_eqb n 0 z) refl)
     (λ a. walked m is fault (past rest) after (suc index) next (bytes ++ new) o.after (omega (arith, h, length-append bytes new)))
   where
@@ -124,7 +124,7 @@ walked m (i ∷ is) fault rest b index kept bytes s h =
     o = rerun m i s
 
     new : List ℕ
-    new = encodeAll o.records
+    new = encode_all o.records
 
     after : Standing
     after = passed (role i) s.real b
@@ -136,15 +136,15 @@ walked m (i ∷ is) fault rest b index kept bytes s h =
     on = walk (tidying m) m 65536 is fault (past rest) after (suc index) next o.after
 
     lowered : Ended
-    lowered = lowerFrom m 65536 is fault (past rest) after (suc index) (bytes ++ new) o.after
+    lowered = lower_from m 65536 is fault (past rest) after (suc index) (bytes ++ new) o.after
 
-chosen-first : (m : Mode) (is : List Instruction) (s : State) → chosen (all_of m is nothing s) ≡ firstFrom m (rootsIn is) 0 is s
-chosen-first m is s =
-    (λ j. cond (all-roots m is nothing s j) (foundOf (all-rooted m is nothing s j)) (foundOf (all-rootless m is nothing s j)))
-    ∙ (λ j. cond (rootsIn is) (finds m true is 0 s j) (finds m false is 0 s j))
-    ∙ go (rootsIn is)
+chosen_first : (m : Mode) (is : List Instruction) (s : State) → chosen (all_of m is nothing s) ≡ first_from m (roots_in is) 0 is s
+chosen_first m is s =
+    (λ j. cond (all_roots m is nothing s j) (found_of (all_rooted m is nothing s j)) (found_of (all_rootless m is nothing s j)))
+    ∙ (λ j. cond (roots_in is) (finds m true is 0 s j) (finds m false is 0 s j))
+    ∙ go (roots_in is)
   where
-    go : (x : Bool) → cond x (firstFrom m true 0 is s) (firstFrom m false 0 is s) ≡ firstFrom m x 0 is s
+    go : (x : Bool) → cond x (first_from m true 0 is s) (first_from m false 0 is s) ≡ first_from m x 0 is s
     go true = refl
     go false = refl
 
@@ -160,14 +160,14 @@ abbrev pub Tidies : Mode → ℕ → List ℕ → List ℕ → Cursor → List �
 Tidies mode own sheet k₀ start g k marks rows p kept =
     Underway (tidying mode) mode 65536 own sheet k₀ start nothing g k marks rows p kept × Counted kept p
 
-pub tidies-first : {mode : Mode} {own : ℕ} {sheet k : List ℕ} {start : Cursor} {g marks rows : List ℕ} {kept : Looked} → Ready g k start
-    → Noted noneStanding (drop start.at sheet) marks rows → kept ≡ nothing → Tidies mode own sheet k start g k marks rows start kept
-tidies-first {mode} {own} {sheet} {k} {start} {g} {marks} {rows} r t e =
+pub tidies_first : {mode : Mode} {own : ℕ} {sheet k : List ℕ} {start : Cursor} {g marks rows : List ℕ} {kept : Looked} → Ready g k start
+    → Noted none_standing (drop start.at sheet) marks rows → kept ≡ nothing → Tidies mode own sheet k start g k marks rows start kept
+tidies_first {mode} {own} {sheet} {k} {start} {g} {marks} {rows} r t e =
     subst (λ kept. Tidies mode own sheet k start g k marks rows start kept) (sym e)
     (underway-first r t, record { bytes = omega arith; rooted = omega arith; rootless = omega arith })
 
-look-low : (f : Found) (n index : ℕ) → f.index ≤ index → (lookOn f n).index ≤ suc index
-look-low f n index h = go (eqb f.test 0) (eqb n 0)
+look_low : (f : Found) (n index : ℕ) → f.index ≤ index → (look_on f n).index ≤ suc index
+look_low f n index h = go (eqb f.test 0) (eqb n 0)
   where
     go : (x y : Bool) → (cond x (cond y (record { index = f.index + 1; test = 0 }) (record { index = f.index; test = n })) f).index ≤ suc index
     go true true = omega (arith, h)
@@ -176,12 +176,12 @@ look-low f n index h = go (eqb f.test 0) (eqb n 0)
 
 module _ {mode : Mode} {own : ℕ} {sheet k₀ : List ℕ} {start : Cursor} {g k marks rows : List ℕ} {p : Cursor} {kept : Looked}
     (s : Tidies mode own sheet k₀ start g k marks rows p kept) where
-  whole-as : left_of (tidying mode) mode 65536 own sheet noneStanding k₀ start nothing ≡ left mode own sheet k₀ start
+  whole-as : left_of (tidying mode) mode 65536 own sheet none_standing k₀ start nothing ≡ left mode own sheet k₀ start
   whole-as =
-      let d = decodedAt own sheet start.index start.at in
+      let d = decoded_at own sheet start.index start.at in
       let rest = drop start.at sheet in
-      walked mode d.items d.fault rest noneStanding start.index nothing [] (stateAt k₀ start) refl
-      ∙ ap (tell (lowerFrom mode 65536 d.items d.fault rest noneStanding start.index [] (stateAt k₀ start))) (chosen-first mode d.items (stateAt k₀ start))
+      walked mode d.items d.fault rest none_standing start.index nothing [] (state_at k₀ start) refl
+      ∙ ap (tell (lower_from mode 65536 d.items d.fault rest none_standing start.index [] (state_at k₀ start))) (chosen_first mode d.items (state_at k₀ start))
 
   all : kept.bytes + (65536 - kept.bytes) ≡ 65536
   all = let w = s.1.bytes in omega (arith, w)
@@ -201,21 +201,21 @@ module _ {mode : Mode} {own : ℕ} {sheet k₀ : List ℕ} {start : Cursor} {g k
         → Tidies mode own sheet k₀ start g' k' marks' rows' (stand p r) kept'
     tidies-next {kept'} h f z e =
         let m = t.moves z in
-        let l : r.size ≡ length (encodeAll (rerun mode r.instruction (stateAt k p)).records) = sym m.long ∙ ap length m.bytes in
-        let w : kept' ≡ looked mode p.low.real r.instruction (length (encodeAll (rerun mode r.instruction (stateAt k p)).records)) kept
+        let l : r.size ≡ length (encode_all (rerun mode r.instruction (state_at k p)).records) = sym m.long ∙ ap length m.bytes in
+        let w : kept' ≡ looked mode p.low.real r.instruction (length (encode_all (rerun mode r.instruction (state_at k p)).records)) kept
         = e ∙ ap (λ n. looked mode p.low.real r.instruction n kept) l in
         let c = s.1 in (
           subst (λ kept. Underway (tidying mode) mode 65536 own sheet k₀ start nothing g' k' marks' rows' (stand p r) kept) (sym w) (underway-next s.0 t h f z all),
           subst (λ kept. Counted kept (stand p r)) (sym e)
               (record {
                 bytes = room-left z;
-                rooted = subst (λ i. (lookOn kept.rooted (untidy mode true p.low.real r.instruction)).index ≤ i) (sym m.index) (look-low kept.rooted (untidy mode true p.low.real r.instruction) p.index c.rooted);
-                rootless = subst (λ i. (lookOn kept.rootless (untidy mode false p.low.real r.instruction)).index ≤ i) (sym m.index) (look-low kept.rootless (untidy mode false p.low.real r.instruction) p.index c.rootless);
+                rooted = subst (λ i. (look_on kept.rooted (untidy mode true p.low.real r.instruction)).index ≤ i) (sym m.index) (look_low kept.rooted (untidy mode true p.low.real r.instruction) p.index c.rooted);
+                rootless = subst (λ i. (look_on kept.rootless (untidy mode false p.low.real r.instruction)).index ≤ i) (sym m.index) (look_low kept.rootless (untidy mode false p.low.real r.instruction) p.index c.rootless);
               }),
         )
 
-    pub tidy-refused : {a : Tidiness} → r.done ≡ true → a ≡ tidinessAt r.number kept p.index → a ≡ left mode own sheet k₀ start
+    pub tidy-refused : {a : Tidiness} → r.done ≡ true → a ≡ tidiness_at r.number kept p.index → a ≡ left mode own sheet k₀ start
     tidy-refused z e = e ∙ halted s.0 t z all ∙ whole-as
 
-  pub tidy-ended : {a : Tidiness} → Done (instructionFrom own) sheet p.at 0 → a ≡ tidinessAt 0 kept p.index → a ≡ left mode own sheet k₀ start
+  pub tidy-ended : {a : Tidiness} → Done (instruction_from own) sheet p.at 0 → a ≡ tidiness_at 0 kept p.index → a ≡ left mode own sheet k₀ start
   tidy-ended d e = e ∙ ended_here s.0 d ∙ whole-as

@@ -2,14 +2,14 @@
 -- that fails one.
 use Rattle.std.specs.Prelude.{ℕ, ◌<◌, ◌≡◌, Bool, List, length, get_or}
 use Rattle.mir.specs.declared.records.Instruction.{Instruction}
-use Rattle.leftovers.specs.Leftovers.{Sheet, sheetOf, real_at}
+use Rattle.leftovers.specs.Leftovers.{Sheet, sheet_of, real_at}
 use Rattle.meaning.specs.Tidy.{untidy, TidySheet}
 use Rattle.tidy.specs.declared.entry.Tidiness.{Tidiness}
-use Rattle.tidy.specs.First.{rootsIn}
+use Rattle.tidy.specs.First.{roots_in}
 
 -- whether a sheet has Roots
 abbrev pub roots : Sheet → Bool
-roots s = rootsIn s.instructions
+roots s = roots_in s.instructions
 
 -- the number of the test that instruction j fails; 0: none
 abbrev pub failed : Sheet → ℕ → ℕ
@@ -23,5 +23,5 @@ pub record First (s : Sheet) (j test : ℕ) : Type 0 where
 
 -- of any way to tell, where the sheet is not refused
 pub record TellsTidy (tell : List ℕ → Tidiness) : Type 0 where
-  pub tidy : (sheet : List ℕ) → (tell sheet).number ≡ 0 → (tell sheet).test ≡ 0 → TidySheet (roots (sheetOf sheet)) (sheetOf sheet)
-  pub untidy : (sheet : List ℕ) → (tell sheet).number ≡ 0 → ((tell sheet).test ≡ 0 → ⊥) → First (sheetOf sheet) (tell sheet).index (tell sheet).test
+  pub tidy : (sheet : List ℕ) → (tell sheet).number ≡ 0 → (tell sheet).test ≡ 0 → TidySheet (roots (sheet_of sheet)) (sheet_of sheet)
+  pub untidy : (sheet : List ℕ) → (tell sheet).number ≡ 0 → ((tell sheet).test ≡ 0 → ⊥) → First (sheet_of sheet) (tell sheet).index (tell sheet).test

@@ -1,10 +1,10 @@
 // Whether a sheet is tidy. No listing is made: the records of one instruction stand in the stage at a time.
 ghost use Rattle.std.specs.Prelude.{◌≡◌, ◌||◌, ◌+◌, ◌≤◌, drop, replicate};
-ghost use Rattle.lowering.specs.Labels.{noneStanding};
+ghost use Rattle.lowering.specs.Labels.{none_standing};
 ghost use Rattle.refusals.specs.Noted.{Noted};
 ghost use Rattle.complexify.specs.Taken.{Ready};
 ghost use Rattle.tidy.specs.First as Spec;
-ghost use Rattle.tidy.specs.Looking.{lookOn, looked, nothing, Low, tidinessAt, left};
+ghost use Rattle.tidy.specs.Looking.{look_on, looked, nothing, Low, tidiness_at, left};
 
 use super::tests::{has_root, untidy};
 use complexifier::state::Complexifier;
@@ -58,7 +58,7 @@ fn refusal(number: u8, index: usize) -> Tidiness
 // One instruction more, which fails a test, or none.
 fn look_on(f: Found, test: u8) -> Found
     requires { f.index ≤ 65536 }
-    ensures { result ≡ lookOn f test }
+    ensures { result ≡ look_on f test }
 {
     if f.test != 0 {
         return f;
@@ -75,7 +75,7 @@ fn look_on(f: Found, test: u8) -> Found
     }
 }
 
-fn either(x: bool, y: bool) -> bool
+fn Either(x: bool, y: bool) -> bool
     ensures { result ≡ (x || y) }
 {
     if x {
@@ -94,7 +94,7 @@ fn look(mode: Mode, real: Realness, instruction: Instruction, size: usize, kept:
     let rootless = kept.rootless;
     Looked {
         bytes: kept.bytes + size,
-        roots: either(kept.roots, has_root(instruction)),
+        roots: Either(kept.roots, has_root(instruction)),
         rooted: look_on(rooted, untidy(mode, true, real, instruction)),
         rootless: look_on(rootless, untidy(mode, false, real, instruction)),
     }
@@ -124,7 +124,7 @@ fn answer_of(f: Found) -> Tidiness
 
 // What is answered where the work ends with a number.
 fn tidiness_at(number: u8, kept: Looked, p: Cursor) -> Tidiness
-    ensures { result ≡ tidinessAt number kept p.index }
+    ensures { result ≡ tidiness_at number kept p.index }
 {
     if number != 0 {
         return refusal(number, p.index);
@@ -148,7 +148,7 @@ fn run(
     constants: &mut [u64],
 ) -> Tidiness
     requires ready { Ready (replicate 704 0) constants.old start }
-    requires noted { Noted noneStanding (drop start.at sheet.now) marks.old rows.old }
+    requires noted { Noted none_standing (drop start.at sheet.now) marks.old rows.old }
     ensures { result ≡ left mode own sheet.now constants.old start }
 {
     let mut stage = [0u8; 704];

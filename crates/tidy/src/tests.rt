@@ -2,12 +2,12 @@
 ghost use Rattle.std.specs.Prelude.{◌≡◌, not, ◌&&◌, ◌||◌, [], ◌∷◌};
 ghost use Rattle.mir.specs.declared.ops.UniOp.{UniOp};
 ghost use Rattle.mir.specs.declared.records.Instruction.{Instruction};
-ghost use Rattle.mir.specs.Operation.{uniNumber};
+ghost use Rattle.mir.specs.Operation.{uni_number};
 ghost use Rattle.mir.specs.Takes.{one_of};
 ghost use Rattle.lowering.specs.Lower as Lower;
-ghost use Rattle.lowering.specs.Lower.{byFirst, isGeneral};
+ghost use Rattle.lowering.specs.Lower.{by_first, is_general};
 ghost use Rattle.meaning.specs.Tidy as Spec;
-ghost use Rattle.tidy.specs.First.{isRoot};
+ghost use Rattle.tidy.specs.First.{is_root};
 
 use lowering::realness::Realness;
 use mir::ops::{ArithOp, UniOp, uni_number};
@@ -25,7 +25,7 @@ fn both(x: bool, y: bool) -> bool
 
 // Whether a register is Ret or Temp, or another is.
 fn or_special(a: u8, rest: bool) -> bool
-    ensures { result ≡ (not (isGeneral a) || rest) }
+    ensures { result ≡ (not (is_general a) || rest) }
 {
     if a < 30 {
         return rest;
@@ -34,7 +34,7 @@ fn or_special(a: u8, rest: bool) -> bool
 }
 
 fn is_stack2(loc: Loc) -> bool
-    ensures { result ≡ Spec.isStack2 loc }
+    ensures { result ≡ Spec.is_stack2 loc }
 {
     match loc {
         Loc::Stack(i) => {
@@ -49,7 +49,7 @@ fn is_stack2(loc: Loc) -> bool
 }
 
 fn is_root(op: UniOp) -> bool
-    ensures { result ≡ one_of uniNumber op (UniOp.Root ∷ UniOp.RealRoot ∷ []) }
+    ensures { result ≡ one_of uni_number op (UniOp.Root ∷ UniOp.RealRoot ∷ []) }
 {
     if uni_number(op) == uni_number(UniOp::Root) {
         return true;
@@ -61,7 +61,7 @@ fn is_root(op: UniOp) -> bool
 }
 
 fn is_half(op: UniOp) -> bool
-    ensures { result ≡ one_of uniNumber op (UniOp.Half ∷ []) }
+    ensures { result ≡ one_of uni_number op (UniOp.Half ∷ []) }
 {
     if uni_number(op) == uni_number(UniOp::Half) {
         return true;
@@ -70,7 +70,7 @@ fn is_half(op: UniOp) -> bool
 }
 
 fn is_divide(op: ArithOp) -> bool
-    ensures { result ≡ Lower.isDivide op }
+    ensures { result ≡ Lower.is_divide op }
 {
     match op {
         ArithOp::Plus => false,
@@ -91,7 +91,7 @@ fn differ(d: bool, a: bool) -> bool
 
 // The number of the first that holds; 0: none does.
 fn first_of(one: bool, two: bool, other: bool, number: u8) -> u8
-    ensures { result ≡ byFirst ((one, 1) ∷ (two, 2) ∷ (other, number) ∷ []) (λ n. n) 0 }
+    ensures { result ≡ by_first ((one, 1) ∷ (two, 2) ∷ (other, number) ∷ []) (λ n. n) 0 }
 {
     if one {
         return 1;
@@ -211,7 +211,7 @@ pub(crate) fn untidy(mode: Mode, roots: bool, real: Realness, instruction: Instr
 
 // Whether an instruction is a Root or RealRoot.
 pub(crate) fn has_root(instruction: Instruction) -> bool
-    ensures { result ≡ isRoot instruction }
+    ensures { result ≡ is_root instruction }
 {
     match instruction {
         Instruction::Nop => false,

@@ -55,9 +55,9 @@ pub fed : (l : List ℕ) {x : ℕ} → x ≡ get_or l 0 0 → x ≡ 12 → (1 �
 unfolding unfed
 fed l e h = (some_byte l 11 (sym e ∙ h), sym (ap (λ b. cond b (drop 1 l) l) (eq-eqb (get_or l 0 0) 12 (sym e ∙ h))))
 
-pub not-fed : (l : List ℕ) {x : ℕ} → x ≡ get_or l 0 0 → (x ≡ 12 → ⊥) → l ≡ unfed l
+pub not_fed : (l : List ℕ) {x : ℕ} → x ≡ get_or l 0 0 → (x ≡ 12 → ⊥) → l ≡ unfed l
 unfolding unfed
-not-fed l e h = sym (ap (λ b. cond b (drop 1 l) l) (ne_eqb (get_or l 0 0) 12 (λ f. h (e ∙ f))))
+not_fed l e h = sym (ap (λ b. cond b (drop 1 l) l) (ne_eqb (get_or l 0 0) 12 (λ f. h (e ∙ f))))
 
 empty : (l : List ℕ) → length l ≡ 0 → l ≡ []
 empty [] h = refl
@@ -71,9 +71,9 @@ pub returned : (l : List ℕ) → get_or l (length l - 1) 0 ≡ 13 → take (len
 unfolding unreturned
 returned l h = sym (ap (λ b. cond b (take (length l - 1) l) l) (eq-eqb (get_or l (length l - 1) 0) 13 h))
 
-pub not-returned : (l : List ℕ) → (get_or l (length l - 1) 0 ≡ 13 → ⊥) → take (length l) l ≡ unreturned l
+pub not_returned : (l : List ℕ) → (get_or l (length l - 1) 0 ≡ 13 → ⊥) → take (length l) l ≡ unreturned l
 unfolding unreturned
-not-returned l h = take_all (length l) l (omega arith) ∙ sym (ap (λ b. cond b (take (length l - 1) l) l) (ne_eqb (get_or l (length l - 1) 0) 13 h))
+not_returned l h = take_all (length l) l (omega arith) ∙ sym (ap (λ b. cond b (take (length l - 1) l) l) (ne_eqb (get_or l (length l - 1) 0) 13 h))
 
 -- a printed line has 72 columns
 padded : (n : ℕ) (t : List ℕ) → n ≤ length (spaces (n - length t) ++ t)
@@ -88,9 +88,9 @@ filled n t =
     let b = length-replicate {A = ℕ} (n - length t) 32 in
     omega (arith, a, b)
 
-row-least : (row : Row) → 73 ≤ length (row_line row)
+row_least : (row : Row) → 73 ≤ length (row_line row)
 unfolding row_line
-row-least row =
+row_least row =
     let a = padded 5 (decimal row.index) in
     let b = filled 16 row.name in
     let c = filled 49 row.operands in
@@ -105,14 +105,14 @@ take_less (suc m) zero l h = absurd (omega (arith, h))
 take_less (suc m) (suc n) [] h = refl
 take_less (suc m) (suc n) (b ∷ l) h = ap (λ x. b ∷ x) (take_less m n l (omega (arith, h)))
 
-no-bytes-taken : (m : ℕ) → take {A = ℕ} m [] ≡ []
-no-bytes-taken zero = refl
-no-bytes-taken (suc m) = refl
+no_bytes_taken : (m : ℕ) → take {A = ℕ} m [] ≡ []
+no_bytes_taken zero = refl
+no_bytes_taken (suc m) = refl
 
 pub drop-take : (k n : ℕ) (l : List ℕ) → k ≤ n → drop k (take n l) ≡ take (n - k) (drop k l)
 drop-take zero n l h = ap (λ m. take m l) (sym (sub-zero n))
 drop-take (suc k) zero l h = absurd (omega (arith, h))
-drop-take (suc k) (suc n) [] h = sym (no-bytes-taken (suc n - suc k))
+drop-take (suc k) (suc n) [] h = sym (no_bytes_taken (suc n - suc k))
 drop-take (suc k) (suc n) (b ∷ l) h =
     let e : suc n - suc k ≡ n - k = omega arith in
     drop-take k n l (omega (arith, h)) ∙ ap (λ m. take m (drop k l)) (sym e)
@@ -124,5 +124,5 @@ take_short (suc n) (b ∷ l) = let h = take_short n l in omega (arith, h)
 
 pub columns_of : (row : Row) {l : Line} → Prints (row_line row) l → take 72 l.bytes ≡ take 72 (row_line row)
 columns_of row {l} p =
-    let h = row-least row in
+    let h = row_least row in
     sym (take_less 72 (length (row_line row)) l.bytes (omega (arith, h))) ∙ ap (take 72) p.whole.bytes

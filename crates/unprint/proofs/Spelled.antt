@@ -13,17 +13,17 @@ use Rattle.mir.specs.declared.records.Work.{Work}
 use Rattle.mir.specs.declared.records.Record.{Record}
 use Rattle.mir.specs.Place.{class, index}
 use Rattle.mir.specs.Length.{lengths, length_of}
-use Rattle.mir.specs.Operation.{uniOps, binOps, arithOps, fusedOps, uniNumber, binNumber, arithNumber, fusedNumber, taken}
-use Rattle.mir.specs.Takes.{takesUni, takesBin, takesArith, takesFused}
-use Rattle.mir.specs.Encode.{recordOf, twoBytes, placeBytes, flagByte, encode, encodeAll}
+use Rattle.mir.specs.Operation.{uni_ops, bin_ops, arith_ops, fused_ops, uni_number, bin_number, arith_number, fused_number, taken}
+use Rattle.mir.specs.Takes.{takes_uni, takes_bin, takes_arith, takes_fused}
+use Rattle.mir.specs.Encode.{record_of, two_bytes, place_bytes, flag_byte, encode, encode_all}
 use Rattle.mir.specs.Read.{Read, got, refused, and_then}
-use Rattle.mir.specs.Field.{byte_at, bytes_at, u16At, takesKind, placeAt, savePlace, condPlace}
-use Rattle.mir.specs.Kinds.{uniFrom, biFrom, movFrom, loadFrom, saveFrom, loadConstFrom, fusedFrom, ifElseFrom}
+use Rattle.mir.specs.Field.{byte_at, bytes_at, u16_at, takes_kind, place_at, save_place, cond_place}
+use Rattle.mir.specs.Kinds.{uni_from, bi_from, mov_from, load_from, save_from, load_const_from, fused_from, if_else_from}
 use Rattle.mir.specs.Decode.{decoded, ahead}
 use Rattle.mir.proofs.Heads.{Sized, Headed}
-use Rattle.mir.proofs.IfRead.{IfRead, read, told, tested, parted, chosen, if-read, limited, counted, head}
+use Rattle.mir.proofs.IfRead.{IfRead, read, told, tested, parted, chosen, if_read, limited, counted, head}
 use Rattle.mir.proofs.Decoding.{Bytes, items, fault, decoded-none, decoded-torn, decoded-got}
-use Rattle.records.specs.Record.{fieldsFrom, recordFrom, loadComplexFrom, saveComplexFrom, complexBiFrom, labelFrom, branchFrom, callFrom, branchIfFrom}
+use Rattle.records.specs.Record.{fields_from, record_from, load_complex_from, save_complex_from, complex_bi_from, label_from, branch_from, call_from, branch_if_from}
 use Rattle.records.proofs.Reading.{whole}
 use Rattle.assembly.specs.Assembled.{counting}
 use Rattle.assembly.proofs.Outcomes.{numbered, PlaceIs, placed, saved, stacked, by_front}
@@ -42,32 +42,32 @@ abbrev Spells : ℕ → List ℕ → Record → Type 0
 Spells n s r = take n s ≡ encode r
 
 abbrev Known : ℕ → ℕ → (List ℕ → Read Record) → List ℕ → Type 0
-Known n kind x s = Bytes s → u16At s 0 ≡ n → u16At s 2 ≡ kind → IfRead (Spells n s) (x s)
+Known n kind x s = Bytes s → u16_at s 0 ≡ n → u16_at s 2 ≡ kind → IfRead (Spells n s) (x s)
 
 abbrev Kind : ℕ → ℕ → (List ℕ → Read Record) → Type 0
 Kind n kind x = (s : List ℕ) → n ≤ length s → Known n kind x s
 
-uni-numbers : map uniNumber uniOps ≡ counting (length uniOps) 0
-unfolding uniOps
-uni-numbers = refl
+uni_numbers : map uni_number uni_ops ≡ counting (length uni_ops) 0
+unfolding uni_ops
+uni_numbers = refl
 
-bin-numbers : map binNumber binOps ≡ counting (length binOps) 0
-unfolding binOps
+bin-numbers : map bin_number bin_ops ≡ counting (length bin_ops) 0
+unfolding bin_ops
 bin-numbers = refl
 
-arith-numbers : map arithNumber arithOps ≡ counting (length arithOps) 0
-unfolding arithOps
-arith-numbers = refl
+arith_numbers : map arith_number arith_ops ≡ counting (length arith_ops) 0
+unfolding arith_ops
+arith_numbers = refl
 
-fused-numbers : map fusedNumber fusedOps ≡ counting (length fusedOps) 0
-unfolding fusedOps
-fused-numbers = refl
+fused_numbers : map fused_number fused_ops ≡ counting (length fused_ops) 0
+unfolding fused_ops
+fused_numbers = refl
 
 at-start : (n : ℕ) → n ≡ 0 + n
 at-start n = omega arith
 
-place-spelled : {c lo hi : ℕ} {p : Loc} → lo < 256 → PlaceIs c lo hi p → c ∷ lo ∷ hi ∷ [] ≡ placeBytes p
-place-spelled {c} {lo} {hi} {p} h q =
+place_spelled : {c lo hi : ℕ} {p : Loc} → lo < 256 → PlaceIs c lo hi p → c ∷ lo ∷ hi ∷ [] ≡ place_bytes p
+place_spelled {c} {lo} {hi} {p} h q =
     let k = sym q.kind in
     let a = q.at in
     let z = q.high in
@@ -78,53 +78,53 @@ place-spelled {c} {lo} {hi} {p} h q =
 same_place : {c lo hi : ℕ} {p q : Loc} → PlaceIs c lo hi p → q ≡ p → PlaceIs c lo hi q
 same_place {c} {lo} {hi} h e = subst (PlaceIs c lo hi) (sym e) h
 
-uni : Kind 7 1 (uniFrom true (λ op dst s1. Record.Work (Work.Uni op dst s1)))
-unfolding u16At recordOf length_of lengths uniFrom
+uni : Kind 7 1 (uni_from true (λ op dst s1. Record.Work (Work.Uni op dst s1)))
+unfolding u16_at record_of length_of lengths uni_from
 uni =
-    by_front 7 (Known 7 1 (uniFrom true (λ op dst s1. Record.Work (Work.Uni op dst s1))))
+    by_front 7 (Known 7 1 (uni_from true (λ op dst s1. Record.Work (Work.Uni op dst s1))))
     (λ b0 b1 b2 b3 b4 b5 b6 rest bytes w v.
-    parted (numbered (takesUni true) uniNumber uniOps b4 0 b4 (at-start b4) uni-numbers)
+    parted (numbered (takes_uni true) uni_number uni_ops b4 0 b4 (at-start b4) uni_numbers)
     (λ op e. limited 65 (b5 ∷ b6 ∷ [])
     (λ l. read (start 7 1 _ (bytes 0) (bytes 2) (omega arith) (omega arith) w v ∙ ap (λ x. 7 ∷ 0 ∷ 1 ∷ 0 ∷ x ∷ b5 ∷ b6 ∷ []) e))))
 
-bi : Kind 8 2 (biFrom true (λ op dst s1 s2. Record.Work (Work.Bi op dst s1 s2)))
-unfolding u16At recordOf length_of lengths biFrom
+bi : Kind 8 2 (bi_from true (λ op dst s1 s2. Record.Work (Work.Bi op dst s1 s2)))
+unfolding u16_at record_of length_of lengths bi_from
 bi =
-    by_front 8 (Known 8 2 (biFrom true (λ op dst s1 s2. Record.Work (Work.Bi op dst s1 s2))))
+    by_front 8 (Known 8 2 (bi_from true (λ op dst s1 s2. Record.Work (Work.Bi op dst s1 s2))))
     (λ b0 b1 b2 b3 b4 b5 b6 b7 rest bytes w v.
-    parted (numbered (takesBin true) binNumber binOps b4 0 b4 (at-start b4) bin-numbers)
+    parted (numbered (takes_bin true) bin_number bin_ops b4 0 b4 (at-start b4) bin-numbers)
     (λ op e. limited 65 (b5 ∷ b6 ∷ b7 ∷ [])
     (λ l. read (start 8 2 _ (bytes 0) (bytes 2) (omega arith) (omega arith) w v ∙ ap (λ x. 8 ∷ 0 ∷ 2 ∷ 0 ∷ x ∷ b5 ∷ b6 ∷ b7 ∷ []) e))))
 
-mov : Kind 6 3 (movFrom true (λ dst s1. Record.Work (Work.Mov dst s1)))
-unfolding u16At recordOf length_of lengths movFrom
+mov : Kind 6 3 (mov_from true (λ dst s1. Record.Work (Work.Mov dst s1)))
+unfolding u16_at record_of length_of lengths mov_from
 mov =
-    by_front 6 (Known 6 3 (movFrom true (λ dst s1. Record.Work (Work.Mov dst s1))))
+    by_front 6 (Known 6 3 (mov_from true (λ dst s1. Record.Work (Work.Mov dst s1))))
     (λ b0 b1 b2 b3 b4 b5 rest bytes w v.
     limited 65 (b4 ∷ b5 ∷ []) (λ l. read (start 6 3 _ (bytes 0) (bytes 2) (omega arith) (omega arith) w v)))
 
-load : Kind 8 4 (loadFrom true (λ dst loc. Record.Work (Work.Load dst loc)))
-unfolding u16At recordOf length_of lengths loadFrom placeAt
+load : Kind 8 4 (load_from true (λ dst loc. Record.Work (Work.Load dst loc)))
+unfolding u16_at record_of length_of lengths load_from place_at
 load =
-    by_front 8 (Known 8 4 (loadFrom true (λ dst loc. Record.Work (Work.Load dst loc))))
+    by_front 8 (Known 8 4 (load_from true (λ dst loc. Record.Work (Work.Load dst loc))))
     (λ b0 b1 b2 b3 b4 b5 b6 b7 rest bytes w v.
     limited 65 (b4 ∷ [])
     (λ l. parted (placed b5 b6 b7 (bytes 6))
-    (λ p q. read (start 8 4 _ (bytes 0) (bytes 2) (omega arith) (omega arith) w v ∙ ap (λ f. 8 ∷ 0 ∷ 4 ∷ 0 ∷ b4 ∷ f) (place-spelled (bytes 6) q)))))
+    (λ p q. read (start 8 4 _ (bytes 0) (bytes 2) (omega arith) (omega arith) w v ∙ ap (λ f. 8 ∷ 0 ∷ 4 ∷ 0 ∷ b4 ∷ f) (place_spelled (bytes 6) q)))))
 
-save : Kind 8 5 (saveFrom true (λ src loc. Record.Work (Work.Save src loc)))
-unfolding u16At recordOf length_of lengths saveFrom savePlace placeAt
+save : Kind 8 5 (save_from true (λ src loc. Record.Work (Work.Save src loc)))
+unfolding u16_at record_of length_of lengths save_from save_place place_at
 save =
-    by_front 8 (Known 8 5 (saveFrom true (λ src loc. Record.Work (Work.Save src loc))))
+    by_front 8 (Known 8 5 (save_from true (λ src loc. Record.Work (Work.Save src loc))))
     (λ b0 b1 b2 b3 b4 b5 b6 b7 rest bytes w v.
     limited 65 (b4 ∷ [])
-    (λ l. parted (parted (placed b5 b6 b7 (bytes 6)) (λ p q. if-read (λ r e. same_place q e) (saved p)))
-    (λ p q. read (start 8 5 _ (bytes 0) (bytes 2) (omega arith) (omega arith) w v ∙ ap (λ f. 8 ∷ 0 ∷ 5 ∷ 0 ∷ b4 ∷ f) (place-spelled (bytes 6) q)))))
+    (λ l. parted (parted (placed b5 b6 b7 (bytes 6)) (λ p q. if_read (λ r e. same_place q e) (saved p)))
+    (λ p q. read (start 8 5 _ (bytes 0) (bytes 2) (omega arith) (omega arith) w v ∙ ap (λ f. 8 ∷ 0 ∷ 5 ∷ 0 ∷ b4 ∷ f) (place_spelled (bytes 6) q)))))
 
-load-const : (count : ℕ) → Kind 7 6 (loadConstFrom true (λ dst idx. Record.Work (Work.LoadConst dst idx)) count)
-unfolding u16At recordOf length_of lengths loadConstFrom
+load-const : (count : ℕ) → Kind 7 6 (load_const_from true (λ dst idx. Record.Work (Work.LoadConst dst idx)) count)
+unfolding u16_at record_of length_of lengths load_const_from
 load-const count =
-    by_front 7 (Known 7 6 (loadConstFrom true (λ dst idx. Record.Work (Work.LoadConst dst idx)) count))
+    by_front 7 (Known 7 6 (load_const_from true (λ dst idx. Record.Work (Work.LoadConst dst idx)) count))
     (λ b0 b1 b2 b3 b4 b5 b6 rest bytes w v.
     limited 65 (b4 ∷ [])
     (λ l. counted count (b5 + 256 * b6)
@@ -134,113 +134,113 @@ load-const count =
     let d : b6 ≡ (b5 + 256 * b6) / 256 = omega (arith, h) in
     read (start 7 6 _ (bytes 0) (bytes 2) (omega arith) (omega arith) w v ∙ (λ i. 7 ∷ 0 ∷ 6 ∷ 0 ∷ b4 ∷ m i ∷ d i ∷ [])))))
 
-fused : Kind 9 7 (fusedFrom true (λ op dst a b c. Record.Work (Work.Fused op dst a b c)))
-unfolding u16At recordOf length_of lengths fusedFrom
+fused : Kind 9 7 (fused_from true (λ op dst a b c. Record.Work (Work.Fused op dst a b c)))
+unfolding u16_at record_of length_of lengths fused_from
 fused =
-    by_front 9 (Known 9 7 (fusedFrom true (λ op dst a b c. Record.Work (Work.Fused op dst a b c))))
+    by_front 9 (Known 9 7 (fused_from true (λ op dst a b c. Record.Work (Work.Fused op dst a b c))))
     (λ b0 b1 b2 b3 b4 b5 b6 b7 b8 rest bytes w v.
-    parted (numbered (takesFused true) fusedNumber fusedOps b4 0 b4 (at-start b4) fused-numbers)
+    parted (numbered (takes_fused true) fused_number fused_ops b4 0 b4 (at-start b4) fused_numbers)
     (λ op e. limited 65 (b5 ∷ b6 ∷ b7 ∷ b8 ∷ [])
     (λ l. read (start 9 7 _ (bytes 0) (bytes 2) (omega arith) (omega arith) w v ∙ ap (λ x. 9 ∷ 0 ∷ 7 ∷ 0 ∷ x ∷ b5 ∷ b6 ∷ b7 ∷ b8 ∷ []) e))))
 
-if-else : Kind 10 8 (ifElseFrom true (λ dst t f loc. Record.Work (Work.IfElse dst t f loc)))
-unfolding u16At recordOf length_of lengths ifElseFrom condPlace placeAt
+if-else : Kind 10 8 (if_else_from true (λ dst t f loc. Record.Work (Work.IfElse dst t f loc)))
+unfolding u16_at record_of length_of lengths if_else_from cond_place place_at
 if-else =
-    by_front 10 (Known 10 8 (ifElseFrom true (λ dst t f loc. Record.Work (Work.IfElse dst t f loc))))
+    by_front 10 (Known 10 8 (if_else_from true (λ dst t f loc. Record.Work (Work.IfElse dst t f loc))))
     (λ b0 b1 b2 b3 b4 b5 b6 b7 b8 b9 rest bytes w v.
     limited 65 (b4 ∷ b5 ∷ b6 ∷ [])
-    (λ l. parted (parted (placed b7 b8 b9 (bytes 8)) (λ p q. if-read (λ r e. same_place q e) (stacked p)))
-    (λ p q. read (start 10 8 _ (bytes 0) (bytes 2) (omega arith) (omega arith) w v ∙ ap (λ f. 10 ∷ 0 ∷ 8 ∷ 0 ∷ b4 ∷ b5 ∷ b6 ∷ f) (place-spelled (bytes 8) q)))))
+    (λ l. parted (parted (placed b7 b8 b9 (bytes 8)) (λ p q. if_read (λ r e. same_place q e) (stacked p)))
+    (λ p q. read (start 10 8 _ (bytes 0) (bytes 2) (omega arith) (omega arith) w v ∙ ap (λ f. 10 ∷ 0 ∷ 8 ∷ 0 ∷ b4 ∷ b5 ∷ b6 ∷ f) (place_spelled (bytes 8) q)))))
 
-load-complex : Kind 9 11 loadComplexFrom
-unfolding u16At recordOf length_of lengths loadComplexFrom placeAt
+load-complex : Kind 9 11 load_complex_from
+unfolding u16_at record_of length_of lengths load_complex_from place_at
 load-complex =
-    by_front 9 (Known 9 11 loadComplexFrom)
+    by_front 9 (Known 9 11 load_complex_from)
     (λ b0 b1 b2 b3 b4 b5 b6 b7 b8 rest bytes w v.
     limited 65 (b4 ∷ b5 ∷ [])
     (λ l. parted (placed b6 b7 b8 (bytes 7))
-    (λ p q. read (start 9 11 _ (bytes 0) (bytes 2) (omega arith) (omega arith) w v ∙ ap (λ f. 9 ∷ 0 ∷ 11 ∷ 0 ∷ b4 ∷ b5 ∷ f) (place-spelled (bytes 7) q)))))
+    (λ p q. read (start 9 11 _ (bytes 0) (bytes 2) (omega arith) (omega arith) w v ∙ ap (λ f. 9 ∷ 0 ∷ 11 ∷ 0 ∷ b4 ∷ b5 ∷ f) (place_spelled (bytes 7) q)))))
 
-save-complex : Kind 9 12 saveComplexFrom
-unfolding u16At recordOf length_of lengths saveComplexFrom savePlace placeAt
+save-complex : Kind 9 12 save_complex_from
+unfolding u16_at record_of length_of lengths save_complex_from save_place place_at
 save-complex =
-    by_front 9 (Known 9 12 saveComplexFrom)
+    by_front 9 (Known 9 12 save_complex_from)
     (λ b0 b1 b2 b3 b4 b5 b6 b7 b8 rest bytes w v.
     limited 65 (b4 ∷ b5 ∷ [])
-    (λ l. parted (parted (placed b6 b7 b8 (bytes 7)) (λ p q. if-read (λ r e. same_place q e) (saved p)))
-    (λ p q. read (start 9 12 _ (bytes 0) (bytes 2) (omega arith) (omega arith) w v ∙ ap (λ f. 9 ∷ 0 ∷ 12 ∷ 0 ∷ b4 ∷ b5 ∷ f) (place-spelled (bytes 7) q)))))
+    (λ l. parted (parted (placed b6 b7 b8 (bytes 7)) (λ p q. if_read (λ r e. same_place q e) (saved p)))
+    (λ p q. read (start 9 12 _ (bytes 0) (bytes 2) (omega arith) (omega arith) w v ∙ ap (λ f. 9 ∷ 0 ∷ 12 ∷ 0 ∷ b4 ∷ b5 ∷ f) (place_spelled (bytes 7) q)))))
 
-complex-bi : Kind 11 13 complexBiFrom
-unfolding u16At recordOf length_of lengths complexBiFrom
+complex-bi : Kind 11 13 complex_bi_from
+unfolding u16_at record_of length_of lengths complex_bi_from
 complex-bi =
-    by_front 11 (Known 11 13 complexBiFrom)
+    by_front 11 (Known 11 13 complex_bi_from)
     (λ b0 b1 b2 b3 b4 b5 b6 b7 b8 b9 b10 rest bytes w v.
-    parted (numbered takesArith arithNumber arithOps b4 0 b4 (at-start b4) arith-numbers)
+    parted (numbered takes_arith arith_number arith_ops b4 0 b4 (at-start b4) arith_numbers)
     (λ op e. limited 65 (b5 ∷ b6 ∷ b7 ∷ b8 ∷ b9 ∷ b10 ∷ [])
     (λ l. read (start 11 13 _ (bytes 0) (bytes 2) (omega arith) (omega arith) w v ∙ ap (λ x. 11 ∷ 0 ∷ 13 ∷ 0 ∷ x ∷ b5 ∷ b6 ∷ b7 ∷ b8 ∷ b9 ∷ b10 ∷ []) e))))
 
-label : Kind 5 14 labelFrom
-unfolding u16At recordOf length_of lengths labelFrom
-label = by_front 5 (Known 5 14 labelFrom) (λ b0 b1 b2 b3 b4 rest bytes w v. read (start 5 14 _ (bytes 0) (bytes 2) (omega arith) (omega arith) w v))
+label : Kind 5 14 label_from
+unfolding u16_at record_of length_of lengths label_from
+label = by_front 5 (Known 5 14 label_from) (λ b0 b1 b2 b3 b4 rest bytes w v. read (start 5 14 _ (bytes 0) (bytes 2) (omega arith) (omega arith) w v))
 
-branch : Kind 5 15 branchFrom
-unfolding u16At recordOf length_of lengths branchFrom
-branch = by_front 5 (Known 5 15 branchFrom) (λ b0 b1 b2 b3 b4 rest bytes w v. read (start 5 15 _ (bytes 0) (bytes 2) (omega arith) (omega arith) w v))
+branch : Kind 5 15 branch_from
+unfolding u16_at record_of length_of lengths branch_from
+branch = by_front 5 (Known 5 15 branch_from) (λ b0 b1 b2 b3 b4 rest bytes w v. read (start 5 15 _ (bytes 0) (bytes 2) (omega arith) (omega arith) w v))
 
-call : Kind 5 16 callFrom
-unfolding u16At recordOf length_of lengths callFrom
-call = by_front 5 (Known 5 16 callFrom) (λ b0 b1 b2 b3 b4 rest bytes w v. read (start 5 16 _ (bytes 0) (bytes 2) (omega arith) (omega arith) w v))
+call : Kind 5 16 call_from
+unfolding u16_at record_of length_of lengths call_from
+call = by_front 5 (Known 5 16 call_from) (λ b0 b1 b2 b3 b4 rest bytes w v. read (start 5 16 _ (bytes 0) (bytes 2) (omega arith) (omega arith) w v))
 
-flag-back : (b : ℕ) → b ≤ 1 → b ≡ flagByte (eqb b 1)
-flag-back zero h = refl
-flag-back (suc zero) h = refl
-flag-back (suc (suc b)) h = absurd (omega (arith, h))
+flag_back : (b : ℕ) → b ≤ 1 → b ≡ flag_byte (eqb b 1)
+flag_back zero h = refl
+flag_back (suc zero) h = refl
+flag_back (suc (suc b)) h = absurd (omega (arith, h))
 
-branch_if : Kind 7 17 branchIfFrom
-unfolding u16At recordOf length_of lengths branchIfFrom
+branch_if : Kind 7 17 branch_if_from
+unfolding u16_at record_of length_of lengths branch_if_from
 branch_if =
-    by_front 7 (Known 7 17 branchIfFrom)
+    by_front 7 (Known 7 17 branch_if_from)
     (λ b0 b1 b2 b3 b4 b5 b6 rest bytes w v.
     tested (ltb 1 b6) 1
     (λ e. limited 65 (b4 ∷ [])
-    (λ l. read (start 7 17 _ (bytes 0) (bytes 2) (omega arith) (omega arith) w v ∙ ap (λ x. 7 ∷ 0 ∷ 17 ∷ 0 ∷ b4 ∷ b5 ∷ x ∷ []) (flag-back b6 (ltb-false 1 b6 e))))))
+    (λ l. read (start 7 17 _ (bytes 0) (bytes 2) (omega arith) (omega arith) w v ∙ ap (λ x. 7 ∷ 0 ∷ 17 ∷ 0 ∷ b4 ∷ b5 ∷ x ∷ []) (flag_back b6 (ltb-false 1 b6 e))))))
 
 -- by kind
-module _ (s : List ℕ) (kind : ℕ) (bytes : Bytes s) (h : Headed (takesKind true) s kind) where
-  ofKind : (j n : ℕ) (x : List ℕ → Read Record) → length_of j ≡ n → Kind n j x → kind ≡ j → IfRead (Spells (u16At s 0) s) (x s)
-  ofKind j n x l k e =
-      let v : u16At s 2 ≡ j = sym h.same ∙ e in
-      let w : u16At s 0 ≡ n = sym h.sized.rule ∙ ap length_of v ∙ l in
+module _ (s : List ℕ) (kind : ℕ) (bytes : Bytes s) (h : Headed (takes_kind true) s kind) where
+  of_kind : (j n : ℕ) (x : List ℕ → Read Record) → length_of j ≡ n → Kind n j x → kind ≡ j → IfRead (Spells (u16_at s 0) s) (x s)
+  of_kind j n x l k e =
+      let v : u16_at s 2 ≡ j = sym h.same ∙ e in
+      let w : u16_at s 0 ≡ n = sym h.sized.rule ∙ ap length_of v ∙ l in
       subst (λ m. IfRead (Spells m s) (x s)) (sym w) (k s (subst (λ m. m ≤ length s) w h.sized.inside) bytes w v)
 
-  fields : (count : ℕ) → IfRead (Spells (u16At s 0) s) (fieldsFrom count kind s)
-  unfolding fieldsFrom length_of lengths
+  fields : (count : ℕ) → IfRead (Spells (u16_at s 0) s) (fields_from count kind s)
+  unfolding fields_from length_of lengths
   fields count =
-      chosen kind 1 (ofKind 1 7 (uniFrom true (λ op dst s1. Record.Work (Work.Uni op dst s1))) refl uni)
-      (chosen kind 2 (ofKind 2 8 (biFrom true (λ op dst s1 s2. Record.Work (Work.Bi op dst s1 s2))) refl bi)
-      (chosen kind 3 (ofKind 3 6 (movFrom true (λ dst s1. Record.Work (Work.Mov dst s1))) refl mov)
-      (chosen kind 4 (ofKind 4 8 (loadFrom true (λ dst loc. Record.Work (Work.Load dst loc))) refl load)
-      (chosen kind 5 (ofKind 5 8 (saveFrom true (λ src loc. Record.Work (Work.Save src loc))) refl save)
-      (chosen kind 6 (ofKind 6 7 (loadConstFrom true (λ dst idx. Record.Work (Work.LoadConst dst idx)) count) refl (load-const count))
-      (chosen kind 7 (ofKind 7 9 (fusedFrom true (λ op dst a b c. Record.Work (Work.Fused op dst a b c))) refl fused)
-      (chosen kind 8 (ofKind 8 10 (ifElseFrom true (λ dst t f loc. Record.Work (Work.IfElse dst t f loc))) refl if-else)
-      (chosen kind 11 (ofKind 11 9 loadComplexFrom refl load-complex)
-      (chosen kind 12 (ofKind 12 9 saveComplexFrom refl save-complex)
-      (chosen kind 13 (ofKind 13 11 complexBiFrom refl complex-bi)
-      (chosen kind 14 (ofKind 14 5 labelFrom refl label)
-      (chosen kind 15 (ofKind 15 5 branchFrom refl branch)
-      (chosen kind 16 (ofKind 16 5 callFrom refl call)
-      (chosen kind 17 (ofKind 17 7 branchIfFrom refl branch_if)
+      chosen kind 1 (of_kind 1 7 (uni_from true (λ op dst s1. Record.Work (Work.Uni op dst s1))) refl uni)
+      (chosen kind 2 (of_kind 2 8 (bi_from true (λ op dst s1 s2. Record.Work (Work.Bi op dst s1 s2))) refl bi)
+      (chosen kind 3 (of_kind 3 6 (mov_from true (λ dst s1. Record.Work (Work.Mov dst s1))) refl mov)
+      (chosen kind 4 (of_kind 4 8 (load_from true (λ dst loc. Record.Work (Work.Load dst loc))) refl load)
+      (chosen kind 5 (of_kind 5 8 (save_from true (λ src loc. Record.Work (Work.Save src loc))) refl save)
+      (chosen kind 6 (of_kind 6 7 (load_const_from true (λ dst idx. Record.Work (Work.LoadConst dst idx)) count) refl (load-const count))
+      (chosen kind 7 (of_kind 7 9 (fused_from true (λ op dst a b c. Record.Work (Work.Fused op dst a b c))) refl fused)
+      (chosen kind 8 (of_kind 8 10 (if_else_from true (λ dst t f loc. Record.Work (Work.IfElse dst t f loc))) refl if-else)
+      (chosen kind 11 (of_kind 11 9 load_complex_from refl load-complex)
+      (chosen kind 12 (of_kind 12 9 save_complex_from refl save-complex)
+      (chosen kind 13 (of_kind 13 11 complex_bi_from refl complex-bi)
+      (chosen kind 14 (of_kind 14 5 label_from refl label)
+      (chosen kind 15 (of_kind 15 5 branch_from refl branch)
+      (chosen kind 16 (of_kind 16 5 call_from refl call)
+      (chosen kind 17 (of_kind 17 7 branch_if_from refl branch_if)
       told))))))))))))))
 
 record Spelled (s : List ℕ) (r : Record) : Type 0 where
-  same : take (u16At s 0) s ≡ encode r
+  same : take (u16_at s 0) s ≡ encode r
   sized : Sized s
 
-spelled : (count : ℕ) (s : List ℕ) → Bytes s → IfRead (Spelled s) (recordFrom count s)
-unfolding recordFrom
+spelled : (count : ℕ) (s : List ℕ) → Bytes s → IfRead (Spelled s) (record_from count s)
+unfolding record_from
 spelled count s bytes =
-    parted (head (takesKind true) s) (λ kind h. if-read (λ r e. record { same = e; sized = h.sized }) (fields s kind bytes h count))
+    parted (head (takes_kind true) s) (λ kind h. if_read (λ r e. record { same = e; sized = h.sized }) (fields s kind bytes h count))
 
 -- a listing that is read to its end is the bytes of its records
 halves : (n : ℕ) (s : List ℕ) → s ≡ take n s ++ drop n s
@@ -250,13 +250,13 @@ halves (suc n) (b ∷ s) = ap (λ l. b ∷ l) (halves n s)
 
 module _ (count : ℕ) where
   abbrev reader : List ℕ → Read Record
-  reader = recordFrom count
+  reader = record_from count
 
   one : (s : List ℕ) → 1 ≤ length s → fault reader s ≡ 0
-      → ((u : List ℕ) → length u < length s → ((i : ℕ) → get_or u i 0 ≡ get_or s (length s - length u + i) 0) → fault reader u ≡ 0 → u ≡ encodeAll (items reader u))
-      → (x : Read Record) → reader s ≡ x → IfRead (Spelled s) x → s ≡ encodeAll (items reader s)
+      → ((u : List ℕ) → length u < length s → ((i : ℕ) → get_or u i 0 ≡ get_or s (length s - length u + i) 0) → fault reader u ≡ 0 → u ≡ encode_all (items reader u))
+      → (x : Read Record) → reader s ≡ x → IfRead (Spelled s) x → s ≡ encode_all (items reader s)
   one s h e more (got r) f (read g) =
-      let n = u16At s 0 in
+      let n = u16_at s 0 in
       let z = g.sized in
       let q = decoded-got reader (whole count) s r f in
       let l = length-drop n s in
@@ -265,16 +265,16 @@ module _ (count : ℕ) where
       let u = more (drop n s) (omega (arith, l, a, b)) (λ i. let k : n ≡ length s - length (drop n s) = omega (arith, l, b) in get_or-drop n s i 0 ∙ ap (λ m. get_or s (m + i) 0) k) (sym (ap (λ d. d.fault) q) ∙ e) in
       halves n s
       ∙ (λ i. g.same i ++ u i)
-      ∙ sym (ap (λ d. encodeAll d.items) q)
+      ∙ sym (ap (λ d. encode_all d.items) q)
   one s h e more (refused (suc m)) f told =
       let q = decoded-torn reader s (suc m) f h in
       let z : suc m ≡ 0 = sym (ap (λ d. d.fault) q) ∙ e in
       absurd (omega (arith, z))
 
-  pub all : (fuel : ℕ) (s : List ℕ) → length s ≤ fuel → Bytes s → fault reader s ≡ 0 → s ≡ encodeAll (items reader s)
-  all zero [] h bytes e = sym (ap (λ d. encodeAll d.items) (decoded-none reader))
+  pub all : (fuel : ℕ) (s : List ℕ) → length s ≤ fuel → Bytes s → fault reader s ≡ 0 → s ≡ encode_all (items reader s)
+  all zero [] h bytes e = sym (ap (λ d. encode_all d.items) (decoded-none reader))
   all zero (b ∷ s) h bytes e = absurd (omega (arith, h))
-  all (suc fuel) [] h bytes e = sym (ap (λ d. encodeAll d.items) (decoded-none reader))
+  all (suc fuel) [] h bytes e = sym (ap (λ d. encode_all d.items) (decoded-none reader))
   all (suc fuel) (b ∷ s) h bytes e =
       one (b ∷ s) (omega arith) e
       (λ u k f g. all fuel u (omega (arith, h, k)) (λ i. subst (λ x. x < 256) (sym (f i)) (bytes (length (b ∷ s) - length u + i))) g)

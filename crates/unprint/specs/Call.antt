@@ -21,8 +21,8 @@ given b =
     }
 
 -- An answer of another length than 48 bytes is refused by 8 with nothing written. Otherwise the call gives what the entry gives.
-unfoldable pub unprintCall : List ℕ → List ℕ → List ℕ → List ℕ → UnprintCall
+unfoldable pub unprint_call : List ℕ → List ℕ → List ℕ → List ℕ → UnprintCall
 unfolding bytes_of back
-unprintCall pages listing constants lent =
+unprint_call pages listing constants lent =
     cond (not (eqb (length lent) 48)) (record { number = 8; listing = listing; constants = constants; answer = lent })
     (given (back pages listing constants))

@@ -20,5 +20,5 @@ unfolding differing
 difference p t = differing (length p + length t) 0 p t
 
 -- a line of spaces
-abbrev pub isBlank : List ℕ → Bool
-isBlank t = eqb (difference [] t) 0
+abbrev pub is_blank : List ℕ → Bool
+is_blank t = eqb (difference [] t) 0

@@ -1,6 +1,6 @@
 // Reading pages as a C function. Words go out as eight bytes each, the lowest first.
 ghost use Rattle.std.specs.Prelude.{◌≡◌};
-ghost use Rattle.unprint.specs.Call.{unprintCall};
+ghost use Rattle.unprint.specs.Call.{unprint_call};
 
 use super::unprint;
 use words::save;
@@ -13,7 +13,7 @@ pub extern "C" fn tulipcricket_unprint_unguarded(
     constants: &mut [u8],
     answer: &mut [u8],
 ) -> u32
-    ensures { record { number = result; listing = listing.new; constants = constants.new; answer = answer.new } ≡ unprintCall pages.now listing.old constants.old answer.old }
+    ensures { record { number = result; listing = listing.new; constants = constants.new; answer = answer.new } ≡ unprint_call pages.now listing.old constants.old answer.old }
 {
     if answer.len() != 48 {
         return 8;

@@ -1,10 +1,10 @@
 // What a typed line may say, by its words.
 ghost use Rattle.std.specs.Prelude.{◌≤◌, ◌%◌, ◌≡◌, map, length, drop, get_or};
-ghost use Rattle.text.specs.Line.{Adds, Prints, emptyLine};
-ghost use Rattle.assembly.specs.Assembled.{numberFrom, nothing};
+ghost use Rattle.text.specs.Line.{Adds, Prints, empty_line};
+ghost use Rattle.assembly.specs.Assembled.{number_from, nothing};
 ghost use Rattle.assembly.specs.Reading.{as_number};
-ghost use Rattle.unprint.specs.Guess.{word, orFirst, registerWords, operand, operands, names, named, guessed};
-ghost use Rattle.unprint.specs.Standing.{sortOf};
+ghost use Rattle.unprint.specs.Guess.{word, or_first, register_words, operand, operands, names, named, guessed};
+ghost use Rattle.unprint.specs.Standing.{sort_of};
 
 use assembly::reading::{Number, class_number, index_number, number_in, piece_end, put_bits};
 use mir::fields::byte;
@@ -12,7 +12,7 @@ use text::line::{Line, empty_line};
 
 // A word's number; one that is none of its table's counts as the first.
 fn or_first(n: Number) -> u8
-    ensures { result ≡ orFirst (as_number n) % 256 }
+    ensures { result ≡ or_first (as_number n) % 256 }
 {
     match n {
         Number::At(n) => (n % 256) as u8,
@@ -22,7 +22,7 @@ fn or_first(n: Number) -> u8
 
 // A register of a listing.
 fn register_number(w: &[u8]) -> Number
-    ensures { as_number result ≡ numberFrom 0 registerWords w.now }
+    ensures { as_number result ≡ number_from 0 register_words w.now }
 {
     number_in(
         b"G0 G1 G2 G3 G4 G5 G6 G7 G8 G9 G10 G11 G12 G13 G14 G15 G16 G17 G18 G19 G20 G21 G22 G23 G24 G25 G26 G27 G28 G29 \
@@ -34,7 +34,7 @@ fn register_number(w: &[u8]) -> Number
 
 // The name of a line.
 fn name_number(w: &[u8]) -> Number
-    ensures { as_number result ≡ numberFrom 0 (map (λ h. h.word) names) w.now }
+    ensures { as_number result ≡ number_from 0 (map (λ h. h.word) names) w.now }
 {
     number_in(
         b"Constant Neg Not Abs Root RealRoot Recip Round Floor Ceiling Trunc Real Imaginary Conjugate Half IsZero \
@@ -48,7 +48,7 @@ fn name_number(w: &[u8]) -> Number
 
 // A constant's eight bytes; 0 where the word is none.
 fn put_constant(line: Line, w: &[u8]) -> Line
-    ensures { Adds line (operand (sortOf 98) w.now) result }
+    ensures { Adds line (operand (sort_of 98) w.now) result }
 {
     let t = put_bits(line, w);
     if t.ok {
@@ -59,7 +59,7 @@ fn put_constant(line: Line, w: &[u8]) -> Line
 
 // The bytes of a word of a sort, by the sort's letter.
 fn put_operand(line: Line, sort: u8, w: &[u8]) -> Line
-    ensures { Adds line (operand (sortOf sort) w.now) result }
+    ensures { Adds line (operand (sort_of sort) w.now) result }
 {
     if sort == b'b' {
         return put_constant(line, w);
@@ -85,7 +85,7 @@ pub(crate) fn within(t: &[u8], at: usize) -> usize
 
 // The bytes of words from a position on, by their sorts.
 fn put_operands(start: Line, sorts: &[u8], t: &[u8], from: usize) -> Line
-    ensures { Adds start (operands (map sortOf sorts.now) (drop from t.now)) result }
+    ensures { Adds start (operands (map sort_of sorts.now) (drop from t.now)) result }
 {
     let mut line = start;
     let mut at = within(t, from);
@@ -129,7 +129,7 @@ const SORTS: [u8; 330] = *b"\
 
 // The bytes of a line by the number of its name.
 fn put_named(n: u8, t: &[u8]) -> Line
-    ensures { Adds emptyLine (named (get_or names n nothing) (drop 23 t.now)) result }
+    ensures { Adds empty_line (named (get_or names n nothing) (drop 23 t.now)) result }
 {
     let n = n as usize;
     if n < 55 {

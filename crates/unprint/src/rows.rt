@@ -1,8 +1,8 @@
 // Rows read one after the other, in lent bytes at whose front they stand.
 ghost use Rattle.std.specs.Prelude.{◌+◌, ◌≤◌, ◌≡◌, ◌++◌, length, take};
 ghost use Rattle.mir.specs.Read.{got};
-ghost use Rattle.unprint.specs.Unprinted.{on, withConstant, ofRecord, withRecord, withBytes, stepped, typed, unprinted};
-ghost use Rattle.unprint.specs.Standing.{draftOf, Limits, Room, Makes, asUnprinted};
+ghost use Rattle.unprint.specs.Unprinted.{on, with_constant, of_record, with_record, with_bytes, stepped, typed, unprinted};
+ghost use Rattle.unprint.specs.Standing.{draft_of, Limits, Room, Makes, as_unprinted};
 ghost use Rattle.unprint.specs.Typed.{unreturned};
 
 use super::guess::{guess, within};
@@ -54,7 +54,7 @@ fn grow(out: &mut [u8], len: usize, count: usize, records: usize, b: &[u8]) -> R
 // A constant more, by its bytes.
 fn with_constant(out: &mut [u8], s: Rows, t: &[u8], b: &[u8]) -> Rows
     requires { Room s out.old }
-    ensures { Makes (withConstant (draftOf s out.old) t.now b.now) result out.new }
+    ensures { Makes (with_constant (draft_of s out.old) t.now b.now) result out.new }
 {
     if 0 < s.records {
         return refuse(15, 7);
@@ -77,7 +77,7 @@ fn with_constant(out: &mut [u8], s: Rows, t: &[u8], b: &[u8]) -> Rows
 // A record more, that its bytes are.
 fn with_work(out: &mut [u8], s: Rows, t: &[u8], b: &[u8], record: Record) -> Rows
     requires { Room s out.old }
-    ensures { Makes (ofRecord (draftOf s out.old) t.now b.now (got «record»)) result out.new }
+    ensures { Makes (of_record (draft_of s out.old) t.now b.now (got «record»)) result out.new }
 {
     let records = s.records;
     if 13107 <= records {
@@ -101,7 +101,7 @@ fn with_work(out: &mut [u8], s: Rows, t: &[u8], b: &[u8], record: Record) -> Row
 // A record more, by its bytes.
 fn with_record(out: &mut [u8], s: Rows, t: &[u8], b: &[u8]) -> Rows
     requires { Room s out.old }
-    ensures { Makes (withRecord (draftOf s out.old) t.now b.now) result out.new }
+    ensures { Makes (with_record (draft_of s out.old) t.now b.now) result out.new }
 {
     let q = read_record(b, 0, s.count);
     match q {
@@ -113,7 +113,7 @@ fn with_record(out: &mut [u8], s: Rows, t: &[u8], b: &[u8]) -> Rows
 // A row more, by its bytes.
 fn with_bytes(out: &mut [u8], s: Rows, t: &[u8], b: &[u8]) -> Rows
     requires { Room s out.old }
-    ensures { Makes (withBytes (draftOf s out.old) t.now b.now) result out.new }
+    ensures { Makes (with_bytes (draft_of s out.old) t.now b.now) result out.new }
 {
     if byte(b, 2) == 33 {
         return with_constant(out, s, t, b);
@@ -124,7 +124,7 @@ fn with_bytes(out: &mut [u8], s: Rows, t: &[u8], b: &[u8]) -> Rows
 // The same, of the first n bytes.
 fn with_first(out: &mut [u8], s: Rows, t: &[u8], b: &[u8], n: usize) -> Rows
     requires { Room s out.old }
-    ensures { Makes (withBytes (draftOf s out.old) t.now (take n b.now)) result out.new }
+    ensures { Makes (with_bytes (draft_of s out.old) t.now (take n b.now)) result out.new }
 {
     if n < b.len() {
         return with_bytes(out, s, t, &b[0..n]);
@@ -135,7 +135,7 @@ fn with_first(out: &mut [u8], s: Rows, t: &[u8], b: &[u8], n: usize) -> Rows
 // A typed line more; a blank one changes nothing.
 fn step(out: &mut [u8], s: Rows, t: &[u8]) -> Rows
     requires { Room s out.old }
-    ensures { Makes (stepped (draftOf s out.old) t.now) result out.new }
+    ensures { Makes (stepped (draft_of s out.old) t.now) result out.new }
 {
     if difference(&t[0..0], t) == 0 {
         return Rows {
@@ -154,7 +154,7 @@ fn step(out: &mut [u8], s: Rows, t: &[u8]) -> Rows
 // A line more, behind a form feed.
 fn with_fed(out: &mut [u8], s: Rows, l: &[u8]) -> Rows
     requires { Room s out.old }
-    ensures { Makes (stepped (draftOf s out.old) (unreturned l.now)) result out.new }
+    ensures { Makes (stepped (draft_of s out.old) (unreturned l.now)) result out.new }
 {
     let end = typed_end(l);
     step(out, s, &l[0..end])
@@ -163,7 +163,7 @@ fn with_fed(out: &mut [u8], s: Rows, l: &[u8]) -> Rows
 // A line more, as it stands in the text.
 fn with_line(out: &mut [u8], s: Rows, l: &[u8]) -> Rows
     requires { Room s out.old }
-    ensures { Makes (stepped (draftOf s out.old) (typed l.now)) result out.new }
+    ensures { Makes (stepped (draft_of s out.old) (typed l.now)) result out.new }
 {
     let start = typed_start(l);
     with_fed(out, s, &l[start..])
@@ -183,7 +183,7 @@ pub(crate) struct RowsRead {
 // The lines of a text, one after the other.
 pub(crate) fn read_rows(out: &mut [u8], t: &[u8]) -> RowsRead
     requires { 67584 ≤ length out.old }
-    ensures { (asUnprinted result out.new ≡ unprinted t.now) × Limits result.len result.count result.records }
+    ensures { (as_unprinted result out.new ≡ unprinted t.now) × Limits result.len result.count result.records }
 {
     let mut s = refuse(0, 0);
     let mut at: usize = 0;

@@ -1,12 +1,12 @@
 // The line for an answer.
 ghost use Rattle.text.specs.Line.{Prints};
-ghost use Rattle.unprint.specs.Told.{readLine, refusedLine, answerLine};
+ghost use Rattle.unprint.specs.Told.{read_line, refused_line, answer_line};
 
 use super::UnprintAnswer;
 use text::line::{Line, empty_line};
 
 fn read_line(bytes: usize, count: usize) -> Line
-    ensures { Prints (readLine bytes count) result }
+    ensures { Prints (read_line bytes count) result }
 {
     empty_line()
         .text(b"read")
@@ -16,7 +16,7 @@ fn read_line(bytes: usize, count: usize) -> Line
 }
 
 fn refused_line(page: usize, line: usize, column: usize) -> Line
-    ensures { Prints (refusedLine page line column) result }
+    ensures { Prints (refused_line page line column) result }
 {
     empty_line()
         .text(b"refused")
@@ -27,7 +27,7 @@ fn refused_line(page: usize, line: usize, column: usize) -> Line
 }
 
 pub fn answer_line(a: UnprintAnswer) -> Line
-    ensures { Prints (answerLine a) result }
+    ensures { Prints (answer_line a) result }
 {
     if a.number == 0 {
         return read_line(a.bytes, a.count);

@@ -6,18 +6,18 @@ use native.Mathlib.Omega.{arith}
 use lib.ListN.{length, take, drop, replicate, length-drop, drop_of_length-le}
 use lib.Seq.{sets, sets-eq, take_all, length-sets}
 use Rattle.words.specs.Bytes.{number, word_at, stored}
-use Rattle.words.proofs.Stored.{stored-fits}
+use Rattle.words.proofs.Stored.{stored_fits}
 
-number-zeros : (k n : ℕ) → number (drop k (replicate n 0)) ≡ 0
+number_zeros : (k n : ℕ) → number (drop k (replicate n 0)) ≡ 0
 unfolding number
-number-zeros zero zero = refl
-number-zeros zero (suc n) = omega (arith, number-zeros zero n)
-number-zeros (suc k) zero = refl
-number-zeros (suc k) (suc n) = number-zeros k n
+number_zeros zero zero = refl
+number_zeros zero (suc n) = omega (arith, number_zeros zero n)
+number_zeros (suc k) zero = refl
+number_zeros (suc k) (suc n) = number_zeros k n
 
 number_append : (s : List ℕ) (k n : ℕ) → number (s ++ drop k (replicate n 0)) ≡ number s
 unfolding number
-number_append [] k n = number-zeros k n
+number_append [] k n = number_zeros k n
 number_append (b ∷ s) k n = ap (λ x. b + 256 * x) (number_append s k n)
 
 -- at most eight bytes, put over eight zeros
@@ -25,7 +25,7 @@ pub padded : (s : List ℕ) {t : List ℕ} {w : ℕ} → length s ≤ 8 → t �
 padded s {t} h e f =
     let p : sets (replicate 8 0) 0 s ≡ s ++ drop (0 + length s) (replicate 8 0) = sets-eq s (replicate 8 0) 0 (omega arith) in
     let n = length-sets (replicate 8 0) 0 s in
-    f ∙ ap (λ x. number (take 8 x)) (e ∙ stored-fits (replicate 8 0) 0 s (omega arith)) ∙ ap number (take_all 8 (sets (replicate 8 0) 0 s) (omega (arith, n)) ∙ p)
+    f ∙ ap (λ x. number (take 8 x)) (e ∙ stored_fits (replicate 8 0) 0 s (omega arith)) ∙ ap number (take_all 8 (sets (replicate 8 0) 0 s) (omega (arith, n)) ∙ p)
     ∙ number_append s (0 + length s) 8
     ∙ sym (ap number (take_all 8 s h))
 

@@ -7,22 +7,22 @@ use lib.ListN.{length, take}
 use lib.Seq.{sets}
 use borrow.Author.Tests.{le-leb, lt-leb}
 use Rattle.words.specs.Bytes.{stored, words_of}
-use Rattle.words.proofs.Lengths.{length-wordsOf, sets-whole, sets-front}
+use Rattle.words.proofs.Lengths.{length-words_of, sets_whole, sets_front}
 
-pub stored-fits : (l : List ℕ) (at : ℕ) (v : List ℕ) → at + length v ≤ length l → stored l at v ≡ sets l at v
+pub stored_fits : (l : List ℕ) (at : ℕ) (v : List ℕ) → at + length v ≤ length l → stored l at v ≡ sets l at v
 unfolding stored
-stored-fits l at v h = simp (le-leb _ _ h)
+stored_fits l at v h = simp (le-leb _ _ h)
 
-pub stored-full : (l : List ℕ) (at : ℕ) (v : List ℕ) → length l < at + length v → stored l at v ≡ l
+pub stored_full : (l : List ℕ) (at : ℕ) (v : List ℕ) → length l < at + length v → stored l at v ≡ l
 unfolding stored
-stored-full l at v h = simp (lt-leb _ _ h)
+stored_full l at v h = simp (lt-leb _ _ h)
 
-pub stored-whole : (l v : List ℕ) → length v ≡ length l → stored l 0 v ≡ v
-stored-whole l v h = stored-fits l 0 v (omega arith) ∙ sets-whole l v h
+pub stored_whole : (l v : List ℕ) → length v ≡ length l → stored l 0 v ≡ v
+stored_whole l v h = stored_fits l 0 v (omega arith) ∙ sets_whole l v h
 
-pub stored-front : (l v : List ℕ) (n : ℕ) → length v ≡ n → n ≤ length l → take n (stored l 0 v) ≡ v
-stored-front l v n h k = ap (take n) (stored-fits l 0 v (omega arith)) ∙ sets-front l v n h k
+pub stored_front : (l v : List ℕ) (n : ℕ) → length v ≡ n → n ≤ length l → take n (stored l 0 v) ≡ v
+stored_front l v n h k = ap (take n) (stored_fits l 0 v (omega arith)) ∙ sets_front l v n h k
 
 -- the words that were loaded are those of the bytes
 pub loaded : (l s : List ℕ) {t : List ℕ} → t ≡ stored l 0 (words_of s) → length s / 8 ≤ length l → take (length s / 8) t ≡ words_of s
-loaded l s e h = ap (take (length s / 8)) e ∙ stored-front l (words_of s) (length s / 8) (length-wordsOf s) h
+loaded l s e h = ap (take (length s / 8)) e ∙ stored_front l (words_of s) (length s / 8) (length-words_of s) h

@@ -3,7 +3,7 @@ use borrow.Author.Rules.{rules}
 use native.Mathlib.Omega.{arith}
 use Prim.Native.Nat.{◌+◌, ◌-◌, ◌≤◌}
 use mathlib.Core.Path.{◌≡◌, refl, sym, ap, ◌∙◌}
-use Rattle.compare_stores.specs.Differences.{oneWhere, differing}
+use Rattle.compare_stores.specs.Differences.{one_where, differing}
 use Rattle.compare_stores.proofs.Searching.{counts-on, counts_end}
 use Rattle.compare_stores.proofs.count_differences.Statement.{statement}
 use Rattle.compare_stores.proofs.count_differences.Tie as tie
@@ -34,7 +34,7 @@ count-differences-spec =
     let low = d.1 in
     let near = l.invariant.0 in
     let all = l.invariant.1 in
-    let r = d.0 ∙ (λ k. oneWhere (one k) (other k)) in
+    let r = d.0 ∙ (λ k. one_where (one k) (other k)) in
     let on = counts-on a.one.now a.other.now l.i more in
     (omega (arith, low, near), omega (arith, r, on, all)))
     (λ c.

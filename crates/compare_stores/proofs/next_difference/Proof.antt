@@ -3,13 +3,13 @@ use borrow.Author.Rules.{rules}
 use native.Mathlib.Omega.{arith}
 use Prim.Native.Nat.{◌-◌}
 use mathlib.Core.Path.{◌≡◌, refl, sym, ◌∙◌}
-use Rattle.compare_stores.specs.Differences.{nextDifference}
+use Rattle.compare_stores.specs.Differences.{next_difference}
 use Rattle.compare_stores.proofs.Searching.{goes_on, stops, ends}
 use Rattle.compare_stores.proofs.next_difference.Statement.{statement}
 use Rattle.compare_stores.proofs.next_difference.Tie as tie
 
 abbrev invariant-loop : tie.invariant-loop
-invariant-loop one other from i₀ i = nextDifference one other i ≡ nextDifference one other from
+invariant-loop one other from i₀ i = next_difference one other i ≡ next_difference one other from
 
 abbrev decreases-loop : tie.decreases-loop
 decreases-loop one other from i₀ i = 1602 - i

@@ -4,9 +4,9 @@ use native.Mathlib.Omega.{arith}
 use Prim.Native.Nat.{suc, ◌+◌, ◌-◌, ◌*◌, ◌≤◌}
 use mathlib.Core.Path.{◌≡◌, ap, ◌∙◌}
 use lib.ListN.{length}
-use Rattle.reports.specs.Lines.{differenceLine}
+use Rattle.reports.specs.Lines.{difference_line}
 use Rattle.text.proofs.Putting.{Owes, all, less, none, long, renamed, line-put}
-use Rattle.compare_stores.specs.Differences.{differenceLines}
+use Rattle.compare_stores.specs.Differences.{difference_lines}
 use Rattle.compare_stores.proofs.Searching.{line_on, line-end, lines_end}
 use Rattle.compare_stores.proofs.put_differences.Statement.{statement}
 use Rattle.compare_stores.proofs.put_differences.Tie as tie
@@ -14,7 +14,7 @@ use Rattle.compare_stores.proofs.put_differences.Tie as tie
 abbrev invariant-loop : tie.invariant-loop
 invariant-loop out₀ one other most at₀ from₀ left₀ out at from left =
     (at + 80 * left ≤ length out) × (at + 80 * left ≤ 80 * most)
-    × Owes out₀ 0 (differenceLines one other most 0) out at (differenceLines one other left from)
+    × Owes out₀ 0 (difference_lines one other most 0) out at (difference_lines one other left from)
 
 abbrev decreases-loop : tie.decreases-loop
 decreases-loop out₀ one other most at₀ from₀ left₀ out at from left = left
@@ -47,11 +47,11 @@ put-differences-spec =
     let room = l.invariant.0 in
     let more = c.before.before.before.before.before.before.before.before.before.loop-test.true in
     let q = line-put p (omega (arith, f, room, more)) c.before.before.put-line.ensures in
-    let q' = renamed (λ k. differenceLine i (one k) (other k)) q in
+    let q' = renamed (λ k. difference_line i (one k) (other k)) q in
     let g = long q in
     let k = q.ends in
     let e : l.left ≡ suc (l.left - 1) = omega (arith, more) in
-    let on = ap (λ n. differenceLines a.one.now a.other.now n l.from) e
+    let on = ap (λ n. difference_lines a.one.now a.other.now n l.from) e
     ∙ line_on a.one.now a.other.now l.from d.ensures (l.left - 1) (omega arith) in
     let low = l.invariant.1 in
     (omega (arith, n, f, g, k, room, more), omega (arith, n, f, k, low, more), less l.invariant.2 on q'))
@@ -61,4 +61,4 @@ put-differences-spec =
     let l = c.before.loop in
     let e : l.left ≡ 0 = omega arith in
     let low = l.invariant.1 in
-    (none l.invariant.2 (ap (λ n. differenceLines a.one.now a.other.now n l.from) e ∙ lines_end a.one.now a.other.now l.from), omega (arith, low))))
+    (none l.invariant.2 (ap (λ n. difference_lines a.one.now a.other.now n l.from) e ∙ lines_end a.one.now a.other.now l.from), omega (arith, low))))

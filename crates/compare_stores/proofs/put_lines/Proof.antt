@@ -5,7 +5,7 @@ use mathlib.Core.Path.{◌≡◌, ◌∙◌}
 use lib.ListN.{length}
 use Rattle.text.specs.Text.{ascii}
 use Rattle.text.proofs.Putting.{renamed, long, putting, over}
-use Rattle.compare_stores.specs.Differences.{differenceLines}
+use Rattle.compare_stores.specs.Differences.{difference_lines}
 use Rattle.compare_stores.proofs.Searching.{unlike, same}
 use Rattle.compare_stores.proofs.put_lines.Statement.{statement}
 use Rattle.compare_stores.proofs.put_lines.Tie as tie
@@ -19,14 +19,14 @@ put-lines-spec =
     (λ c.
     let a = c.before.before.before.before.before.before.before.before.before.before.before.before.before.args in
     let d = c.before.before.before.before.before.before.before.before.put-differences.ensures.0 in
-    let e : length (differenceLines a.one.now a.other.now a.most 0) ≡ 0 = omega (arith, d.ends) in
+    let e : length (difference_lines a.one.now a.other.now a.most 0) ≡ 0 = omega (arith, d.ends) in
     let n = long d in
     let q = putting (omega (arith, n)) c.before.before.put.ensures in
     let k = q.ends in
-    (renamed (same (differenceLines a.one.now a.other.now a.most 0) e) (over d e q), omega (arith, k)))
+    (renamed (same (difference_lines a.one.now a.other.now a.most 0) e) (over d e q), omega (arith, k)))
     (λ c. search rules)
     (λ c.
     let a = c.before.before.before.before.before.before.before.before.args in
     let d = c.before.before.before.put-differences.ensures in
     let low = d.1 in
-    (renamed (unlike (differenceLines a.one.now a.other.now a.most 0) (λ e. c.if1.false (omega (arith, d.0.ends, e)))) d.0, omega (arith, low))))
+    (renamed (unlike (difference_lines a.one.now a.other.now a.most 0) (λ e. c.if1.false (omega (arith, d.0.ends, e)))) d.0, omega (arith, low))))

@@ -4,7 +4,7 @@ use mathlib.Core.Bool.{Bool, false}
 use mathlib.Core.List.{[], ◌∷◌}
 use Prim.Native.Nat.{ℕ}
 use borrow.Author.Rules.{rules}
-use lib.Ieee.{binary64, isNan, nan_bits}
+use lib.Ieee.{binary64, is_nan, nan_bits}
 use lib.Ieee.Bits.{nan_bits_is}
 use Rattle.float.specs.Word.{value, mark}
 use Rattle.float.proofs.Marks.{marked, passed}
@@ -12,14 +12,14 @@ use Rattle.float.proofs.mark.Statement.{statement}
 use Rattle.float.proofs.mark.Tie as tie
 
 -- what a test says of its operand
-told : {r t : Bool} (a : ℕ) → r ≡ nan_bits binary64 a → r ≡ t → isNan (value a) ≡ t
+told : {r t : Bool} (a : ℕ) → r ≡ nan_bits binary64 a → r ≡ t → is_nan (value a) ≡ t
 told a e f = sym (nan_bits_is binary64 a) ∙ sym e ∙ f
 
 -- the operands, and what the tests say of the first and of the second
-first : (c : tie.Else1) → isNan (value c.before.before.args.a) ≡ false
+first : (c : tie.Else1) → is_nan (value c.before.before.args.a) ≡ false
 first c = told c.before.before.args.a c.before.is-nan.ensures c.if1.false
 
-second : (c : tie.Else2) → isNan (value c.before.before.before.before.args.b) ≡ false
+second : (c : tie.Else2) → is_nan (value c.before.before.before.before.args.b) ≡ false
 second c = told c.before.before.before.before.args.b c.before.is-nan2.ensures c.if2.false
 
 returns : tie.Need-returns

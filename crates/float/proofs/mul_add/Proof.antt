@@ -6,7 +6,7 @@ use Prim.Native.Nat.{◌*◌, ◌%◌, ◌^◌, ◌≤◌, ◌<◌}
 use native.Mathlib.Omega.{arith}
 use lib.Dec.{leb}
 use lib.Ieee.{binary64, of_bits, add, mul}
-use Rattle.float.proofs.FusedWords.{Huge, huge-word, exact-product, huge-addend, finite-word}
+use Rattle.float.proofs.FusedWords.{Huge, huge_word, exact_product, huge_addend, finite_word}
 use Rattle.float.specs.Word.{value, word}
 use borrow.Author.Rules.{rules}
 use borrow.Author.Tests.{leb-true, leb-false}
@@ -20,12 +20,12 @@ abs-requires-2 : tie.Need-abs-requires-2
 abs-requires-2 c κs = search rules
 
 -- a or b is infinite or a NaN
-either : (j : tie.Joined1) → Huge (of_bits binary64 j.before.before.args.a) ⊎ Huge (of_bits binary64 j.before.before.args.b)
-either j =
+Either : (j : tie.Joined1) → Huge (of_bits binary64 j.before.before.args.a) ⊎ Huge (of_bits binary64 j.before.before.args.b)
+Either j =
     let a = j.before.before.args in
     elim j.if1.branch [
-      | inl y ↦ inl (huge-word a.a (omega (arith, j.before.abs.ensures, y.taken)))
-      | inr z ↦ inr (huge-word a.b (omega (arith, z.1.ensures, leb-true (2047 * 2 ^ 52) z.1.result z.2.taken)))
+      | inl y ↦ inl (huge_word a.a (omega (arith, j.before.abs.ensures, y.taken)))
+      | inr z ↦ inr (huge_word a.b (omega (arith, z.1.ensures, leb-true (2047 * 2 ^ 52) z.1.result z.2.taken)))
     ]
 
 returns : tie.Need-returns
@@ -37,7 +37,7 @@ returns c =
     let z = c.before.read3.ensures in
     c.write.ensures
     ∙ (λ i. word (a.a ∷ a.b ∷ a.c ∷ []) (add binary64 (mul binary64 (x i) (y i)) (z i)))
-    ∙ ap (word (a.a ∷ a.b ∷ a.c ∷ [])) (sym (exact-product (value a.a) (value a.b) (value a.c) (either j)))
+    ∙ ap (word (a.a ∷ a.b ∷ a.c ∷ [])) (sym (exact_product (value a.a) (value a.b) (value a.c) (Either j)))
 
 abs-requires-3 : tie.Need-abs-requires-3
 abs-requires-3 c κs = search rules
@@ -52,13 +52,13 @@ returns-2 : tie.Need-returns-2
 returns-2 c =
     let d = c.before.before.before.before in
     let a = d.before.before.before.before.args in
-    let u = finite-word a.a (finite d).0 in
-    let v = finite-word a.b (finite d).1 in
+    let u = finite_word a.a (finite d).0 in
+    let v = finite_word a.b (finite d).1 in
     let h : 2047 * 2 ^ 52 ≤ a.c % 2 ^ 63 = omega (arith, c.before.before.before.abs3.ensures, c.before.before.if3.true) in
     c.write2.ensures
     ∙ ap (word (a.a ∷ a.b ∷ a.c ∷ []))
     (c.before.read4.ensures
-    ∙ huge-addend (value a.a) (value a.b) (value a.c) (leb (2 ^ 63) a.a) (leb (2 ^ 63) a.b) u.0 v.0 (2 ^ 1074) (2 ^ 1074) u.1 v.1 (huge-word a.c h))
+    ∙ huge_addend (value a.a) (value a.b) (value a.c) (leb (2 ^ 63) a.a) (leb (2 ^ 63) a.b) u.0 v.0 (2 ^ 1074) (2 ^ 1074) u.1 v.1 (huge_word a.c h))
 
 fused-finite-requires : tie.Need-fused-finite-requires
 fused-finite-requires c κs =

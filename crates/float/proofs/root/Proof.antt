@@ -12,45 +12,45 @@ use lib.Ieee.{nan, inf, binary64, is_nan, of_bits, to_bits}
 use lib.Ieee.Bits.{is_true}
 use lib.Ieee.Exact.{HasValue}
 use borrow.Author.Rules.{rules}
-use Rattle.float.specs.Root.{squareRoot}
+use Rattle.float.specs.Root.{square_root}
 use Rattle.float.specs.Word as Word
-use Rattle.float.proofs.Nan.{above-nan, kept_word}
-use Rattle.float.proofs.Marks.{number_word, number, nan-word, marked, passed}
-use Rattle.float.proofs.Fields.{word-zero, word-infinite, word-finite}
-use Rattle.float.proofs.SquareRoot.{root-negative}
+use Rattle.float.proofs.Nan.{above_nan, kept_word}
+use Rattle.float.proofs.Marks.{number_word, number, nan_word, marked, passed}
+use Rattle.float.proofs.Fields.{word_zero, word_infinite, word_finite}
+use Rattle.float.proofs.SquareRoot.{root_negative}
 use Rattle.float.proofs.root.Statement.{statement}
 use Rattle.float.proofs.root.Tie as tie
 
 -- where the root is the word itself, or a NaN
-same_word : (a : ℕ) → a < 2 ^ 64 → a % 2 ^ 63 ≤ 2047 * 2 ^ 52 → squareRoot binary64 (of_bits binary64 a) ≡ of_bits binary64 a → a ≡ Word.root a
-same_word a h g e = sym (ap (to_bits binary64) e ∙ kept_word a h g) ∙ number_word (a ∷ []) (squareRoot binary64 (of_bits binary64 a)) (ap is_nan e ∙ number a g)
+same_word : (a : ℕ) → a < 2 ^ 64 → a % 2 ^ 63 ≤ 2047 * 2 ^ 52 → square_root binary64 (of_bits binary64 a) ≡ of_bits binary64 a → a ≡ Word.root a
+same_word a h g e = sym (ap (to_bits binary64) e ∙ kept_word a h g) ∙ number_word (a ∷ []) (square_root binary64 (of_bits binary64 a)) (ap is_nan e ∙ number a g)
 
-mark-word : (a : ℕ) → squareRoot binary64 (of_bits binary64 a) ≡ nan → Word.mark (a ∷ []) ≡ Word.root a
+mark-word : (a : ℕ) → square_root binary64 (of_bits binary64 a) ≡ nan → Word.mark (a ∷ []) ≡ Word.root a
 unfolding is_nan
-mark-word a e = nan-word (a ∷ []) (squareRoot binary64 (of_bits binary64 a)) (ap is_nan e)
+mark-word a e = nan_word (a ∷ []) (square_root binary64 (of_bits binary64 a)) (ap is_nan e)
 
-of_nan : squareRoot binary64 nan ≡ nan
-unfolding squareRoot
+of_nan : square_root binary64 nan ≡ nan
+unfolding square_root
 of_nan = refl
 
-of_zero : (a : ℕ) → a % 2 ^ 63 ≡ 0 → squareRoot binary64 (of_bits binary64 a) ≡ of_bits binary64 a
-unfolding squareRoot
-of_zero a e = ap (squareRoot binary64) (word-zero a e) ∙ sym (word-zero a e)
+of_zero : (a : ℕ) → a % 2 ^ 63 ≡ 0 → square_root binary64 (of_bits binary64 a) ≡ of_bits binary64 a
+unfolding square_root
+of_zero a e = ap (square_root binary64) (word_zero a e) ∙ sym (word_zero a e)
 
-of-infinite : (a : ℕ) → a < 2 ^ 63 → a % 2 ^ 63 ≡ 2047 * 2 ^ 52 → squareRoot binary64 (of_bits binary64 a) ≡ of_bits binary64 a
-unfolding squareRoot
-of-infinite a h e = ap (squareRoot binary64) at ∙ sym at
+of-infinite : (a : ℕ) → a < 2 ^ 63 → a % 2 ^ 63 ≡ 2047 * 2 ^ 52 → square_root binary64 (of_bits binary64 a) ≡ of_bits binary64 a
+unfolding square_root
+of-infinite a h e = ap (square_root binary64) at ∙ sym at
   where
     at : of_bits binary64 a ≡ inf false
-    at = word-infinite a e ∙ ap inf (lib.Ieee.Bits.is_false (leb (2 ^ 63) a) (lib.Arith.lt→nleb (2 ^ 63) a h))
+    at = word_infinite a e ∙ ap inf (lib.Ieee.Bits.is_false (leb (2 ^ 63) a) (lib.Arith.lt→nleb (2 ^ 63) a h))
 
-of_negative : (a : ℕ) → 2 ^ 63 ≤ a → 0 < a % 2 ^ 63 → a % 2 ^ 63 ≤ 2047 * 2 ^ 52 → squareRoot binary64 (of_bits binary64 a) ≡ nan
-unfolding squareRoot
+of_negative : (a : ℕ) → 2 ^ 63 ≤ a → 0 < a % 2 ^ 63 → a % 2 ^ 63 ≤ 2047 * 2 ^ 52 → square_root binary64 (of_bits binary64 a) ≡ nan
+unfolding square_root
 of_negative a n p h = elim (eq-or-lt_of_le h) [
-  | inl e ↦ ap (squareRoot binary64) (word-infinite a e ∙ ap inf minus)
+  | inl e ↦ ap (square_root binary64) (word_infinite a e ∙ ap inf minus)
   | inr l ↦
-      let v = word-finite a p l in
-      root-negative (of_bits binary64 a) v.0 (2 ^ 1074) v.1 (pow_pos 1074) (subst (λ (s : Bool). HasValue (of_bits binary64 a) s v.0 (2 ^ 1074)) minus v.2)
+      let v = word_finite a p l in
+      root_negative (of_bits binary64 a) v.0 (2 ^ 1074) v.1 (pow_pos 1074) (subst (λ (s : Bool). HasValue (of_bits binary64 a) s v.0 (2 ^ 1074)) minus v.2)
 ]
   where
     minus : leb (2 ^ 63) a ≡ true
@@ -63,8 +63,8 @@ returns : tie.Need-returns
 unfolding is_nan
 returns c =
     let a = c.before.before.args.a in
-    let n = above-nan a (omega (arith, c.before.abs.ensures, c.if1.true)) in
-    marked a [] (ap is_nan n) ∙ mark-word a (ap (squareRoot binary64) n ∙ of_nan)
+    let n = above_nan a (omega (arith, c.before.abs.ensures, c.if1.true)) in
+    marked a [] (ap is_nan n) ∙ mark-word a (ap (square_root binary64) n ∙ of_nan)
 
 returns-2 : tie.Need-returns-2
 returns-2 c =

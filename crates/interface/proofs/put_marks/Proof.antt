@@ -2,7 +2,7 @@
 use borrow.Author.Rules.{rules}
 use mathlib.Core.Path.{ap, ◌∙◌}
 use mathlib.Core.List.{map}
-use Rattle.mir.specs.Encode.{flagByte}
+use Rattle.mir.specs.Encode.{flag_byte}
 use Rattle.words.specs.Bytes.{stored}
 use Rattle.interface.proofs.put_marks.Statement.{statement}
 use Rattle.interface.proofs.put_marks.Tie as tie
@@ -13,7 +13,7 @@ put-marks-spec =
     (tie.spec
     (λ c. search rules) (λ c κs. search rules) (λ c. search rules) (λ c κs. search rules) (λ c. search rules)
     (λ c. (
-      c.before.before.put-flags2.ensures ∙ ap (λ l. stored l 194 (map flagByte c.before.before.before.before.before.before.before.before.before.before.before.args.t3)) c.before.before.before.before.before.before.before.put-flags.ensures,
+      c.before.before.put-flags2.ensures ∙ ap (λ l. stored l 194 (map flag_byte c.before.before.before.before.before.before.before.before.before.before.before.args.t3)) c.before.before.before.before.before.before.before.put-flags.ensures,
       search rules,
       search rules,
     )))

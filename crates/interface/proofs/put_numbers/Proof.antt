@@ -5,14 +5,14 @@ use mathlib.Core.Path.{◌≡◌, refl, sym, ◌∙◌}
 use native.Mathlib.Omega.{arith}
 use lib.ListN.{length, drop, length-set}
 use lib.Seq.{sets}
-use Rattle.interface.specs.Calls.{pairsOf}
-use Rattle.interface.proofs.Lowering.{pairs-turn, pairs-ended}
+use Rattle.interface.specs.Calls.{pairs_of}
+use Rattle.interface.proofs.Lowering.{pairs_turn, pairs_ended}
 use Rattle.interface.proofs.put_numbers.Statement.{statement}
 use Rattle.interface.proofs.put_numbers.Tie as tie
 
 abbrev invariant-loop : tie.invariant-loop
 invariant-loop out₀ numbers i₀ out i =
-    (i ≤ length numbers) × (length out ≡ length out₀) × (sets out (2 * i) (pairsOf (drop i numbers)) ≡ sets out₀ 0 (pairsOf numbers))
+    (i ≤ length numbers) × (length out ≡ length out₀) × (sets out (2 * i) (pairs_of (drop i numbers)) ≡ sets out₀ 0 (pairs_of numbers))
 
 abbrev decreases-loop : tie.decreases-loop
 decreases-loop out₀ numbers i₀ out i = length numbers - i
@@ -31,7 +31,7 @@ put-numbers-spec =
     (λ c. search rules) (λ c. search rules)
     (λ c. let a = c.before.before.before.args in
     let l = c.before.before.loop in
-    (search rules, simp length-set (search rules), sym (pairs-turn l.out a.numbers.now l.i (omega arith)) ∙ l.invariant.2))
+    (search rules, simp length-set (search rules), sym (pairs_turn l.out a.numbers.now l.i (omega arith)) ∙ l.invariant.2))
     (λ c. search rules)
     (λ c. let l = c.before.loop in
-    sym (pairs-ended l.out c.before.before.args.numbers.now l.i (omega arith)) ∙ l.invariant.2))
+    sym (pairs_ended l.out c.before.before.args.numbers.now l.i (omega arith)) ∙ l.invariant.2))

@@ -1,13 +1,13 @@
 -- `interface::tulipcricket_lower_unguarded` meets its contract: each refusal by its tests, and the lowering by one law.
 use borrow.Author.Rules.{rules}
 use borrow.Author.Tests.{ne_eqb}
-use Rattle.interface.specs.Calls.{lowerCall}
+use Rattle.interface.specs.Calls.{lower_call}
 use Rattle.interface.proofs.Lowering.{wrong-constants, wrong-origins, lowered}
 use Rattle.interface.proofs.tulipcricket_lower_unguarded.Statement.{statement}
 use Rattle.interface.proofs.tulipcricket_lower_unguarded.Tie as tie
 
 pub tulipcricket-lower-unguarded-spec : {M : Type 1} → statement M
-unfolding lowerCall
+unfolding lower_call
 tulipcricket-lower-unguarded-spec =
     tie.close
     (tie.spec

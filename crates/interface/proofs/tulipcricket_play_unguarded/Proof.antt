@@ -1,13 +1,13 @@
 -- `interface::tulipcricket_play_unguarded` meets its contract: each refusal by its tests, and the play by one law.
 use borrow.Author.Rules.{rules}
 use borrow.Author.Tests.{eq-eqb, ne_eqb}
-use Rattle.interface.specs.Calls.{playCall}
+use Rattle.interface.specs.Calls.{play_call}
 use Rattle.interface.proofs.Playing.{wrong, played}
 use Rattle.interface.proofs.tulipcricket_play_unguarded.Statement.{statement}
 use Rattle.interface.proofs.tulipcricket_play_unguarded.Tie as tie
 
 pub tulipcricket-play-unguarded-spec : {M : Type 1} → statement M
-unfolding playCall
+unfolding play_call
 tulipcricket-play-unguarded-spec =
     tie.close
     (tie.spec

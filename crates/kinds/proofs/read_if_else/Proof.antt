@@ -1,11 +1,11 @@
 -- `kinds::read_if_else` meets its contract.
 use borrow.Author.Rules.{rules}
-use Rattle.mir.specs.Kinds.{ifElseFrom}
+use Rattle.mir.specs.Kinds.{if_else_from}
 use Rattle.kinds.proofs.read_if_else.Statement.{statement}
 use Rattle.kinds.proofs.read_if_else.Tie as tie
 
 pub read-if-else-spec : {M : Type 1} → statement M
-unfolding ifElseFrom
+unfolding if_else_from
 read-if-else-spec =
     tie.close
     (tie.spec

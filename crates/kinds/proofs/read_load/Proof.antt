@@ -1,11 +1,11 @@
 -- `kinds::read_load` meets its contract.
 use borrow.Author.Rules.{rules}
-use Rattle.mir.specs.Kinds.{loadFrom}
+use Rattle.mir.specs.Kinds.{load_from}
 use Rattle.kinds.proofs.read_load.Statement.{statement}
 use Rattle.kinds.proofs.read_load.Tie as tie
 
 pub read-load-spec : {M : Type 1} → statement M
-unfolding loadFrom
+unfolding load_from
 read-load-spec =
     tie.close
     (tie.spec

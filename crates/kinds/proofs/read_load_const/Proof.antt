@@ -1,12 +1,12 @@
 -- `kinds::read_load_const` meets its contract.
 use borrow.Author.Rules.{rules}
 use borrow.Author.Tests.{le-leb, lt-leb}
-use Rattle.mir.specs.Kinds.{loadConstFrom}
+use Rattle.mir.specs.Kinds.{load_const_from}
 use Rattle.kinds.proofs.read_load_const.Statement.{statement}
 use Rattle.kinds.proofs.read_load_const.Tie as tie
 
 pub read-load-const-spec : {M : Type 1} → statement M
-unfolding loadConstFrom
+unfolding load_const_from
 read-load-const-spec =
     tie.close
     (tie.spec

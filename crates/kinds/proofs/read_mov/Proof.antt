@@ -1,11 +1,11 @@
 -- `kinds::read_mov` meets its contract.
 use borrow.Author.Rules.{rules}
-use Rattle.mir.specs.Kinds.{movFrom}
+use Rattle.mir.specs.Kinds.{mov_from}
 use Rattle.kinds.proofs.read_mov.Statement.{statement}
 use Rattle.kinds.proofs.read_mov.Tie as tie
 
 pub read-mov-spec : {M : Type 1} → statement M
-unfolding movFrom
+unfolding mov_from
 read-mov-spec =
     tie.close
     (tie.spec

@@ -1,11 +1,11 @@
 -- `kinds::read_save` meets its contract.
 use borrow.Author.Rules.{rules}
-use Rattle.mir.specs.Kinds.{saveFrom}
+use Rattle.mir.specs.Kinds.{save_from}
 use Rattle.kinds.proofs.read_save.Statement.{statement}
 use Rattle.kinds.proofs.read_save.Tie as tie
 
 pub read-save-spec : {M : Type 1} → statement M
-unfolding saveFrom
+unfolding save_from
 read-save-spec =
     tie.close
     (tie.spec

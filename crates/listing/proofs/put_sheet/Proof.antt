@@ -6,7 +6,7 @@ use mathlib.Core.Path.{◌∙◌}
 use lib.ListN.{replicate, length-replicate}
 use Rattle.complexify.proofs.Within.{within}
 use Rattle.text.proofs.Putting.{renamed}
-use Rattle.listing.proofs.Answering.{all-printed}
+use Rattle.listing.proofs.Answering.{all_printed}
 use Rattle.listing.proofs.put_sheet.Statement.{statement}
 use Rattle.listing.proofs.put_sheet.Tie as tie
 
@@ -26,4 +26,4 @@ put-sheet-spec =
     (λ c.
     let e = c.before.before.before.before.before.before.before.before.before.lower.ensures in
     let p = c.before.before.put-text.ensures in
-    renamed (all-printed c.before.before.before.before.before.before.before.before.before.before.before.before.before.before.before.args.named c.before.before.before.before.before.before.before.before.before.before.before.before.before.before.before.args.sheet.now e.0 e.1 e.2) p))
+    renamed (all_printed c.before.before.before.before.before.before.before.before.before.before.before.before.before.before.before.args.named c.before.before.before.before.before.before.before.before.before.before.before.before.before.before.before.args.sheet.now e.0 e.1 e.2) p))

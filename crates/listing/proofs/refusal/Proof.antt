@@ -3,7 +3,7 @@ use borrow.Author.Rules.{rules}
 use mathlib.Core.Path.{sym, ap, subst}
 use mathlib.Core.Bool.{Bool}
 use Rattle.text.specs.Line.{Prints}
-use Rattle.listing.specs.Printed.{refusalOf}
+use Rattle.listing.specs.Printed.{refusal_of}
 use Rattle.listing.proofs.refusal.Statement.{statement}
 use Rattle.listing.proofs.refusal.Tie as tie
 
@@ -12,6 +12,6 @@ refusal-spec =
     tie.close
     (tie.spec
     (λ c κs. search rules)
-    (λ c. let a = c.before.before.args in subst (λ l. Prints l c.refusal-line.result) (sym (ap (λ (q : Bool). refusalOf q a.number a.index) c.before.if1.true)) c.refusal-line.ensures)
+    (λ c. let a = c.before.before.args in subst (λ l. Prints l c.refusal-line.result) (sym (ap (λ (q : Bool). refusal_of q a.number a.index) c.before.if1.true)) c.refusal-line.ensures)
     (λ c κs. search rules)
-    (λ c. let a = c.before.before.args in subst (λ l. Prints l c.refused-line.result) (sym (ap (λ (q : Bool). refusalOf q a.number a.index) c.before.if1.false)) c.refused-line.ensures))
+    (λ c. let a = c.before.before.args in subst (λ l. Prints l c.refused-line.result) (sym (ap (λ (q : Bool). refusal_of q a.number a.index) c.before.if1.false)) c.refused-line.ensures))

@@ -5,17 +5,17 @@ use native.Mathlib.Omega.{arith}
 use Rattle.text.specs.Line.{◌▹◌}
 use Rattle.text.specs.Text.{ascii}
 use Rattle.text.proofs.Whole.{prints}
-use Rattle.look_record.specs.Looks.{nextLine}
-use Rattle.look_record.proofs.Texts.{next-short}
+use Rattle.look_record.specs.Looks.{next_line}
+use Rattle.look_record.proofs.Texts.{next_short}
 use Rattle.look_record.proofs.next_line.Statement.{statement}
 use Rattle.look_record.proofs.next_line.Tie as tie
 
 pub next-line-spec : {M : Type 1} → statement M
-unfolding ascii nextLine
+unfolding ascii next_line
 next-line-spec =
     tie.close
     (tie.spec
     (λ c κs. search rules) (λ c. search rules) (λ c κs. search rules)
     (λ c. simp (eq-eqb _ _ c.before.before.before.if1.true) (prints c.before.before.empty-line.ensures c.text.ensures (omega arith)))
     (λ c κs. search rules) (λ c. search rules) (λ c κs. search rules) (λ c κs. search rules) (λ c κs. search rules)
-    (λ c. simp (ne_eqb _ _ c.before.before.before.before.before.if1.false) (prints c.before.before.before.before.empty-line2.ensures (c.before.before.text2.ensures ▹ c.before.number.ensures ▹ c.byte.ensures) (next-short c.before.before.before.before.before.before.args.follows))))
+    (λ c. simp (ne_eqb _ _ c.before.before.before.before.before.if1.false) (prints c.before.before.before.before.empty-line2.ensures (c.before.before.text2.ensures ▹ c.before.number.ensures ▹ c.byte.ensures) (next_short c.before.before.before.before.before.before.args.follows))))

@@ -5,7 +5,7 @@ use mathlib.Core.Path.{ap}
 use lib.ListN.{length}
 use Rattle.text.proofs.Putting.{renamed}
 use Rattle.look.specs.Call.{LookCall}
-use Rattle.look_record.specs.Looks.{lookText}
+use Rattle.look_record.specs.Looks.{look_text}
 use Rattle.look_record.proofs.put_text.Statement.{statement}
 use Rattle.look_record.proofs.put_text.Tie as tie
 
@@ -16,4 +16,4 @@ put-text-spec =
     (λ c. search rules) (λ c κs. search rules) (λ c. search rules) (λ c κs. search rules) (λ c. search rules)
     (λ c.
     let a = c.before.before.before.before.before.before.before.before.before.before.before.before.args in
-    renamed (ap (λ (k : LookCall). lookText a.listing.now (length a.constants.now / 8) a.start k.answer) c.before.before.before.before.before.before.tulipcricket-look-unguarded.ensures) c.before.before.put-look.ensures))
+    renamed (ap (λ (k : LookCall). look_text a.listing.now (length a.constants.now / 8) a.start k.answer) c.before.before.before.before.before.before.tulipcricket-look-unguarded.ensures) c.before.before.put-look.ensures))

@@ -5,16 +5,16 @@ use Prim.Native.Nat.{suc, ◌-◌}
 use mathlib.Core.Path.{◌≡◌, refl, sym, ap, ◌∙◌}
 use lib.ListN.{length, drop, get_elem?}
 use Rattle.mir.proofs.Decoding.{items, ended}
-use Rattle.records.specs.Record.{recordFrom}
+use Rattle.records.specs.Record.{record_from}
 use Rattle.records.proofs.Reading.{here-record, torn-record}
-use Rattle.look_record.specs.Looks.{recordPart}
+use Rattle.look_record.specs.Looks.{record_part}
 use Rattle.look_record.proofs.Texts.{part-here, part-on, part_none, spelled, blank}
 use Rattle.look_record.proofs.record_part.Statement.{statement}
 use Rattle.look_record.proofs.record_part.Tie as tie
 
 abbrev invariant-loop : tie.invariant-loop
 invariant-loop listing count start at₀ left₀ at left =
-    get_elem? (items (recordFrom count) (drop at listing)) left ≡ get_elem? (items (recordFrom count) listing) start
+    get_elem? (items (record_from count) (drop at listing)) left ≡ get_elem? (items (record_from count) listing) start
 
 abbrev decreases-loop : tie.decreases-loop
 decreases-loop listing count start at₀ left₀ at left = length listing - at
@@ -31,14 +31,14 @@ record-part-spec =
     let a = c.before.before.before.before.before.before.before.args in
     let l = c.before.before.before.before.before.loop in
     let d = torn-record a.count a.listing.now l.at c.before.before.before.read-record.ensures c.before.enum_told.given.1 (omega arith) in
-    spelled (ap recordPart (sym (part_none l.left d) ∙ l.invariant)) (blank c.empty-line.ensures))
+    spelled (ap record_part (sym (part_none l.left d) ∙ l.invariant)) (blank c.empty-line.ensures))
     (λ c κs. search rules)
     (λ c.
     let a = c.before.before.before.before.before.before.before.before.before.args in
     let l = c.before.before.before.before.before.before.before.loop in
     let h = here-record a.count a.listing.now l.at c.before.before.before.before.before.read-record.ensures c.before.before.before.q.given.1 in
-    let e = sym (part-here h) ∙ ap (get_elem? (items (recordFrom a.count) (drop l.at a.listing.now))) (sym c.before.if1.true) ∙ l.invariant in
-    spelled (ap recordPart e) c.record-line.ensures.0)
+    let e = sym (part-here h) ∙ ap (get_elem? (items (record_from a.count) (drop l.at a.listing.now))) (sym c.before.if1.true) ∙ l.invariant in
+    spelled (ap record_part e) c.record-line.ensures.0)
     (λ c. search rules)
     (λ c.
     let a = c.before.before.before.before.before.before.before.before.args in
@@ -50,10 +50,10 @@ record-part-spec =
     let l = c.before.before.before.before.before.before.loop in
     let h = here-record a.count a.listing.now l.at c.before.before.before.before.read-record.ensures c.before.before.q.given.1 in
     let e : l.left ≡ suc (l.left - 1) = omega arith in
-    sym (part-on (l.left - 1) h) ∙ ap (get_elem? (items (recordFrom a.count) (drop l.at a.listing.now))) (sym e) ∙ l.invariant)
+    sym (part-on (l.left - 1) h) ∙ ap (get_elem? (items (record_from a.count) (drop l.at a.listing.now))) (sym e) ∙ l.invariant)
     (λ c κs. search rules)
     (λ c.
     let a = c.before.before.before.before.args in
     let l = c.before.before.loop in
-    let d = ended (recordFrom a.count) a.listing.now l.at (omega arith) in
-    spelled (ap recordPart (sym (part_none l.left d) ∙ l.invariant)) (blank c.empty-line2.ensures)))
+    let d = ended (record_from a.count) a.listing.now l.at (omega arith) in
+    spelled (ap record_part (sym (part_none l.left d) ∙ l.invariant)) (blank c.empty-line2.ensures)))

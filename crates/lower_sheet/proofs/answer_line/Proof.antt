@@ -2,7 +2,7 @@
 use borrow.Author.Rules.{rules}
 use mathlib.Core.Path.{subst}
 use Rattle.text.specs.Line.{Prints}
-use Rattle.reports.specs.Lines.{loweredLine}
+use Rattle.reports.specs.Lines.{lowered_line}
 use Rattle.lower_sheet.proofs.answer_line.Statement.{statement}
 use Rattle.lower_sheet.proofs.answer_line.Tie as tie
 
@@ -16,4 +16,4 @@ answer-line-spec =
     let index = c.before.before.before.word-at2.ensures in
     let bytes = c.before.before.word-at3.ensures in
     let constants = c.before.word-at4.ensures in
-    subst (λ t. Prints t c.lowered-line.result) (λ i. loweredLine (number i) (index i) (bytes i) (constants i)) c.lowered-line.ensures))
+    subst (λ t. Prints t c.lowered-line.result) (λ i. lowered_line (number i) (index i) (bytes i) (constants i)) c.lowered-line.ensures))

@@ -2,7 +2,7 @@
 use borrow.Author.Rules.{rules}
 use mathlib.Core.Path.{ap, subst}
 use Rattle.text.specs.Puts.{Puts}
-use Rattle.lower_sheet.specs.Lowers.{answerText}
+use Rattle.lower_sheet.specs.Lowers.{answer_text}
 use Rattle.lower_sheet.proofs.lower_bytes.Statement.{statement}
 use Rattle.lower_sheet.proofs.lower_bytes.Tie as tie
 
@@ -17,9 +17,9 @@ lower-bytes-spec =
     let e = c.before.before.before.before.before.before.before.before.before.before.before.before.before.tulipcricket-lower-unguarded.ensures in
     let p = c.before.before.put-answer in
     record {
-      of-listing = ap (λ x. x.listing) e;
-      of-constants = ap (λ x. x.constants) e;
-      of-origins = ap (λ x. x.origins) e;
-      of-answer = ap (λ x. x.answer) e;
-      prints = subst (λ a. Puts c.before.before.before.before.before.before.before.before.before.before.before.before.before.before.before.before.before.before.before.before.before.before.before.before.args.out.now 0 (answerText a) p.new.0 p.result) (ap (λ x. x.answer) e) p.ensures;
+      of_listing = ap (λ x. x.listing) e;
+      of_constants = ap (λ x. x.constants) e;
+      of_origins = ap (λ x. x.origins) e;
+      of_answer = ap (λ x. x.answer) e;
+      prints = subst (λ a. Puts c.before.before.before.before.before.before.before.before.before.before.before.before.before.before.before.before.before.before.before.before.before.before.before.before.args.out.now 0 (answer_text a) p.new.0 p.result) (ap (λ x. x.answer) e) p.ensures;
     }))

@@ -7,7 +7,7 @@ use mathlib.Core.List.{List}
 use native.Mathlib.Omega.{arith}
 use lib.ListN.{length, length-replicate}
 use Rattle.mir.specs.declared.records.Record.{Record}
-use Rattle.mir.specs.Encode.{encodeAll}
+use Rattle.mir.specs.Encode.{encode_all}
 use Rattle.marks_pass.proofs.Arrays.{clash}
 use Rattle.marks_pass.proofs.Passing as P
 use Rattle.marks_pass.proofs.all_ways.Statement.{statement}
@@ -17,7 +17,7 @@ straight-requires : tie.Need-straight-requires
 straight-requires c κs = (length-replicate 256 false, length-replicate 256 false)
 
 pass-requires : tie.Need-pass-requires
-pass-requires c κs = ((c.before.before.before.before.before.straight.auto.1.1.0 ∙ length-replicate 256 false, c.before.before.before.before.before.straight.auto.1.1.1.0 ∙ length-replicate 256 false), (P.begun _ _ c.before.before.before.before.before.straight.ensures, P.no-ways 16896))
+pass-requires c κs = ((c.before.before.before.before.before.straight.auto.1.1.0 ∙ length-replicate 256 false, c.before.before.before.before.before.straight.auto.1.1.1.0 ∙ length-replicate 256 false), (P.begun _ _ c.before.before.before.before.before.straight.ensures, P.no_ways 16896))
 
 both-requires : tie.Need-both-requires
 both-requires c κs = (c.before.before.before.before.before.pass.auto.1.1.0 ∙ c.before.before.before.before.before.before.before.before.before.before.before.straight.auto.1.1.0 ∙ length-replicate 256 false, c.before.before.before.before.before.pass.auto.1.1.1.0 ∙ c.before.before.before.before.before.before.before.before.before.before.before.straight.auto.1.1.1.0 ∙ length-replicate 256 false)

@@ -7,7 +7,7 @@ use mathlib.Core.List.{List}
 use native.Mathlib.Omega.{arith}
 use lib.ListN.{length, length-replicate}
 use Rattle.mir.specs.declared.records.Record.{Record}
-use Rattle.mir.specs.Encode.{encodeAll}
+use Rattle.mir.specs.Encode.{encode_all}
 use Rattle.marks_pass.proofs.Arrays.{clash}
 use Rattle.marks_pass.proofs.Passing as P
 use Rattle.marks_pass.proofs.both.Statement.{statement}

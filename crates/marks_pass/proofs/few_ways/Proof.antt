@@ -7,14 +7,14 @@ use mathlib.Core.List.{List}
 use native.Mathlib.Omega.{arith}
 use lib.ListN.{length, length-replicate}
 use Rattle.mir.specs.declared.records.Record.{Record}
-use Rattle.mir.specs.Encode.{encodeAll}
+use Rattle.mir.specs.Encode.{encode_all}
 use Rattle.marks_pass.proofs.Arrays.{clash}
 use Rattle.marks_pass.proofs.Passing as P
 use Rattle.marks_pass.proofs.few_ways.Statement.{statement}
 use Rattle.marks_pass.proofs.few_ways.Tie as tie
 
 pass-requires : tie.Need-pass-requires
-pass-requires c κs = (c.before.before.before.before.before.before.requires.0, (c.before.before.before.before.before.before.requires.1, P.no-ways 198))
+pass-requires c κs = (c.before.before.before.before.before.before.requires.0, (c.before.before.before.before.before.before.requires.1, P.no_ways 198))
 
 same_length : tie.Need-same-length
 same_length c = c.before.before.before.before.before.pass.auto.1.1.0

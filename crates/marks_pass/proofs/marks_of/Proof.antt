@@ -7,7 +7,7 @@ use mathlib.Core.List.{List}
 use native.Mathlib.Omega.{arith}
 use lib.ListN.{length, length-replicate}
 use Rattle.mir.specs.declared.records.Record.{Record}
-use Rattle.mir.specs.Encode.{encodeAll}
+use Rattle.mir.specs.Encode.{encode_all}
 use Rattle.marks_pass.proofs.Arrays.{clash}
 use Rattle.marks_pass.proofs.Passing as P
 use Rattle.marks_pass.proofs.marks_of.Statement.{statement}
@@ -20,7 +20,7 @@ both-requires : tie.Need-both-requires
 both-requires c κs = (c.before.before.before.before.before.straight.auto.1.1.0 ∙ length-replicate 256 false, c.before.before.before.before.before.straight.auto.1.1.1.0 ∙ length-replicate 256 false)
 
 returns : tie.Need-returns
-returns c = λ rs e. c.both.ensures rs (P.led-end _ rs _ c.before.before.before.if1.true (P.begun _ _ c.before.before.before.before.before.before.straight.ensures rs e))
+returns c = λ rs e. c.both.ensures rs (P.led_end _ rs _ c.before.before.before.if1.true (P.begun _ _ c.before.before.before.before.before.before.straight.ensures rs e))
 
 few-ways-requires : tie.Need-few-ways-requires
 few-ways-requires c κs = ((c.before.before.before.before.before.straight.auto.1.1.0 ∙ length-replicate 256 false, c.before.before.before.before.before.straight.auto.1.1.1.0 ∙ length-replicate 256 false), P.begun _ _ c.before.before.before.before.before.straight.ensures)

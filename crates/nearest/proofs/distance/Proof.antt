@@ -3,9 +3,9 @@ use mathlib.Core.Path.{sym, ap, ◌∙◌}
 use borrow.Author.Rules.{rules}
 use lib.Ieee.{Float, of_bits, div}
 use Rattle.float.specs.Word.{value}
-use Rattle.float.proofs.Nan.{bits-nan, of-false}
+use Rattle.float.proofs.Nan.{bits_nan, of_false}
 use Rattle.nearest.specs.Apart.{apart}
-use Rattle.nearest.proofs.Distances.{across-nan, up-nan}
+use Rattle.nearest.proofs.Distances.{across_nan, up_nan}
 use Rattle.nearest.proofs.distance.Statement.{statement}
 use Rattle.nearest.proofs.distance.Tie as tie
 
@@ -17,13 +17,13 @@ distance-spec =
     (λ c κs. search rules)
     (λ c.
     let a = c.before.before.args in
-    across-nan a.re a.im (value a.y)
-    ∙ ap (λ (v : Float). apart a.re a.im v (value a.y)) (sym (bits-nan a.x (sym c.before.is_nan.ensures ∙ c.if1.true))))
+    across_nan a.re a.im (value a.y)
+    ∙ ap (λ (v : Float). apart a.re a.im v (value a.y)) (sym (bits_nan a.x (sym c.before.is_nan.ensures ∙ c.if1.true))))
     (λ c κs. search rules)
     (λ c.
     let a = c.before.before.before.before.args in
-    up-nan a.re a.im (value a.x)
-    ∙ ap (λ (v : Float). apart a.re a.im (value a.x) v) (sym (bits-nan a.y (sym c.before.is-nan2.ensures ∙ c.if2.true))))
-    (λ c. of-false _ (sym c.before.before.before.is_nan.ensures ∙ c.before.before.if1.false))
-    (λ c. of-false _ (sym c.before.is-nan2.ensures ∙ c.if2.false))
+    up_nan a.re a.im (value a.x)
+    ∙ ap (λ (v : Float). apart a.re a.im (value a.x) v) (sym (bits_nan a.y (sym c.before.is-nan2.ensures ∙ c.if2.true))))
+    (λ c. of_false _ (sym c.before.before.before.is_nan.ensures ∙ c.before.before.if1.false))
+    (λ c. of_false _ (sym c.before.is-nan2.ensures ∙ c.if2.false))
     (λ c. search rules))

@@ -11,7 +11,7 @@ use lib.Ieee.{Float, binary64, fits, of_bits, to_bits, div, is_nan}
 use lib.Ieee.Fits.{add-fits}
 use borrow.Author.Rules.{rules}
 use Rattle.float.specs.Word.{value}
-use Rattle.nearest.specs.Nearest.{candidates, notFarther, better, fold, bestOf, told}
+use Rattle.nearest.specs.Nearest.{candidates, not_farther, better, fold, best_of, told}
 use Rattle.nearest.specs.Apart.{apart}
 use Rattle.nearest.proofs.Distances.{looked-at, held, joined, nan_differs, number_same}
 use Rattle.nearest.proofs.Points.{next, ended}
@@ -20,13 +20,13 @@ use Rattle.nearest.proofs.search.Tie as tie
 
 abbrev invariant-loop : tie.invariant-loop
 invariant-loop re im points x y count index₀ least₀ i₀ index least i =
-    (i ≤ count) × T (fits binary64 least) × (fold notFarther (held index least) (candidates re im i (drop (2 * i) points)) ≡ bestOf notFarther re im points)
+    (i ≤ count) × T (fits binary64 least) × (fold not_farther (held index least) (candidates re im i (drop (2 * i) points)) ≡ best_of not_farther re im points)
 
 abbrev decreases-loop : tie.decreases-loop
 decreases-loop re im points x y count index₀ least₀ i₀ index least i = count - i
 
 pub search-spec : {M : Type 1} → statement M
-unfolding bestOf fits of_bits div is_nan fold
+unfolding best_of fits of_bits div is_nan fold
 search-spec =
     tie.close
     (tie.spec
@@ -49,11 +49,11 @@ search-spec =
     (⊎_elim (λ t. inl (t.0.taken, t.1, t.2)) (λ t. inr (t.0.left, t.1, t.2)) c.if1.branch) in (
       search rules,
       j.0,
-      ap (λ b. fold notFarther b rest)
+      ap (λ b. fold not_farther b rest)
           (j.1
-          ∙ ap (λ (d : Float). better notFarther (held l.index l.least) (record { index = l.i; far = to_bits binary64 d })) same
+          ∙ ap (λ (d : Float). better not_farther (held l.index l.least) (record { index = l.i; far = to_bits binary64 d })) same
           ∙ looked-at a.re a.im (get_or a.points.now (2 * l.i) 0) (get_or a.points.now (2 * l.i + 1) 0) (held l.index l.least) l.i)
-          ∙ sym (ap (fold notFarther (held l.index l.least)) (next a.re a.im l.i a.points.now (omega arith)))
+          ∙ sym (ap (fold not_farther (held l.index l.least)) (next a.re a.im l.i a.points.now (omega arith)))
           ∙ l.invariant.2,
     ))
     (λ c.
@@ -61,10 +61,10 @@ search-spec =
     let l = c.before.before.loop in
     ap (λ n. told (cond n none (some (record { index = l.index; far = to_bits binary64 l.least })))) (sym (nan_differs l.least c.if2.true))
     ∙ ap told
-    (sym (ap (fold notFarther (held l.index l.least)) (ended a.re a.im l.i a.points.now (omega arith))) ∙ l.invariant.2))
+    (sym (ap (fold not_farther (held l.index l.least)) (ended a.re a.im l.i a.points.now (omega arith))) ∙ l.invariant.2))
     (λ c.
     let a = c.before.before.before.before.before.before.args in
     let l = c.before.before.loop in
     ap (λ n. told (cond n none (some (record { index = l.index; far = to_bits binary64 l.least })))) (sym (number_same l.least c.if2.false))
     ∙ ap told
-    (sym (ap (fold notFarther (held l.index l.least)) (ended a.re a.im l.i a.points.now (omega arith))) ∙ l.invariant.2)))
+    (sym (ap (fold not_farther (held l.index l.least)) (ended a.re a.im l.i a.points.now (omega arith))) ∙ l.invariant.2)))

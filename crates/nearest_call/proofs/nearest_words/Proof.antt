@@ -3,7 +3,7 @@ use mathlib.Core.Path.{sym, ap, ◌∙◌}
 use native.Mathlib.Omega.{arith}
 use lib.Seq.{length-take-le}
 use Rattle.words.specs.Bytes.{words_of}
-use Rattle.words.proofs.Lengths.{length-wordsOf}
+use Rattle.words.proofs.Lengths.{length-words_of}
 use Rattle.words.proofs.Stored.{loaded}
 use Rattle.nearest.specs.Nearest.{nearest}
 use Rattle.nearest.proofs.Points.{long}
@@ -17,7 +17,7 @@ nearest-words-spec =
     (tie.spec
     (λ c.
     let a = c.before.before.args in
-    long a.re a.im (words_of a.points.now) (omega (arith, length-wordsOf a.points.now, c.if1.true)))
+    long a.re a.im (words_of a.points.now) (omega (arith, length-words_of a.points.now, c.if1.true)))
     (λ c. search rules) (λ c κs. search rules) (λ c. search rules)
     (λ c. sym (length-take-le _ _ (search rules)))
     (λ c κs. search rules)

@@ -1,6 +1,6 @@
 -- `nearest_call::numbers_of` meets its contract.
 use mathlib.Core.Path.{sym, ap}
-use Rattle.nearest.specs.Answer.{asValues}
+use Rattle.nearest.specs.Answer.{as_values}
 use Rattle.nearest_call.specs.Call.{numbers}
 use borrow.Author.Rules.{rules}
 use Rattle.nearest_call.proofs.numbers_of.Statement.{statement}
@@ -11,6 +11,6 @@ numbers-of-spec =
     tie.close
     (tie.spec
     (λ c. search rules) (λ c. search rules) (λ c. search rules)
-    (λ c. ap (λ f. numbers (asValues f)) (sym c.before.found.given.1))
-    (λ c. ap (λ f. numbers (asValues f)) (sym c.enum_told.given.1))
-    (λ c. ap (λ f. numbers (asValues f)) (sym c.enum-told2.given.1)))
+    (λ c. ap (λ f. numbers (as_values f)) (sym c.before.found.given.1))
+    (λ c. ap (λ f. numbers (as_values f)) (sym c.enum_told.given.1))
+    (λ c. ap (λ f. numbers (as_values f)) (sym c.enum-told2.given.1)))

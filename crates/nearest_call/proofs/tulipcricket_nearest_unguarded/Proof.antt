@@ -1,14 +1,14 @@
 -- `nearest_call::tulipcricket_nearest_unguarded` meets its contract.
 use borrow.Author.Tests.{ne_eqb}
-use Rattle.nearest.specs.Answer.{asValues}
-use Rattle.nearest_call.specs.Call.{nearestCall}
+use Rattle.nearest.specs.Answer.{as_values}
+use Rattle.nearest_call.specs.Call.{nearest_call}
 use Rattle.nearest_call.proofs.Calls.{wrong-points, given}
 use borrow.Author.Rules.{rules}
 use Rattle.nearest_call.proofs.tulipcricket_nearest_unguarded.Statement.{statement}
 use Rattle.nearest_call.proofs.tulipcricket_nearest_unguarded.Tie as tie
 
 pub tulipcricket-nearest-unguarded-spec : {M : Type 1} → statement M
-unfolding nearestCall
+unfolding nearest_call
 tulipcricket-nearest-unguarded-spec =
     tie.close
     (tie.spec
@@ -23,6 +23,6 @@ tulipcricket-nearest-unguarded-spec =
     (λ c.
     let s = c.before.before.before.before.before.before.before.before.before.before.before.before in
     given s.args.re s.args.im s.args.points.now s.args.answer.now
-    c.before.before.before.before.before.before.before.before.before.if1.false (asValues c.before.before.before.before.before.before.before.nearest-words.result)
+    c.before.before.before.before.before.before.before.before.before.if1.false (as_values c.before.before.before.before.before.before.before.nearest-words.result)
     c.before.before.before.before.before.before.before.before.if2.false c.before.before.before.before.before.before.before.nearest-words.ensures c.number_of_lem.ensures
     c.before.before.before.before.before.before.Numbers-of.ensures c.before.before.before.save2.ensures))

@@ -1,7 +1,7 @@
 -- `pages::pages` meets its contract.
 use borrow.Author.Rules.{rules}
 use mathlib.Core.Path.{◌∙◌}
-use Rattle.pages.proofs.Laying.{all-pages}
+use Rattle.pages.proofs.Laying.{all_pages}
 use Rattle.pages.proofs.pages.Statement.{statement}
 use Rattle.pages.proofs.pages.Tie as tie
 
@@ -11,4 +11,4 @@ pages-spec =
     (tie.spec
     (λ c κs. search rules)
     (λ c. search rules)
-    (λ c. let a = c.before.before.before.before.before.before.before.args in c.before.before.part.ensures ∙ all-pages a.listing.now a.constants.now a.out.now))
+    (λ c. let a = c.before.before.before.before.before.before.before.args in c.before.before.part.ensures ∙ all_pages a.listing.now a.constants.now a.out.now))

@@ -2,7 +2,7 @@
 use borrow.Author.Rules.{rules}
 use lib.ListN.{length}
 use Rattle.pages.proofs.Fitting.{taken}
-use Rattle.pages.proofs.Laying.{first-record, from-later, judged-zero}
+use Rattle.pages.proofs.Laying.{first_record, from_later, judged_zero}
 use Rattle.pages.proofs.position.Statement.{statement}
 use Rattle.pages.proofs.position.Tie as tie
 
@@ -10,10 +10,10 @@ pub position-spec : {M : Type 1} → statement M
 position-spec =
     tie.close
     (tie.spec
-    (λ c. first-record c.before.before.before.args.listing.now c.if1.true)
+    (λ c. first_record c.before.before.before.args.listing.now c.if1.true)
     (λ c κs. search rules)
     (λ c.
     let p = c.before.before.before.before in
     let a = p.args in
-    let z = from-later a.listing.now (length a.constants.now) a.k (taken a.listing.now a.constants.now p.requires.0) p.requires.1 in
-    c.judge.ensures.from (judged-zero c.judge.ensures z)))
+    let z = from_later a.listing.now (length a.constants.now) a.k (taken a.listing.now a.constants.now p.requires.0) p.requires.1 in
+    c.judge.ensures.from (judged_zero c.judge.ensures z)))

@@ -3,7 +3,7 @@ use borrow.Author.Rules.{rules}
 use native.Mathlib.Omega.{arith}
 use Rattle.text.proofs.Putting.{long, renamed}
 use Rattle.pages.specs.Printed.{rows_of}
-use Rattle.pages.proofs.Laying.{few-lines, later, these, enough, no-pages}
+use Rattle.pages.proofs.Laying.{few-lines, later, these, enough, no_pages}
 use Rattle.pages.proofs.put_pages.Statement.{statement}
 use Rattle.pages.proofs.put_pages.Tie as tie
 
@@ -11,7 +11,7 @@ pub put-pages-spec : {M : Type 1} → statement M
 put-pages-spec =
     tie.close
     (tie.spec
-    (λ c. let a = c.before.before.before.before.args in no-pages a.out.now a.first (rows_of a.listing.now a.constants.now) c.if1.true)
+    (λ c. let a = c.before.before.before.before.args in no_pages a.out.now a.first (rows_of a.listing.now a.constants.now) c.if1.true)
     (λ c.
     let p = c.before.before.before.before in
     let a = p.args in

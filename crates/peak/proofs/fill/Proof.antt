@@ -7,7 +7,7 @@ use lib.ListN.{length, set, length-set}
 use lib.Seq.{slice}
 use Rattle.peak.specs.Peak.{larger, largest, filled}
 use Rattle.peak.specs.Blocks.{Tails}
-use Rattle.peak.proofs.Windows.{largest-none, tails-none, here-next, out-next}
+use Rattle.peak.proofs.Windows.{largest_none, tails_none, here_next, out_next}
 use Rattle.peak.proofs.fill.Statement.{statement}
 use Rattle.peak.proofs.fill.Tie as tie
 
@@ -34,7 +34,7 @@ fill_spec =
     decreases-loop
     (λ c.
     let a = c.before.before.args in
-    (search rules, search rules, search rules, search rules, search rules, largest-none 0 a.run.now, tails-none a.run.now a.w (omega arith), refl))
+    (search rules, search rules, search rules, search rules, search rules, largest_none 0 a.run.now, tails_none a.run.now a.w (omega arith), refl))
     (λ c. search rules) (λ c. search rules) (λ c κs. search rules) (λ c κs. search rules) (λ c. search rules) (λ c. search rules)
     (λ c κs. search rules) (λ c. search rules) (λ c. search rules) (λ c. search rules) (λ c. search rules) (λ c. search rules)
     (λ c κs. search rules) (λ c. search rules)
@@ -43,16 +43,16 @@ fill_spec =
     let l = c.before.before.before.before.before.before.before.before.before.loop in
     let run = a.run.now in
     let here : c.before.before.before.before.before.larger2.result ≡ largest (slice (l.i - l.j) (l.i + 1) run) =
-    here-next run l.i l.j l.here (omega arith) (omega arith) l.invariant.5 (c.before.before.before.before.before.larger2.ensures ∙ ap (larger l.here) c.before.before.before.before.before.before.larger.ensures) in
+    here_next run l.i l.j l.here (omega arith) (omega arith) l.invariant.5 (c.before.before.before.before.before.larger2.ensures ∙ ap (larger l.here) c.before.before.before.before.before.before.larger.ensures) in
     let out = ap (λ x. set x l.i c.before.before.before.before.larger3.result) l.invariant.7
-    ∙ out-next run a.out.now l.tail a.w l.i l.j (omega arith) (omega arith) (omega arith) l.invariant.6 here c.before.before.before.before.larger3.ensures in
+    ∙ out_next run a.out.now l.tail a.w l.i l.j (omega arith) (omega arith) (omega arith) l.invariant.6 here c.before.before.before.before.larger3.ensures in
     let e : l.i + 1 ≡ l.i + 1 - 0 = omega arith in (
       search rules,
       search rules,
       search rules,
       c.before.tails.auto.1.1.1.0 ∙ l.invariant.3,
       simp length-set l.invariant.4,
-      largest-none (l.i + 1) run ∙ ap (λ x. largest (slice x (l.i + 1) run)) e,
+      largest_none (l.i + 1) run ∙ ap (λ x. largest (slice x (l.i + 1) run)) e,
       subst (λ x. Tails run a.w x c.before.tails.new.1.1.1.0) e c.before.tails.ensures,
       out,
     ))
@@ -62,9 +62,9 @@ fill_spec =
     let l = c.before.before.before.before.before.before.loop in
     let run = a.run.now in
     let here : c.before.before.larger2.result ≡ largest (slice (l.i - l.j) (l.i + 1) run) =
-    here-next run l.i l.j l.here (omega arith) (omega arith) l.invariant.5 (c.before.before.larger2.ensures ∙ ap (larger l.here) c.before.before.before.larger.ensures) in
+    here_next run l.i l.j l.here (omega arith) (omega arith) l.invariant.5 (c.before.before.larger2.ensures ∙ ap (larger l.here) c.before.before.before.larger.ensures) in
     let out = ap (λ x. set x l.i c.before.larger3.result) l.invariant.7
-    ∙ out-next run a.out.now l.tail a.w l.i l.j (omega arith) (omega arith) (omega arith) l.invariant.6 here c.before.larger3.ensures in
+    ∙ out_next run a.out.now l.tail a.w l.i l.j (omega arith) (omega arith) (omega arith) l.invariant.6 here c.before.larger3.ensures in
     let e : l.i - l.j ≡ l.i + 1 - (l.j + 1) = omega arith in (
       search rules,
       search rules,

@@ -7,7 +7,7 @@ use lib.ListN.{length, get_or, length-set}
 use lib.Seq.{slice}
 use Rattle.peak.specs.Peak.{larger, largest}
 use Rattle.peak.specs.Blocks.{Tails}
-use Rattle.peak.proofs.Windows.{largest-none, largest-cons, stored}
+use Rattle.peak.proofs.Windows.{largest_none, largest_cons, stored}
 use Rattle.peak.proofs.tails.Statement.{statement}
 use Rattle.peak.proofs.tails.Tie as tie
 
@@ -33,7 +33,7 @@ tails-spec =
     let e : a.s ≡ a.s + a.w - a.w = omega arith in (
       search rules,
       search rules,
-      largest-none a.s a.run.now ∙ ap (λ f. largest (slice f a.s a.run.now)) e,
+      largest_none a.s a.run.now ∙ ap (λ f. largest (slice f a.s a.run.now)) e,
       λ k p q. absurd (omega arith),
     ))
     (λ c. search rules) (λ c. search rules) (λ c. search rules) (λ c. search rules) (λ c. search rules) (λ c. search rules)
@@ -48,7 +48,7 @@ tails-spec =
       simp length-set (search rules),
       c.larger.ensures
           ∙ ap₂ (λ x y. larger (get_or a.run.now x 0) y) g (l.invariant.2 ∙ ap (λ x. largest (slice x a.s a.run.now)) (sym f))
-          ∙ largest-cons (a.s + (l.j - 1) - a.w) a.s a.run.now (omega arith) (omega arith),
+          ∙ largest_cons (a.s + (l.j - 1) - a.w) a.s a.run.now (omega arith) (omega arith),
       stored l.tail (l.j - 1) l.best a.w (λ k. largest (slice (a.s + k + 1 - a.w) a.s a.run.now)) (omega arith)
           (l.invariant.2 ∙ ap (λ x. largest (slice x a.s a.run.now)) (sym h)) (λ k p q. l.invariant.3 k (omega arith) q),
     ))

@@ -6,14 +6,14 @@ use native.Mathlib.Omega.{arith}
 use lib.ListN.{replicate}
 use lib.Seq.{length-take-le}
 use Rattle.peak.specs.Peak.{number, after}
-use Rattle.peak_call.specs.PeakCall.{peakCall}
+use Rattle.peak_call.specs.PeakCall.{peak_call}
 use Rattle.peak_call.proofs.Calling.{loaded, wrong-length, refused-words, given-words}
 use borrow.Author.Rules.{rules}
 use Rattle.peak_call.proofs.tulipcricket_peak_unguarded.Statement.{statement}
 use Rattle.peak_call.proofs.tulipcricket_peak_unguarded.Tie as tie
 
 pub tulipcricket-peak-unguarded-spec : {M : Type 1} → statement M
-unfolding peakCall
+unfolding peak_call
 tulipcricket-peak-unguarded-spec =
     tie.close
     (tie.spec

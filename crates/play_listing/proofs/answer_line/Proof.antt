@@ -2,7 +2,7 @@
 use borrow.Author.Rules.{rules}
 use mathlib.Core.Path.{subst}
 use Rattle.text.specs.Line.{Prints}
-use Rattle.reports.specs.Lines.{playedLine}
+use Rattle.reports.specs.Lines.{played_line}
 use Rattle.play_listing.proofs.answer_line.Statement.{statement}
 use Rattle.play_listing.proofs.answer_line.Tie as tie
 
@@ -15,4 +15,4 @@ answer-line-spec =
     let number = c.before.before.before.word-at.ensures in
     let index = c.before.before.word-at2.ensures in
     let played = c.before.word-at3.ensures in
-    subst (λ t. Prints t c.played-line.result) (λ i. playedLine (number i) (index i) (played i)) c.played-line.ensures))
+    subst (λ t. Prints t c.played-line.result) (λ i. played_line (number i) (index i) (played i)) c.played-line.ensures))

@@ -2,7 +2,7 @@
 use borrow.Author.Rules.{rules}
 use mathlib.Core.Path.{ap, subst}
 use Rattle.text.specs.Line.{Prints}
-use Rattle.play_listing.specs.Plays.{answerLine}
+use Rattle.play_listing.specs.Plays.{answer_line}
 use Rattle.play_listing.proofs.play_bytes.Statement.{statement}
 use Rattle.play_listing.proofs.play_bytes.Tie as tie
 
@@ -15,7 +15,7 @@ play-bytes-spec =
     let e = c.before.before.before.before.before.before.tulipcricket-play-unguarded.ensures in
     let p = c.answer-line in
     record {
-      of-store = ap (λ x. x.store) e;
-      of-answer = ap (λ x. x.answer) e;
-      prints = subst (λ a. Prints (answerLine a) p.result) (ap (λ x. x.answer) e) p.ensures;
+      of_store = ap (λ x. x.store) e;
+      of_answer = ap (λ x. x.answer) e;
+      prints = subst (λ a. Prints (answer_line a) p.result) (ap (λ x. x.answer) e) p.ensures;
     }))

@@ -3,7 +3,7 @@ use borrow.Author.Rules.{rules}
 use native.Mathlib.Omega.{arith}
 use Prim.Native.Nat.{◌-◌}
 use Rattle.text.specs.Text.{ascii}
-use Rattle.print_pages.proofs.Showing.{least-left, shows-refusal, shows-none, shows-pages}
+use Rattle.print_pages.proofs.Showing.{least_left, shows-refusal, shows-none, shows-pages}
 use Rattle.print_pages.proofs.put_part.Statement.{statement}
 use Rattle.print_pages.proofs.put_part.Tie as tie
 
@@ -23,7 +23,7 @@ put-part-spec =
     (λ c κs. search rules)
     (λ c.
     let a = c.before.before.before.before.before.before.before.before.before.before.before.before.args in
-    let h = least-left 112 (c.before.before.before.before.before.before.before.part_of.result.pages - a.first) in
+    let h = least_left 112 (c.before.before.before.before.before.before.before.part_of.result.pages - a.first) in
     omega (arith, h, c.at_once.ensures))
     (λ c. search rules)
     (λ c.

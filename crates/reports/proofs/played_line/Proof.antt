@@ -4,17 +4,17 @@ use borrow.Author.Tests.{eq-eqb, ne_eqb}
 use Rattle.text.specs.Line.{◌▹◌}
 use Rattle.text.specs.Text.{ascii}
 use Rattle.text.proofs.Whole.{prints}
-use Rattle.reports.specs.Lines.{playedLine}
-use Rattle.reports.proofs.Brief.{played-short}
+use Rattle.reports.specs.Lines.{played_line}
+use Rattle.reports.proofs.Brief.{played_short}
 use Rattle.reports.proofs.played_line.Statement.{statement}
 use Rattle.reports.proofs.played_line.Tie as tie
 
 pub played-line-spec : {M : Type 1} → statement M
-unfolding ascii playedLine
+unfolding ascii played_line
 played-line-spec =
     tie.close
     (tie.spec
     (λ c κs. search rules)
     (λ c. simp (ne_eqb _ _ c.before.if1.true) c.refusal-line.ensures)
     (λ c κs. search rules) (λ c. search rules) (λ c κs. search rules) (λ c κs. search rules) (λ c κs. search rules) (λ c κs. search rules)
-    (λ c. simp (eq-eqb _ _ c.before.before.before.before.before.before.if1.false) (prints c.before.before.before.before.before.empty-line.ensures (c.before.before.before.text.ensures ▹ c.before.before.number.ensures ▹ c.before.number2.ensures ▹ c.byte.ensures) (played-short 0 c.before.before.before.before.before.before.before.args.index c.before.before.before.before.before.before.before.args.played))))
+    (λ c. simp (eq-eqb _ _ c.before.before.before.before.before.before.if1.false) (prints c.before.before.before.before.before.empty-line.ensures (c.before.before.before.text.ensures ▹ c.before.before.number.ensures ▹ c.before.number2.ensures ▹ c.byte.ensures) (played_short 0 c.before.before.before.before.before.before.before.args.index c.before.before.before.before.before.before.before.args.played))))

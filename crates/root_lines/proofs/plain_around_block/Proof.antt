@@ -1,12 +1,12 @@
 -- `root_lines::plain_around_block` meets its contract.
 use borrow.Author.Rules.{rules}
 use Rattle.lines.specs.Lists.{◌▹◌}
-use Rattle.lowering.specs.Lines.{rootBlock, plainRootMagnitude}
+use Rattle.lowering.specs.Lines.{root_block, plain_root_magnitude}
 use Rattle.root_lines.proofs.plain_around_block.Statement.{statement}
 use Rattle.root_lines.proofs.plain_around_block.Tie as tie
 
 pub plain-around-block-spec : {M : Type 1} → statement M
-unfolding rootBlock plainRootMagnitude
+unfolding root_block plain_root_magnitude
 plain-around-block-spec =
     tie.close
     (tie.spec

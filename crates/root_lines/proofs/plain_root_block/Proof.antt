@@ -1,13 +1,13 @@
 -- `root_lines::plain_root_block` meets its contract.
 use borrow.Author.Rules.{rules}
 use Rattle.lines.specs.Lists.{◌▹◌}
-use Rattle.lowering.specs.Lines.{rootBlock, plainRootMagnitude}
-use Rattle.root_lines.specs.RootBlock.{rootMask, rootHalves}
+use Rattle.lowering.specs.Lines.{root_block, plain_root_magnitude}
+use Rattle.root_lines.specs.RootBlock.{root_mask, root_halves}
 use Rattle.root_lines.proofs.plain_root_block.Statement.{statement}
 use Rattle.root_lines.proofs.plain_root_block.Tie as tie
 
 pub plain-root-block-spec : {M : Type 1} → statement M
-unfolding rootBlock plainRootMagnitude rootMask rootHalves
+unfolding root_block plain_root_magnitude root_mask root_halves
 plain-root-block-spec =
     tie.close
     (tie.spec

@@ -3,12 +3,12 @@ use borrow.Author.Rules.{rules}
 use native.Mathlib.Omega.{arith}
 use Rattle.lines.specs.Lists.{◌▹◌}
 use Rattle.mir.specs.Register.{re, im}
-use Rattle.lowering.specs.Lines.{plainRootMagnitude}
+use Rattle.lowering.specs.Lines.{plain_root_magnitude}
 use Rattle.root_lines.proofs.plain_root_magnitude.Statement.{statement}
 use Rattle.root_lines.proofs.plain_root_magnitude.Tie as tie
 
 pub plain-root-magnitude-spec : {M : Type 1} → statement M
-unfolding plainRootMagnitude re im
+unfolding plain_root_magnitude re im
 plain-root-magnitude-spec =
     tie.close
     (tie.spec

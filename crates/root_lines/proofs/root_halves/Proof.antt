@@ -3,12 +3,12 @@ use borrow.Author.Rules.{rules}
 use native.Mathlib.Omega.{arith}
 use Rattle.mir.specs.Register.{re, im}
 use Rattle.lines.specs.Lists.{◌▹◌}
-use Rattle.root_lines.specs.RootBlock.{rootHalves}
+use Rattle.root_lines.specs.RootBlock.{root_halves}
 use Rattle.root_lines.proofs.root_halves.Statement.{statement}
 use Rattle.root_lines.proofs.root_halves.Tie as tie
 
 pub root-halves-spec : {M : Type 1} → statement M
-unfolding rootHalves re im
+unfolding root_halves re im
 root-halves-spec =
     tie.close
     (tie.spec

@@ -2,12 +2,12 @@
 use borrow.Author.Rules.{rules}
 use Rattle.mir.specs.Register.{re, im}
 use Rattle.lines.specs.Lists.{◌▹◌}
-use Rattle.root_lines.specs.RootBlock.{rootMask}
+use Rattle.root_lines.specs.RootBlock.{root_mask}
 use Rattle.root_lines.proofs.root_mask.Statement.{statement}
 use Rattle.root_lines.proofs.root_mask.Tie as tie
 
 pub root-mask-spec : {M : Type 1} → statement M
-unfolding rootMask re im
+unfolding root_mask re im
 root-mask-spec =
     tie.close
     (tie.spec

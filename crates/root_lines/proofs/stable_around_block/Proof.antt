@@ -1,12 +1,12 @@
 -- `root_lines::stable_around_block` meets its contract.
 use borrow.Author.Rules.{rules}
 use Rattle.lines.specs.Lists.{◌▹◌}
-use Rattle.lowering.specs.Lines.{rootBlock, stableRootMagnitude, stableExponent}
+use Rattle.lowering.specs.Lines.{root_block, stable_root_magnitude, stable_exponent}
 use Rattle.root_lines.proofs.stable_around_block.Statement.{statement}
 use Rattle.root_lines.proofs.stable_around_block.Tie as tie
 
 pub stable-around-block-spec : {M : Type 1} → statement M
-unfolding rootBlock stableRootMagnitude stableExponent
+unfolding root_block stable_root_magnitude stable_exponent
 stable-around-block-spec =
     tie.close
     (tie.spec

@@ -1,13 +1,13 @@
 -- `root_lines::stable_root_block` meets its contract.
 use borrow.Author.Rules.{rules}
 use Rattle.lines.specs.Lists.{◌▹◌}
-use Rattle.lowering.specs.Lines.{rootBlock, stableRootMagnitude, stableExponent}
-use Rattle.root_lines.specs.RootBlock.{rootMask, rootHalves}
+use Rattle.lowering.specs.Lines.{root_block, stable_root_magnitude, stable_exponent}
+use Rattle.root_lines.specs.RootBlock.{root_mask, root_halves}
 use Rattle.root_lines.proofs.stable_root_block.Statement.{statement}
 use Rattle.root_lines.proofs.stable_root_block.Tie as tie
 
 pub stable-root-block-spec : {M : Type 1} → statement M
-unfolding rootBlock stableRootMagnitude stableExponent rootMask rootHalves
+unfolding root_block stable_root_magnitude stable_exponent root_mask root_halves
 stable-root-block-spec =
     tie.close
     (tie.spec

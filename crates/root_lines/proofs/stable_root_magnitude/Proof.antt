@@ -3,12 +3,12 @@ use borrow.Author.Rules.{rules}
 use native.Mathlib.Omega.{arith}
 use Rattle.lines.specs.Lists.{◌▹◌}
 use Rattle.mir.specs.Register.{re, im}
-use Rattle.lowering.specs.Lines.{stableRootMagnitude, stableExponent}
+use Rattle.lowering.specs.Lines.{stable_root_magnitude, stable_exponent}
 use Rattle.root_lines.proofs.stable_root_magnitude.Statement.{statement}
 use Rattle.root_lines.proofs.stable_root_magnitude.Tie as tie
 
 pub stable-root-magnitude-spec : {M : Type 1} → statement M
-unfolding stableRootMagnitude stableExponent re im
+unfolding stable_root_magnitude stable_exponent re im
 stable-root-magnitude-spec =
     tie.close
     (tie.spec

@@ -1,13 +1,13 @@
 -- `tulipcricket_shelf_unguarded` meets its contract.
 use borrow.Author.Rules.{rules}
 use borrow.Author.Tests.{ne_eqb}
-use Rattle.shelf_call.specs.Call.{shelfCall}
+use Rattle.shelf_call.specs.Call.{shelf_call}
 use Rattle.shelf_call.proofs.Calls.{given}
 use Rattle.shelf_call.proofs.tulipcricket_shelf_unguarded.Statement.{statement}
 use Rattle.shelf_call.proofs.tulipcricket_shelf_unguarded.Tie as tie
 
 returns : tie.Need-returns
-unfolding shelfCall
+unfolding shelf_call
 returns c = simp (ne_eqb _ _ c.if1.true)
 
 pub tulipcricket-shelf-unguarded-spec : {M : Type 1} → statement M

@@ -4,16 +4,16 @@ use native.Mathlib.Omega.{arith}
 use Prim.Native.Nat.{◌+◌, ◌-◌, ◌*◌, ◌≤◌}
 use mathlib.Core.Path.{◌≡◌, ap}
 use lib.ListN.{length}
-use Rattle.reports.specs.Lines.{wordLine}
+use Rattle.reports.specs.Lines.{word_line}
 use Rattle.text.proofs.Putting.{long, line-put, renamed, Owes, all, less, none}
-use Rattle.show_store.specs.Shown.{shown, wordLines}
+use Rattle.show_store.specs.Shown.{shown, word_lines}
 use Rattle.show_store.proofs.Showing.{words-on, words-end}
 use Rattle.show_store.proofs.put_words.Statement.{statement}
 use Rattle.show_store.proofs.put_words.Tie as tie
 
 abbrev invariant-loop : tie.invariant-loop
 invariant-loop out₀ store at₀ i₀ out at i =
-    (at + 80 * (1602 - i) ≤ length out) × Owes out₀ 0 (shown store) out at (wordLines store (1602 - i) i)
+    (at + 80 * (1602 - i) ≤ length out) × Owes out₀ 0 (shown store) out at (word_lines store (1602 - i) i)
 
 abbrev decreases-loop : tie.decreases-loop
 decreases-loop out₀ store at₀ i₀ out at i = 1602 - i
@@ -36,7 +36,7 @@ put-words-spec =
     let n = p.whole.count in
     let room = l.invariant.0 in
     let q = line-put p (omega (arith, f, room, more)) c.before.before.put-line.ensures in
-    let q' = renamed (ap (wordLine l.i) word) q in
+    let q' = renamed (ap (word_line l.i) word) q in
     let g = long q in
     let k = q.ends in
     (omega (arith, n, f, g, k, room, more), less l.invariant.1 (words-on a.store.now l.i more) q'))

@@ -2,12 +2,12 @@
 use borrow.Author.Rules.{rules}
 use native.Mathlib.Omega.{arith}
 use Rattle.lines.specs.Lists.{◌▹◌}
-use Rattle.lowering.specs.Lines.{scaledDivide}
+use Rattle.lowering.specs.Lines.{scaled_divide}
 use Rattle.stable_lines.proofs.scaled_divide.Statement.{statement}
 use Rattle.stable_lines.proofs.scaled_divide.Tie as tie
 
 pub scaled-divide-spec : {M : Type 1} → statement M
-unfolding scaledDivide
+unfolding scaled_divide
 scaled-divide-spec =
     tie.close
     (tie.spec

@@ -3,12 +3,12 @@ use borrow.Author.Rules.{rules}
 use native.Mathlib.Omega.{arith}
 use Rattle.lines.specs.Lists.{◌▹◌}
 use Rattle.mir.specs.Register.{re, im}
-use Rattle.lowering.specs.Lines.{stableAbsLines, stableExponent}
+use Rattle.lowering.specs.Lines.{stable_abs_lines, stable_exponent}
 use Rattle.stable_lines.proofs.stable_abs_lines.Statement.{statement}
 use Rattle.stable_lines.proofs.stable_abs_lines.Tie as tie
 
 pub stable-abs-lines-spec : {M : Type 1} → statement M
-unfolding stableAbsLines stableExponent re im
+unfolding stable_abs_lines stable_exponent re im
 stable-abs-lines-spec =
     tie.close
     (tie.spec

@@ -1,12 +1,12 @@
 -- `stable_lines::stable_divide_lines` meets its contract.
 use borrow.Author.Rules.{rules}
 use Rattle.lines.specs.Lists.{◌▹◌}
-use Rattle.lowering.specs.Lines.{stableDivideLines, stableDivisorScale, scaledDivide, stableExponent}
+use Rattle.lowering.specs.Lines.{stable_divide_lines, stable_divisor_scale, scaled_divide, stable_exponent}
 use Rattle.stable_lines.proofs.stable_divide_lines.Statement.{statement}
 use Rattle.stable_lines.proofs.stable_divide_lines.Tie as tie
 
 pub stable-divide-lines-spec : {M : Type 1} → statement M
-unfolding stableDivideLines stableDivisorScale scaledDivide stableExponent
+unfolding stable_divide_lines stable_divisor_scale scaled_divide stable_exponent
 stable-divide-lines-spec =
     tie.close
     (tie.spec

@@ -2,12 +2,12 @@
 use borrow.Author.Rules.{rules}
 use native.Mathlib.Omega.{arith}
 use Rattle.lines.specs.Lists.{◌▹◌}
-use Rattle.lowering.specs.Lines.{stableExponent}
+use Rattle.lowering.specs.Lines.{stable_exponent}
 use Rattle.stable_lines.proofs.stable_exponent.Statement.{statement}
 use Rattle.stable_lines.proofs.stable_exponent.Tie as tie
 
 pub stable-exponent-spec : {M : Type 1} → statement M
-unfolding stableExponent
+unfolding stable_exponent
 stable-exponent-spec =
     tie.close
     (tie.spec

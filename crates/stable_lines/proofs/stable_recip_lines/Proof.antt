@@ -3,12 +3,12 @@ use borrow.Author.Rules.{rules}
 use native.Mathlib.Omega.{arith}
 use Rattle.lines.specs.Lists.{◌▹◌}
 use Rattle.mir.specs.Register.{re, im}
-use Rattle.lowering.specs.Lines.{stableRecipLines, stableDivisorScale, stableExponent}
+use Rattle.lowering.specs.Lines.{stable_recip_lines, stable_divisor_scale, stable_exponent}
 use Rattle.stable_lines.proofs.stable_recip_lines.Statement.{statement}
 use Rattle.stable_lines.proofs.stable_recip_lines.Tie as tie
 
 pub stable-recip-lines-spec : {M : Type 1} → statement M
-unfolding stableRecipLines stableDivisorScale stableExponent re im
+unfolding stable_recip_lines stable_divisor_scale stable_exponent re im
 stable-recip-lines-spec =
     tie.close
     (tie.spec

@@ -41,7 +41,7 @@ use denote.Triple.Spec.{Meets, triple_of}
 use denote.Triple.Table.{entered, cited}
 use denote.Triple.Walked.{says, Stays, stay_ref, stay_none_slice, gave_slice, walk_of, Goes-ref, Goes-none_slice, Goes-gave_slice, Walks, ends_at, walked, walk_Meets}
 use denote.Exit.{yes}
-use Rattle.complexify.specs.Entry.{answer, listingAfter, constantsAfter, originsAfter}
+use Rattle.complexify.specs.Entry.{answer, listing_after, constants_after, origins_after}
 use Rattle.complexify.specs.declared.entry.LowerAnswer.{LowerAnswer}
 use Rattle.thin_lower.specs.declared.Held.{Held}
 use Rattle.thin_lower.specs.contracts.Held as T
@@ -52,7 +52,7 @@ use Rattle.complexify.specs.contracts.entry.lower as g
 use Rattle.complexify.proofs.entry.lower.Symbol as g-def
 use Rattle.complexify.proofs.entry.lower.Symbol.{name as #g}
 use Rattle.complexify.proofs.entry.lower.Met as g-thm
-use Rattle.thin_lower.specs.Numbers.{numbersOf, held_of}
+use Rattle.thin_lower.specs.Numbers.{numbers_of, held_of}
 use Rattle.thin_lower.specs.contracts.Numbers as N
 use Rattle.thin_lower.proofs.Numbers.TheLaws as N'
 use Rattle.thin_lower.specs.contracts.lower.Key.{name as #f}
@@ -111,17 +111,17 @@ module _ {M : Type 1} {𝓤 : Ura M} (𝓛 : Logic 𝓤) (mem : Memory → SProp
       move ! (0 ∷ 2 ∷ []) $ fjoin ! $ move ! (4 ∷ 0 ∷ []) $ join ! $ nothing ! $ move ! (1 ∷ 0 ∷ []) $ join ! $ frame ! $ move ! (2 ∷ 1 ∷ 0 ∷ []) $ done !
 
   abbrev Said : LowerAnswer → List ℕ → List ℕ → List ℕ → Type 0
-  Said r ls ks ns = (r ≡ answer s.now l.now k.now n.now) × (ls ≡ listingAfter s.now l.now k.now n.now) × (ks ≡ constantsAfter s.now l.now k.now n.now) × (ns ≡ originsAfter s.now l.now k.now n.now)
+  Said r ls ks ns = (r ≡ answer s.now l.now k.now n.now) × (ls ≡ listing_after s.now l.now k.now n.now) × (ks ≡ constants_after s.now l.now k.now n.now) × (ns ≡ origins_after s.now l.now k.now n.now)
 
   -- what is had before the end: the record's borrow at the answer's record, its token, the others', the sheet's, what says the other three slices' last lists, and the result
   abbrev left : LowerAnswer → List ℕ → List ℕ → List ℕ → Val → List (Item 𝓤)
-  left r ls ks ns v = ‵ (fobs γ ((T.the_row).coded.code (held_of r))) ∷ ‵ (fbor κ (Body (stored T.the_row) b o γ)) ∷ ‵ (flft κ q) ∷ toks ∷ ‵ Sheet ∷ ‵ (finally u8 l.name ls) ∷ ‵ (finally u64 k.name ks) ∷ ‵ (finally u16 n.name ns) ∷ ‵ ((N.the_row).own_val (numbersOf r) (v ∷ [])) ∷ []
+  left r ls ks ns v = ‵ (fobs γ ((T.the_row).coded.code (held_of r))) ∷ ‵ (fbor κ (Body (stored T.the_row) b o γ)) ∷ ‵ (flft κ q) ∷ toks ∷ ‵ Sheet ∷ ‵ (finally u8 l.name ls) ∷ ‵ (finally u64 k.name ks) ∷ ‵ (finally u16 n.name ns) ∷ ‵ ((N.the_row).own_val (numbers_of r) (v ∷ [])) ∷ []
 
   exits : (r : LowerAnswer) (ls ks ns : List ℕ) (v : Val) → Said r ls ks ns → length ls ≡ length l.now → length ks ≡ length k.now → length ns ≡ length n.now → ent 𝓤 (⋆ 𝓛 (left r ls ks ns v)) (Post v)
   exits r ls ks ns v e el ek en =
       qed 𝓛 (left r ls ks ns v) ∵
-      suffices ! _ (ends_at 𝓛 f.ended stayed (f.clauses 𝓛 mem run) (((κ, κs), (q, qs), tt, a, vals), tt) v (numbersOf r) (held_of r, (tt, (ls, (ks, (ns, tt))))) (tt, (tt, (el, (ek, (en, tt)))))) $
-      says ! (ap numbersOf e.0, ap held_of e.0, e.1, e.2, e.3) $ move ! (2 ∷ 3 ∷ []) $ join ! $ frame ! $
+      suffices ! _ (ends_at 𝓛 f.ended stayed (f.clauses 𝓛 mem run) (((κ, κs), (q, qs), tt, a, vals), tt) v (numbers_of r) (held_of r, (tt, (ls, (ks, (ns, tt))))) (tt, (tt, (el, (ek, (en, tt)))))) $
+      says ! (ap numbers_of e.0, ap held_of e.0, e.1, e.2, e.3) $ move ! (2 ∷ 3 ∷ []) $ join ! $ frame ! $
       feq_i ! (List Val) (vptr b o ∷ []) (vptr b o ∷ []) refl $ fjoin3 ! $
       -- [the record's; the sheet's; the listing's; the constants'; the origins'; the result]
       nothing ! $ move ! (5 ∷ 0 ∷ []) $ fjoin ! $ move ! (4 ∷ 0 ∷ []) $ fjoin ! $ move ! (3 ∷ 0 ∷ []) $ fjoin ! $ move ! (2 ∷ 0 ∷ []) $ fjoin ! $ move ! (1 ∷ 0 ∷ []) $ fjoin ! $ frame ! $ done !
@@ -132,10 +132,10 @@ module _ {M : Type 1} {𝓤 : Ura M} (𝓛 : Logic 𝓤) (mem : Memory → SProp
       let fs = LL.owed R.the_type R'.the_laws r _ is in
       LL.owes T.the_type T'.the_laws (held_of r) (fs.1.1.1.1.0, (fs.1.1.1.1.1.0, tt))
 
-  numbers-are : (r : LowerAnswer) (w : Val) → Is R.the_row r (w ∷ []) → Is N.the_row (numbersOf r) (LL.vals N.the_type N'.the_laws (numbersOf r))
+  numbers-are : (r : LowerAnswer) (w : Val) → Is R.the_row r (w ∷ []) → Is N.the_row (numbers_of r) (LL.vals N.the_type N'.the_laws (numbers_of r))
   numbers-are r w is =
       let fs = LL.owed R.the_type R'.the_laws r _ is in
-      LL.owes N.the_type N'.the_laws (numbersOf r) (fs.0, (fs.1.0, (fs.1.1.0, (fs.1.1.1.0, (fs.1.1.1.1.1.1.0, tt)))))
+      LL.owes N.the_type N'.the_laws (numbers_of r) (fs.0, (fs.1.0, (fs.1.1.0, (fs.1.1.1.0, (fs.1.1.1.1.1.1.0, tt)))))
 
   module _ (C : Calls 𝓤 H) (Λ : Loops 𝓤 H) (fm : FmC 𝓤 H 𝓛.laws C) (known : Triple 𝓤 (C #g) (Core 𝓛 mem run)) (s-room : Room u8 (length s.now)) (l-room : Room u8 (length l.now)) (k-room : Room u64 (length k.now)) (n_room : Room u16 (length n.now)) where
     walk : ent 𝓤 (on_entry 𝓛 f.signature (κ, κs) (q, qs) a vals) (WpFn 𝓤 H C Λ code.function (vptr b o ∷ at s ∷ at l ∷ at k ∷ at n ∷ []) Post)
@@ -167,11 +167,11 @@ module _ {M : Type 1} {𝓤 : Ura M} (𝓛 : Logic 𝓤) (mem : Memory → SProp
         assigns ! (agg ! (and_then ! (load ! (from ! (fld ! refl (stop !))) (look_in ! 22 (sub ! 4 refl (whole !)))) (and_then ! (load ! (from ! (fld ! refl (stop !))) (look_in ! 22 (sub ! 5 refl (whole !)))) (no_more !)))) (from ! (hop ! (look ! 32 refl) (stop !))) (store_raw ! 0 refl ((LL.lawful T.the_type T'.the_laws 𝓛).typed (held_of r) _ (held-is r w is)).0) $
         assigns ! (agg ! (and_then ! (load ! (from ! (fld ! refl (stop !))) (look_in ! 22 (sub ! 0 refl (whole !)))) (and_then ! (load ! (from ! (fld ! refl (stop !))) (look_in ! 22 (sub ! 1 refl (whole !))))
         (and_then ! (load ! (from ! (fld ! refl (stop !))) (look_in ! 22 (sub ! 2 refl (whole !)))) (and_then ! (load ! (from ! (fld ! refl (stop !))) (look_in ! 22 (sub ! 3 refl (whole !)))) (and_then ! (load ! (from ! (fld ! refl (stop !))) (look_in ! 22 (sub ! 6 refl (whole !)))) (no_more !)))))))
-        (from ! (stop !)) (init ! 34 refl ((LL.lawful N.the_type N'.the_laws 𝓛).typed (numbersOf r) _ (numbers-are r w is)).0) $
+        (from ! (stop !)) (init ! 34 refl ((LL.lawful N.the_type N'.the_laws 𝓛).typed (numbers_of r) _ (numbers-are r w is)).0) $
         move ! (1 ∷ []) $ drop ! $ owned ! T.the_row (Is T.the_row) (LL.makes T.the_type T'.the_plain 𝓛) (held_of r) (LL.vals T.the_type T'.the_laws (held_of r)) (held-is r w is) $ move ! (1 ∷ 0 ∷ []) $ closes ! tt T.the_row (held_of r) (LL.vals T.the_type T'.the_laws (held_of r)) b o $
         returns ! (look ! 32 refl) $ forget ! 8 refl $ forget ! 10 refl $ forget ! 12 refl $ forget ! 14 refl $ forget ! 16 refl $ forget ! 18 refl $ forget ! 20 refl $ forget ! 22 refl $ forget ! 24 refl $ forget ! 26 refl $ forget ! 28 refl $ forget ! 30 refl $ forget ! 32 refl $
         move ! (32 ∷ 33 ∷ []) $ free1 ! $ move ! (30 ∷ 31 ∷ []) $ free1 ! $ move ! (28 ∷ 29 ∷ []) $ free1 ! $ move ! (26 ∷ 27 ∷ []) $ free1 ! $ move ! (24 ∷ 25 ∷ []) $ free1 ! $ move ! (22 ∷ 23 ∷ []) $ free1 ! $ move ! (20 ∷ 21 ∷ []) $ free1 ! $ move ! (18 ∷ 19 ∷ []) $ free1 ! $ move ! (16 ∷ 17 ∷ []) $ free1 ! $ move ! (14 ∷ 15 ∷ []) $ free1 ! $ move ! (12 ∷ 13 ∷ []) $ free1 ! $ move ! (10 ∷ 11 ∷ []) $ free1 ! $ move ! (8 ∷ 9 ∷ []) $ free1 ! $ free0 ! $
-        owned ! N.the_row (Is N.the_row) (LL.makes N.the_type N'.the_plain 𝓛) (numbersOf r) _ (numbers-are r w is) $ keep ! (1 ∷ 2 ∷ 3 ∷ 5 ∷ 4 ∷ 8 ∷ 7 ∷ 6 ∷ 0 ∷ []) $ by ! (exits r zs.1.0 zs.1.1.0 zs.1.1.1.0 _ e el ek en)))))))))))))))))))))))
+        owned ! N.the_row (Is N.the_row) (LL.makes N.the_type N'.the_plain 𝓛) (numbers_of r) _ (numbers-are r w is) $ keep ! (1 ∷ 2 ∷ 3 ∷ 5 ∷ 4 ∷ 8 ∷ 7 ∷ 6 ∷ 0 ∷ []) $ by ! (exits r zs.1.0 zs.1.1.0 zs.1.1.1.0 _ e el ek en)))))))))))))))))))))))
 
 module _ {M : Type 1} {𝓤 : Ura M} (𝓛 : Logic 𝓤) (mem : Memory → SProp 𝓤) (run : Routine → Fun 𝓤) where
   open 𝓛 use {H}

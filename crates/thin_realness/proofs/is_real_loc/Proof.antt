@@ -4,7 +4,7 @@ use mathlib.Core.List.{[], ◌∷◌, List}
 use contract.Running.{tables, tables_of}
 use denote.Triple.Spec.{triple_of}
 use denote.Triple.Table.{entered, cited}
-use Rattle.lowering.specs.Realness.{isRealLoc}
+use Rattle.lowering.specs.Realness.{is_real_loc}
 use Rattle.lowering.proofs.realness.Realness.is_real_loc.Symbol as g-def
 use Rattle.lowering.proofs.realness.Realness.is_real_loc.Symbol.{name as #g}
 use Rattle.lowering.proofs.realness.Realness.is_real_loc.Met as g-thm
@@ -20,7 +20,7 @@ abbrev ps : List Value
 ps = loc ∷ []
 
 abbrev R : Result ps truth.row
-R ρ a = isRealLoc ρ.places a.0
+R ρ a = is_real_loc ρ.places a.0
 
 pub is-real-loc-spec : {M : Type 1} → stated.statement M
 unfolding code.routine tables_of

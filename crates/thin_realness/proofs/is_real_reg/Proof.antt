@@ -4,7 +4,7 @@ use mathlib.Core.List.{[], ◌∷◌, List}
 use contract.Running.{tables, tables_of}
 use denote.Triple.Spec.{triple_of}
 use denote.Triple.Table.{entered, cited}
-use Rattle.lowering.specs.Realness.{isRealReg}
+use Rattle.lowering.specs.Realness.{is_real_reg}
 use Rattle.lowering.proofs.realness.Realness.is_real_reg.Symbol as g-def
 use Rattle.lowering.proofs.realness.Realness.is_real_reg.Symbol.{name as #g}
 use Rattle.lowering.proofs.realness.Realness.is_real_reg.Met as g-thm
@@ -20,7 +20,7 @@ abbrev ps : List Value
 ps = byte ∷ []
 
 abbrev R : Result ps truth.row
-R ρ a = isRealReg ρ a.0
+R ρ a = is_real_reg ρ a.0
 
 pub is-real-reg-spec : {M : Type 1} → stated.statement M
 unfolding code.routine tables_of

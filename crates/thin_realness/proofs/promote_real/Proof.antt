@@ -4,7 +4,7 @@ use mathlib.Core.List.{[], ◌∷◌, List}
 use contract.Running.{tables, tables_of}
 use denote.Triple.Spec.{triple_of}
 use denote.Triple.Table.{entered, cited}
-use Rattle.lowering.specs.Realness.{promoteReal}
+use Rattle.lowering.specs.Realness.{promote_real}
 use Rattle.lowering.specs.contracts.realness.Realness as T
 use Rattle.lowering.proofs.realness.Realness.promote_real.Symbol as g-def
 use Rattle.lowering.proofs.realness.Realness.promote_real.Symbol.{name as #g}
@@ -21,7 +21,7 @@ abbrev ps : List Value
 ps = byte ∷ byte ∷ byte ∷ []
 
 abbrev R : Result ps T.the_row
-R ρ a = promoteReal ρ a.0 a.1.0 a.1.1.0
+R ρ a = promote_real ρ a.0 a.1.0 a.1.1.0
 
 pub promote-real-spec : {M : Type 1} → stated.statement M
 unfolding code.routine tables_of

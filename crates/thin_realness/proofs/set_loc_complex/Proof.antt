@@ -4,7 +4,7 @@ use mathlib.Core.List.{[], ◌∷◌, List}
 use contract.Running.{tables, tables_of}
 use denote.Triple.Spec.{triple_of}
 use denote.Triple.Table.{entered, cited}
-use Rattle.lowering.specs.Realness.{setLocComplex}
+use Rattle.lowering.specs.Realness.{set_loc_complex}
 use Rattle.lowering.specs.contracts.realness.Realness as T
 use Rattle.lowering.proofs.realness.Realness.set_loc_complex.Symbol as g-def
 use Rattle.lowering.proofs.realness.Realness.set_loc_complex.Symbol.{name as #g}
@@ -21,7 +21,7 @@ abbrev ps : List Value
 ps = loc ∷ []
 
 abbrev R : Result ps T.the_row
-R ρ a = setLocComplex ρ a.0
+R ρ a = set_loc_complex ρ a.0
 
 pub set-loc-complex-spec : {M : Type 1} → stated.statement M
 unfolding code.routine tables_of

@@ -4,7 +4,7 @@ use mathlib.Core.List.{[], ◌∷◌, List}
 use contract.Running.{tables, tables_of}
 use denote.Triple.Spec.{triple_of}
 use denote.Triple.Table.{entered, cited}
-use Rattle.lowering.specs.Realness.{setRegReal}
+use Rattle.lowering.specs.Realness.{set_reg_real}
 use Rattle.lowering.specs.contracts.realness.Realness as T
 use Rattle.lowering.proofs.realness.Realness.set_reg_real.Symbol as g-def
 use Rattle.lowering.proofs.realness.Realness.set_reg_real.Symbol.{name as #g}
@@ -21,7 +21,7 @@ abbrev ps : List Value
 ps = byte ∷ []
 
 abbrev R : Result ps T.the_row
-R ρ a = setRegReal ρ a.0
+R ρ a = set_reg_real ρ a.0
 
 pub set-reg-real-spec : {M : Type 1} → stated.statement M
 unfolding code.routine tables_of

@@ -7,7 +7,7 @@ use native.Mathlib.Omega.{arith}
 use lib.ListN.{length, set, take, drop, length-set}
 use lib.Seq.{sets}
 use Rattle.words.specs.Bytes.{number, words}
-use Rattle.words.proofs.Copying.{first-eight, load-turn, load-ended}
+use Rattle.words.proofs.Copying.{first_eight, load_turn, load_ended}
 use Rattle.words.proofs.load_words.Statement.{statement}
 use Rattle.words.proofs.load_words.Tie as tie
 
@@ -30,14 +30,14 @@ load-words-spec =
     (λ c. let a = c.before.before.before.before.before.before.args in
     let l = c.before.before.before.loop in
     let w : c.first_word.result ≡ number (take 8 (drop (8 * l.i) a.s.now)) =
-    c.first_word.ensures ∙ ap number (first-eight a.s.now (8 * l.i) (omega arith)) in (
+    c.first_word.ensures ∙ ap number (first_eight a.s.now (8 * l.i) (omega arith)) in (
       search rules,
       simp length-set (search rules),
       ap (λ x. sets (set l.table l.i x) (l.i + 1) (words (a.n - (l.i + 1)) (drop (8 * (l.i + 1)) a.s.now))) w
-          ∙ sym (load-turn l.table a.s.now a.n l.i (omega arith))
+          ∙ sym (load_turn l.table a.s.now a.n l.i (omega arith))
           ∙ l.invariant.2,
     ))
     (λ c. search rules)
     (λ c. let a = c.before.before.before.before.args in
     let l = c.before.loop in
-    sym (load-ended l.table a.s.now a.n l.i (omega arith)) ∙ l.invariant.2))
+    sym (load_ended l.table a.s.now a.n l.i (omega arith)) ∙ l.invariant.2))

@@ -7,7 +7,7 @@ use native.Mathlib.Omega.{arith}
 use lib.ListN.{length, drop, length-set}
 use lib.Seq.{sets}
 use Rattle.words.proofs.Copying.{turn, ended}
-use Rattle.words.proofs.Stored.{stored-fits, stored-full}
+use Rattle.words.proofs.Stored.{stored_fits, stored_full}
 use Rattle.words.proofs.put_bytes.Statement.{statement}
 use Rattle.words.proofs.put_bytes.Tie as tie
 
@@ -24,11 +24,11 @@ put-bytes-spec =
     (tie.spec
     invariant-loop
     decreases-loop
-    (λ c. sym (stored-full _ _ _ (omega arith)))
+    (λ c. sym (stored_full _ _ _ (omega arith)))
     (λ c. search rules)
-    (λ c. sym (stored-full _ _ _ (omega arith)))
+    (λ c. sym (stored_full _ _ _ (omega arith)))
     (λ c. (search rules, search rules, simp add-zero))
     (λ c. search rules) (λ c. search rules) (λ c. search rules) (λ c. search rules) (λ c. search rules)
     (λ c. let a = c.before.before.before.before.before.args in let l = c.before.before.loop in (search rules, simp length-set (search rules), sym (turn l.out a.s.now a.at l.i (omega arith)) ∙ l.invariant.2))
     (λ c. search rules)
-    (λ c. let a = c.before.before.before.before.args in let l = c.before.loop in sym (ended l.out a.s.now a.at l.i (omega arith)) ∙ l.invariant.2 ∙ sym (stored-fits a.out.now a.at a.s.now (omega arith))))
+    (λ c. let a = c.before.before.before.before.args in let l = c.before.loop in sym (ended l.out a.s.now a.at l.i (omega arith)) ∙ l.invariant.2 ∙ sym (stored_fits a.out.now a.at a.s.now (omega arith))))

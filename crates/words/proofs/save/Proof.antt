@@ -3,8 +3,8 @@ use borrow.Author.Rules.{rules}
 use native.Mathlib.Omega.{arith}
 use mathlib.Core.Path.{sym, ◌∙◌}
 use Rattle.words.specs.Bytes.{bytes_of}
-use Rattle.words.proofs.Lengths.{length-bytesOf}
-use Rattle.words.proofs.Stored.{stored-fits, stored-full}
+use Rattle.words.proofs.Lengths.{length-bytes_of}
+use Rattle.words.proofs.Stored.{stored_fits, stored_full}
 use Rattle.words.proofs.save.Statement.{statement}
 use Rattle.words.proofs.save.Tie as tie
 
@@ -13,5 +13,5 @@ save-spec =
     tie.close
     (tie.spec
     (λ c κs. search rules) (λ c. search rules)
-    (λ c. let a = c.before.before.before.before.before.before.before.args in c.before.before.save-words.ensures ∙ sym (stored-fits a.out.now 0 (bytes_of a.table.now) (omega (arith, length-bytesOf a.table.now))))
-    (λ c. let a = c.before.before.before.args in sym (stored-full a.out.now 0 (bytes_of a.table.now) (omega (arith, length-bytesOf a.table.now)))))
+    (λ c. let a = c.before.before.before.before.before.before.before.args in c.before.before.save-words.ensures ∙ sym (stored_fits a.out.now 0 (bytes_of a.table.now) (omega (arith, length-bytes_of a.table.now))))
+    (λ c. let a = c.before.before.before.args in sym (stored_full a.out.now 0 (bytes_of a.table.now) (omega (arith, length-bytes_of a.table.now)))))

@@ -6,7 +6,7 @@ use native.Mathlib.Omega.{arith}
 use lib.ListN.{length, get_or, drop}
 use lib.Seq.{sets, length-sets}
 use Rattle.words.specs.Bytes.{bytes, bytes_of}
-use Rattle.words.proofs.Copying.{save-turn, save-ended}
+use Rattle.words.proofs.Copying.{save_turn, save_ended}
 use Rattle.words.proofs.save_words.Statement.{statement}
 use Rattle.words.proofs.save_words.Tie as tie
 
@@ -31,9 +31,9 @@ save-words-spec =
       search rules,
       ap length p ∙ length-sets l.out (8 * l.i) (bytes 8 (get_or a.table.now l.i 0)) ∙ l.invariant.1,
       ap (λ x. sets x (8 * (l.i + 1)) (bytes_of (drop (l.i + 1) a.table.now))) p
-          ∙ sym (save-turn l.out a.table.now l.i (omega arith))
+          ∙ sym (save_turn l.out a.table.now l.i (omega arith))
           ∙ l.invariant.2,
     ))
     (λ c. search rules)
     (λ c. let l = c.before.loop in
-    sym (save-ended l.out c.before.before.before.before.args.table.now l.i (omega arith)) ∙ l.invariant.2))
+    sym (save_ended l.out c.before.before.before.before.args.table.now l.i (omega arith)) ∙ l.invariant.2))

@@ -7,7 +7,7 @@ use native.Mathlib.Omega.{arith}
 use lib.ListN.{length, length-set}
 use lib.Seq.{sets}
 use Rattle.words.specs.Bytes.{bytes}
-use Rattle.words.proofs.Copying.{put-turn, put_ended}
+use Rattle.words.proofs.Copying.{put_turn, put_ended}
 use Rattle.words.proofs.write_word.Statement.{statement}
 use Rattle.words.proofs.write_word.Tie as tie
 
@@ -28,7 +28,7 @@ write-word-spec =
     (λ c. search rules) (λ c. search rules) (λ c. search rules) (λ c. search rules) (λ c. search rules)
     (λ c. let a = c.before.before.args in
     let l = c.before.loop in
-    (search rules, simp length-set (search rules), sym (put-turn l.out a.at l.i l.rest (omega arith)) ∙ l.invariant.2))
+    (search rules, simp length-set (search rules), sym (put_turn l.out a.at l.i l.rest (omega arith)) ∙ l.invariant.2))
     (λ c. search rules)
     (λ c. let l = c.before.loop in
     sym (put_ended l.out c.before.before.args.at l.i l.rest (omega arith)) ∙ l.invariant.2))

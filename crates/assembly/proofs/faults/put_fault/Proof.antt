@@ -2,8 +2,8 @@
 use borrow.Author.Rules.{rules}
 use native.Mathlib.Omega.{arith}
 use Rattle.text.proofs.Putting.{long, line-put, renamed, ◌▹◌}
-use Rattle.assembly.proofs.Faulting.{word-inside}
-use Rattle.assembly.proofs.Faulted.{nothing_put, fault-told}
+use Rattle.assembly.proofs.Faulting.{word_inside}
+use Rattle.assembly.proofs.Faulted.{nothing_put, fault_told}
 use Rattle.assembly.proofs.faults.put_fault.Statement.{statement}
 use Rattle.assembly.proofs.faults.put_fault.Tie as tie
 
@@ -16,19 +16,19 @@ put-fault-spec =
     (λ c.
     let w = c.before.before.word-start in
     let e = c.before.run_end in
-    omega (arith, word-inside c.before.before.before.before.before.before.before.args.f.word c.before.before.before.before.before.before.before.args.l.now w.result e.result w.ensures e.ensures))
+    omega (arith, word_inside c.before.before.before.before.before.before.before.args.f.word c.before.before.before.before.before.before.before.args.l.now w.result e.result w.ensures e.ensures))
     (λ c.
     let w = c.before.before.word-start in
     let e = c.before.run_end in
-    omega (arith, word-inside c.before.before.before.before.before.before.before.args.f.word c.before.before.before.before.before.before.before.args.l.now w.result e.result w.ensures e.ensures))
+    omega (arith, word_inside c.before.before.before.before.before.before.before.args.f.word c.before.before.before.before.before.before.before.args.l.now w.result e.result w.ensures e.ensures))
     (λ c.
     let w = c.before.before.word-start in
     let e = c.before.run_end in
-    omega (arith, word-inside c.before.before.before.before.before.before.before.args.f.word c.before.before.before.before.before.before.before.args.l.now w.result e.result w.ensures e.ensures))
+    omega (arith, word_inside c.before.before.before.before.before.before.before.args.f.word c.before.before.before.before.before.before.before.args.l.now w.result e.result w.ensures e.ensures))
     (λ c.
     let w = c.before.before.word-start in
     let e = c.before.run_end in
-    omega (arith, word-inside c.before.before.before.before.before.before.before.args.f.word c.before.before.before.before.before.before.before.args.l.now w.result e.result w.ensures e.ensures))
+    omega (arith, word_inside c.before.before.before.before.before.before.before.args.f.word c.before.before.before.before.before.before.before.args.l.now w.result e.result w.ensures e.ensures))
     (λ c κs. search rules) (λ c κs. search rules) (λ c κs. search rules) (λ c κs. search rules) (λ c. search rules)
     (λ c.
     let a = c.before.before.before.before.before.before.before.before.before.before.before.before.before.before.before.before.before.args in
@@ -40,5 +40,5 @@ put-fault-spec =
     let u = line-put p (omega (arith, f)) c.before.before.before.before.before.before.before.put-line.ensures in
     let k = u.ends in
     let m = long u in
-    renamed (fault-told a.l.now a.f c.before.before.before.before.before.before.before.before.before.before.before.before.word-start.result c.before.before.before.before.before.before.before.before.before.before.before.run_end.result c.before.before.before.before.before.before.before.before.before.before.before.before.word-start.ensures c.before.before.before.before.before.before.before.before.before.before.before.run_end.ensures c.before.before.before.before.before.before.before.before.before.before.before.before.before.if1.false)
+    renamed (fault_told a.l.now a.f c.before.before.before.before.before.before.before.before.before.before.before.before.word-start.result c.before.before.before.before.before.before.before.before.before.before.before.run_end.result c.before.before.before.before.before.before.before.before.before.before.before.before.word-start.ensures c.before.before.before.before.before.before.before.before.before.before.before.run_end.ensures c.before.before.before.before.before.before.before.before.before.before.before.before.before.if1.false)
     (u ▹ line-put q (omega (arith, f, g, n, k, m)) c.before.before.put-line2.ensures)))

@@ -7,8 +7,8 @@ use mathlib.Core.List.{map}
 use borrow.Author.Tests.{not-true, not-false}
 use lib.ListN.{length, drop}
 use Rattle.assembly.specs.Assembled.{words_of}
-use Rattle.assembly.specs.Reading.{sortOf}
-use Rattle.assembly.specs.Faults.{wrong, wordFault}
+use Rattle.assembly.specs.Reading.{sort_of}
+use Rattle.assembly.specs.Faults.{wrong, word_fault}
 use Rattle.assembly.proofs.Runs.{run_inside}
 use Rattle.assembly.proofs.Faulting.{lacks, misfits, fits, no-fault, too_many}
 use Rattle.assembly.proofs.faults.word_fault.Statement.{statement}
@@ -16,7 +16,7 @@ use Rattle.assembly.proofs.faults.word_fault.Tie as tie
 
 abbrev invariant-loop : tie.invariant-loop
 invariant-loop sorts l from at₀ k₀ at k =
-    (k ≤ length sorts) × (wordFault (k + 1) (map sortOf (drop k sorts)) (words_of (drop at l)) ≡ wordFault 1 (map sortOf sorts) (words_of (drop from l)))
+    (k ≤ length sorts) × (word_fault (k + 1) (map sort_of (drop k sorts)) (words_of (drop at l)) ≡ word_fault 1 (map sort_of sorts) (words_of (drop from l)))
 
 abbrev decreases-loop : tie.decreases-loop
 decreases-loop sorts l from at₀ k₀ at k = length sorts - k
@@ -50,7 +50,7 @@ word-fault-spec =
     let v = c.before.before.before.before.before.before.before.before.before.before.loop in
     let p = c.before.before.before.before.before.before.before.run_end in
     c.wrong2.ensures ∙ ap (wrong (v.k + 1)) c.before.expected-of2.ensures ∙ misfits a.sorts.now a.l.now v.k v.at p.result v.invariant.1 p.ensures c.before.before.before.before.before.run-end2.result (omega arith) (omega arith) c.before.before.before.before.before.run-end2.ensures
-    c.before.before.before.is_IsWord.result c.before.before.before.is_IsWord.ensures (not-true _ c.before.before.if2.true))
+    c.before.before.before.is_is_word.result c.before.before.before.is_is_word.ensures (not-true _ c.before.before.if2.true))
     (λ c. omega arith)
     (λ c.
     let a = c.before.before.before.before.before.before.before.before.before.before.before.args in
@@ -58,7 +58,7 @@ word-fault-spec =
     let p = c.before.before.before.before.before.run_end in (
       omega arith,
       fits a.sorts.now a.l.now v.k v.at p.result v.invariant.1 p.ensures c.before.before.before.run-end2.result (omega arith) (omega arith) c.before.before.before.run-end2.ensures
-          c.before.is_IsWord.result c.before.is_IsWord.ensures (not-false _ c.if2.false),
+          c.before.is_is_word.result c.before.is_is_word.ensures (not-false _ c.if2.false),
     ))
     (λ c κs. search rules) (λ c. omega arith) (λ c κs. search rules)
     (λ c.

@@ -3,13 +3,13 @@ use borrow.Author.Rules.{rules}
 use native.Mathlib.Omega.{arith}
 use Prim.Native.Nat.{◌-◌, ◌≤◌}
 use mathlib.Core.Path.{◌≡◌}
-use Rattle.assembly.specs.Faults.{startFrom}
+use Rattle.assembly.specs.Faults.{start_from}
 use Rattle.assembly.proofs.Faulting.{starts_first, starts-next, starts-here}
 use Rattle.assembly.proofs.faults.word_start.Statement.{statement}
 use Rattle.assembly.proofs.faults.word_start.Tie as tie
 
 abbrev invariant-loop : tie.invariant-loop
-invariant-loop l k at₀ i₀ at i = (i ≤ k) × (startFrom (k - i) l at ≡ startFrom k l 0)
+invariant-loop l k at₀ i₀ at i = (i ≤ k) × (start_from (k - i) l at ≡ start_from k l 0)
 
 abbrev decreases-loop : tie.decreases-loop
 decreases-loop l k at₀ i₀ at i = k - i

@@ -3,13 +3,13 @@ use borrow.Author.Rules.{rules}
 use mathlib.Core.Path.{sym, subst}
 use Rattle.text.specs.Line.{Prints}
 use Rattle.text.specs.Text.{ascii}
-use Rattle.assembly.specs.Lines.{instructionLine}
+use Rattle.assembly.specs.Lines.{instruction_line}
 use Rattle.assembly.proofs.Chains.{nop, uni, bi, mov, load, save, load-const, fused, if-else, branch_if}
 use Rattle.assembly.proofs.lines.instruction_line.Statement.{statement}
 use Rattle.assembly.proofs.lines.instruction_line.Tie as tie
 
 pub instruction-line-spec : {M : Type 1} → statement M
-unfolding ascii instructionLine
+unfolding ascii instruction_line
 instruction-line-spec =
     tie.close
     (tie.spec
@@ -30,8 +30,8 @@ instruction-line-spec =
     (λ c. load-const _ _ c.before.before.before.instruction6.given.1 c.before.name10.ensures c.work-line6.ensures)
     (λ c. fused _ _ _ _ _ c.before.before.before.before.before.before.instruction7.given.1 c.before.before.before.before.name11.ensures c.before.before.before.name12.ensures c.before.before.name13.ensures c.before.name14.ensures c.work-line7.ensures)
     (λ c. if-else _ _ _ _ c.before.before.before.before.before.instruction8.given.1 c.before.before.before.name15.ensures c.before.before.name16.ensures c.before.name17.ensures c.work-line8.ensures)
-    (λ c. subst (λ x. Prints (instructionLine x) c.load-math-line.result) (sym c.before.before.instruction9.given.1) c.load-math-line.ensures)
-    (λ c. subst (λ x. Prints (instructionLine x) c.load-const-math-line.result) (sym c.before.before.instruction10.given.1) c.load-const-math-line.ensures)
-    (λ c. subst (λ x. Prints (instructionLine x) c.record-line.result) (sym c.before.before.instruction11.given.1) c.record-line.ensures.0)
-    (λ c. subst (λ x. Prints (instructionLine x) c.record-line2.result) (sym c.before.before.instruction12.given.1) c.record-line2.ensures.0)
+    (λ c. subst (λ x. Prints (instruction_line x) c.load-math-line.result) (sym c.before.before.instruction9.given.1) c.load-math-line.ensures)
+    (λ c. subst (λ x. Prints (instruction_line x) c.load-const-math-line.result) (sym c.before.before.instruction10.given.1) c.load-const-math-line.ensures)
+    (λ c. subst (λ x. Prints (instruction_line x) c.record-line.result) (sym c.before.before.instruction11.given.1) c.record-line.ensures.0)
+    (λ c. subst (λ x. Prints (instruction_line x) c.record-line2.result) (sym c.before.before.instruction12.given.1) c.record-line2.ensures.0)
     (λ c. branch_if _ _ _ c.before.before.before.instruction13.given.1 c.before.name18.ensures c.record-line3.ensures.0))

@@ -3,12 +3,12 @@ use borrow.Author.Rules.{rules}
 use lib.Dec.{lit≤}
 use Rattle.text.specs.Text.{ascii}
 use Rattle.text.proofs.Whole.{prints}
-use Rattle.assembly.specs.Lines.{longText}
+use Rattle.assembly.specs.Lines.{long_text}
 use Rattle.assembly.proofs.lines.long_line.Statement.{statement}
 use Rattle.assembly.proofs.lines.long_line.Tie as tie
 
 pub long-line-spec : {M : Type 1} → statement M
-unfolding ascii longText
+unfolding ascii long_text
 long-line-spec =
     tie.close
     (tie.spec

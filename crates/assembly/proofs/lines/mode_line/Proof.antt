@@ -3,12 +3,12 @@ use borrow.Author.Rules.{rules}
 use lib.Dec.{lit≤}
 use Rattle.text.specs.Text.{ascii}
 use Rattle.text.proofs.Whole.{prints}
-use Rattle.assembly.specs.Lines.{modeLine}
+use Rattle.assembly.specs.Lines.{mode_line}
 use Rattle.assembly.proofs.lines.mode_line.Statement.{statement}
 use Rattle.assembly.proofs.lines.mode_line.Tie as tie
 
 pub mode-line-spec : {M : Type 1} → statement M
-unfolding ascii modeLine
+unfolding ascii mode_line
 mode-line-spec =
     tie.close
     (tie.spec

@@ -1,7 +1,7 @@
 -- `making::open` meets its contract.
 use borrow.Author.Rules.{rules}
 use native.Mathlib.Omega.{arith}
-use Rattle.assembly.proofs.Growing.{refusing, no_mode, mode-put}
+use Rattle.assembly.proofs.Growing.{refusing, no_mode, mode_put}
 use Rattle.assembly.proofs.making.open.Statement.{statement}
 use Rattle.assembly.proofs.making.open.Tie as tie
 
@@ -18,5 +18,5 @@ open_spec =
     let p = c.before.before.before.before.before.before.before in
     let d = p.before.before.before.before.before in
     let a = d.args in
-    mode-put a.head a.out.now a.b.now p.before.before.if1.false d.requires.1 d.requires.0 p.put-bytes.ensures
+    mode_put a.head a.out.now a.b.now p.before.before.if1.false d.requires.1 d.requires.0 p.put-bytes.ensures
     (search rules) c.before.before.put-bytes2.ensures))

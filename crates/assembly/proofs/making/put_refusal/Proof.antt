@@ -5,9 +5,9 @@ use mathlib.Core.Path.{ap, ◌∙◌}
 use mathlib.Core.List.{◌++◌}
 use Rattle.text.proofs.Putting.{long, line-put, renamed, ◌▹◌}
 use Rattle.assembly.specs.Assembled.{words_of}
-use Rattle.assembly.specs.Lines.{refusedText}
-use Rattle.assembly.specs.Faults.{faultOf, faultText}
-use Rattle.assembly.proofs.Cutting.{ends-within, comment-cut}
+use Rattle.assembly.specs.Lines.{refused_text}
+use Rattle.assembly.specs.Faults.{fault_of, fault_text}
+use Rattle.assembly.proofs.Cutting.{ends_within, comment_cut}
 use Rattle.assembly.proofs.making.put_refusal.Statement.{statement}
 use Rattle.assembly.proofs.making.put_refusal.Tie as tie
 
@@ -17,23 +17,23 @@ put-refusal-spec =
     (tie.spec
     (λ c κs. search rules)
     (λ c.
-    let k = ends-within 35 c.before.before.before.args.l.now 0 c.piece-end.result (omega arith) c.piece-end.ensures in
+    let k = ends_within 35 c.before.before.before.args.l.now 0 c.piece-end.result (omega arith) c.piece-end.ensures in
     omega (arith, k))
     (λ c.
-    let k = ends-within 35 c.before.before.before.args.l.now 0 c.piece-end.result (omega arith) c.piece-end.ensures in
+    let k = ends_within 35 c.before.before.before.args.l.now 0 c.piece-end.result (omega arith) c.piece-end.ensures in
     omega (arith, k))
     (λ c.
-    let k = ends-within 35 c.before.before.before.args.l.now 0 c.piece-end.result (omega arith) c.piece-end.ensures in
+    let k = ends_within 35 c.before.before.before.args.l.now 0 c.piece-end.result (omega arith) c.piece-end.ensures in
     omega (arith, k))
     (λ c κs. search rules) (λ c κs. search rules) (λ c κs. search rules)
     (λ c.
-    let k = ends-within 35 c.before.before.before.before.before.before.before.before.before.before.before.args.l.now 0 c.before.before.before.before.before.before.before.before.piece-end.result (omega arith) c.before.before.before.before.before.before.before.before.piece-end.ensures in
+    let k = ends_within 35 c.before.before.before.before.before.before.before.before.before.before.before.args.l.now 0 c.before.before.before.before.before.before.before.before.piece-end.result (omega arith) c.before.before.before.before.before.before.before.before.piece-end.ensures in
     omega (arith, k))
     (λ c.
-    let k = ends-within 35 c.before.before.before.before.before.before.before.before.before.before.before.args.l.now 0 c.before.before.before.before.before.before.before.before.piece-end.result (omega arith) c.before.before.before.before.before.before.before.before.piece-end.ensures in
+    let k = ends_within 35 c.before.before.before.before.before.before.before.before.before.before.before.args.l.now 0 c.before.before.before.before.before.before.before.before.piece-end.result (omega arith) c.before.before.before.before.before.before.before.before.piece-end.ensures in
     omega (arith, k))
     (λ c.
-    let k = ends-within 35 c.before.before.before.before.before.before.before.before.before.before.before.args.l.now 0 c.before.before.before.before.before.before.before.before.piece-end.result (omega arith) c.before.before.before.before.before.before.before.before.piece-end.ensures in
+    let k = ends_within 35 c.before.before.before.before.before.before.before.before.before.before.before.args.l.now 0 c.before.before.before.before.before.before.before.before.piece-end.result (omega arith) c.before.before.before.before.before.before.before.before.piece-end.ensures in
     omega (arith, k))
     (λ c κs.
     let p = c.before.before.before.before.before.refused-line.ensures in
@@ -49,6 +49,6 @@ put-refusal-spec =
     let p = c.before.before.before.before.before.before.before.before.refused-line.ensures in
     let f = p.whole.fits in
     let u = line-put p (omega (arith, f)) c.before.before.before.before.before.before.before.put-line.ensures in
-    let l = comment-cut a.l.now c.before.before.before.before.before.before.before.before.before.before.before.before.piece-end.result c.before.before.before.before.before.before.before.before.before.before.before.before.piece-end.ensures in
-    let g = c.before.before.before.before.before.before.before.before.before.before.fault-of.ensures ∙ ap (λ u. faultOf a.e.why a.e.stage a.e.count (words_of u)) l in
-    renamed (λ i. refusedText a.e.line a.e.why ++ faultText (l i) (g i)) (u ▹ c.before.before.put-fault.ensures)))
+    let l = comment_cut a.l.now c.before.before.before.before.before.before.before.before.before.before.before.before.piece-end.result c.before.before.before.before.before.before.before.before.before.before.before.before.piece-end.ensures in
+    let g = c.before.before.before.before.before.before.before.before.before.before.fault-of.ensures ∙ ap (λ u. fault_of a.e.why a.e.stage a.e.count (words_of u)) l in
+    renamed (λ i. refused_text a.e.line a.e.why ++ fault_text (l i) (g i)) (u ▹ c.before.before.put-fault.ensures)))

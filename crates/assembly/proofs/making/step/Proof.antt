@@ -1,8 +1,8 @@
 -- `making::step` meets its contract.
 use borrow.Author.Rules.{rules}
 use native.Mathlib.Omega.{arith}
-use Rattle.assembly.specs.Making.{sheetOf}
-use Rattle.assembly.proofs.Cutting.{ends-within, comment-cut}
+use Rattle.assembly.specs.Making.{sheet_of}
+use Rattle.assembly.proofs.Cutting.{ends_within, comment_cut}
 use Rattle.assembly.proofs.Stepping.{by-words}
 use Rattle.assembly.proofs.making.step.Statement.{statement}
 use Rattle.assembly.proofs.making.step.Tie as tie
@@ -14,10 +14,10 @@ step_spec =
     (λ c κs. search rules)
     (λ c. omega arith)
     (λ c. omega arith)
-    (λ c. let k = ends-within 35 c.before.before.before.before.args.l.now 0 c.before.piece-end.result (omega arith) c.before.piece-end.ensures in omega (arith, k))
+    (λ c. let k = ends_within 35 c.before.before.before.before.args.l.now 0 c.before.piece-end.result (omega arith) c.before.piece-end.ensures in omega (arith, k))
     (λ c κs. search rules)
     (λ c. search rules)
     (λ c.
     let a = c.before.before.before.before.before.before.before.before.args in
     let p = c.before.before.before.before.before.piece-end in
-    by-words (sheetOf a.s a.out.now) a.l.now (comment-cut a.l.now p.result p.ensures) c.before.before.with-words.ensures))
+    by-words (sheet_of a.s a.out.now) a.l.now (comment_cut a.l.now p.result p.ensures) c.before.before.with-words.ensures))

@@ -1,7 +1,7 @@
 -- `making::with_bit` meets its contract.
 use borrow.Author.Rules.{rules}
 use native.Mathlib.Omega.{arith}
-use Rattle.assembly.proofs.Marking.{power-some, bit-room, bit-there, bit-put}
+use Rattle.assembly.proofs.Marking.{power_some, bit-room, bit-there, bit-put}
 use Rattle.assembly.proofs.making.with_bit.Statement.{statement}
 use Rattle.assembly.proofs.making.with_bit.Tie as tie
 
@@ -10,7 +10,7 @@ with-bit-spec =
     tie.close
     (tie.spec
     (λ c κs. search rules)
-    (λ c. power-some _ _ c.power-of.ensures)
+    (λ c. power_some _ _ c.power-of.ensures)
     (λ c. let a = c.before.before.args in bit-there a.b a.i _ c.before.power-of.ensures c.if1.true)
     (λ c.
     let a = c.before.before.args in

@@ -1,8 +1,8 @@
 -- `making::with_constant` meets its contract.
 use borrow.Author.Rules.{rules}
 use native.Mathlib.Omega.{arith}
-use Rattle.assembly.specs.Making.{sheetOf}
-use Rattle.assembly.proofs.Growing.{makes-as, refusing, constant-late, constant-many, constant-put}
+use Rattle.assembly.specs.Making.{sheet_of}
+use Rattle.assembly.proofs.Growing.{makes_as, refusing, constant-late, constant-many, constant-put}
 use Rattle.assembly.proofs.making.with_constant.Statement.{statement}
 use Rattle.assembly.proofs.making.with_constant.Tie as tie
 
@@ -13,12 +13,12 @@ with-constant-spec =
     (λ c κs. search rules)
     (λ c.
     let a = c.before.before.before.before.before.args in
-    refusing 2 c.refuse.ensures (constant-late (sheetOf a.s a.out.now) a.b.now c.before.if1.true))
+    refusing 2 c.refuse.ensures (constant-late (sheet_of a.s a.out.now) a.b.now c.before.if1.true))
     (λ c κs. search rules)
     (λ c.
     let a = c.before.before.before.before.before.before.args in
-    refusing 1 c.refuse2.ensures (constant-many (sheetOf a.s a.out.now) a.b.now (omega arith) c.before.if2.true))
+    refusing 1 c.refuse2.ensures (constant-many (sheet_of a.s a.out.now) a.b.now (omega arith) c.before.if2.true))
     (λ c. search rules) (λ c κs. search rules) (λ c. search rules)
     (λ c.
     let a = c.before.before.before.before.before.before.before.before.before.args in
-    makes-as (constant-put (sheetOf a.s a.out.now) a.b.now (omega arith) (omega arith)) c.before.before.grow.ensures))
+    makes_as (constant-put (sheet_of a.s a.out.now) a.b.now (omega arith) (omega arith)) c.before.before.grow.ensures))

@@ -5,8 +5,8 @@ use mathlib.Core.Path.{◌≡◌, sym, ap, ◌∙◌}
 use native.Mathlib.Nat.{sub-zero}
 use lib.ListN.{take}
 use lib.Seq.{take_all}
-use Rattle.assembly.specs.Making.{part_of, sheetOf, withRead}
-use Rattle.assembly.proofs.Growing.{makes-as}
+use Rattle.assembly.specs.Making.{part_of, sheet_of, with_read}
+use Rattle.assembly.proofs.Growing.{makes_as}
 use Rattle.assembly.proofs.making.with_first.Statement.{statement}
 use Rattle.assembly.proofs.making.with_first.Tie as tie
 
@@ -17,11 +17,11 @@ with-first-spec =
     (λ c. search rules) (λ c. search rules) (λ c. search rules) (λ c κs. search rules) (λ c. search rules)
     (λ c.
     let a = c.before.before.before.before.before.before.before.before.args in
-    let s = sheetOf a.s a.out.now in
-    makes-as (ap (λ n. withRead s (part_of a.head) (take n a.b.now)) (sub-zero a.n)) c.before.before.with_read.ensures)
+    let s = sheet_of a.s a.out.now in
+    makes_as (ap (λ n. with_read s (part_of a.head) (take n a.b.now)) (sub-zero a.n)) c.before.before.with_read.ensures)
     (λ c κs. search rules) (λ c. search rules)
     (λ c.
     let a = c.before.before.before.before.before.before.before.args in
-    let s = sheetOf a.s a.out.now in
+    let s = sheet_of a.s a.out.now in
     let e = take_all a.n a.b.now (omega arith) in
-    makes-as (ap (withRead s (part_of a.head)) (sym e)) c.before.before.with-read2.ensures))
+    makes_as (ap (with_read s (part_of a.head)) (sym e)) c.before.before.with-read2.ensures))

@@ -6,7 +6,7 @@ use mathlib.Core.Path.{refl}
 use lib.ListN.{drop}
 use Rattle.assembly.specs.Assembled.{words_of}
 use Rattle.assembly.specs.Reading.{run}
-use Rattle.assembly.specs.Making.{sheetOf}
+use Rattle.assembly.specs.Making.{sheet_of}
 use Rattle.assembly.proofs.Runs.{no_words, word-at}
 use Rattle.assembly.proofs.Heard.{heard, unheard}
 use Rattle.assembly.proofs.Growing.{refusing}
@@ -23,7 +23,7 @@ with-words-spec =
     let d = c.before.before.before.before in
     let l = d.args.l.now in
     let p = c.before.run_end in
-    step-none (sheetOf d.args.s d.args.out.now) (words_of l) d.args.s d.args.out.now d.requires refl
+    step-none (sheet_of d.args.s d.args.out.now) (words_of l) d.args.s d.args.out.now d.requires refl
     (no_words l 0 p.result p.ensures c.if1.true))
     (λ c κs. search rules) (λ c. search rules)
     (λ c κs.
@@ -37,7 +37,7 @@ with-words-spec =
     let p = c.before.before.before.before.before.before.before.before.before.before.run_end in
     let r = c.before.before.before.before.before.before.before.before.read-line in
     let h = heard (words_of l) r.result c.before.before.before.before.before.before.before.if2.true r.ensures in
-    step-heard (sheetOf a.s a.out.now) (words_of l) (word-at l 0 p.result p.ensures (p.result + run 0 (drop p.result l)) (omega arith) refl)
+    step-heard (sheet_of a.s a.out.now) (words_of l) (word-at l 0 p.result p.ensures (p.result + run 0 (drop p.result l)) (omega arith) refl)
     r.result h c.before.before.with_first.ensures)
     (λ c κs. search rules)
     (λ c.
@@ -47,7 +47,7 @@ with-words-spec =
     let r = c.before.before.before.before.read-line in
     let h = unheard (words_of l) r.result c.before.before.before.if2.false r.ensures in
     refusing 0 c.refuse.ensures
-    (unheard-first (sheetOf a.s a.out.now) (words_of l)
+    (unheard-first (sheet_of a.s a.out.now) (words_of l)
     (word-at l 0 p.result p.ensures (p.result + run 0 (drop p.result l)) (omega arith) refl) h c.before.if3.true))
     (λ c κs. search rules)
     (λ c.
@@ -57,5 +57,5 @@ with-words-spec =
     let r = c.before.before.before.before.read-line in
     let h = unheard (words_of l) r.result c.before.before.before.if2.false r.ensures in
     refusing 2 c.refuse2.ensures
-    (unheard-later (sheetOf a.s a.out.now) (words_of l)
+    (unheard-later (sheet_of a.s a.out.now) (words_of l)
     (word-at l 0 p.result p.ensures (p.result + run 0 (drop p.result l)) (omega arith) refl) h c.before.if3.false)))

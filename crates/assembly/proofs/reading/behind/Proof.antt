@@ -2,7 +2,7 @@
 use borrow.Author.Rules.{rules}
 use native.Mathlib.Omega.{arith}
 use mathlib.Core.Path.{◌≡◌, refl}
-use Rattle.assembly.proofs.Wording.{behind-end}
+use Rattle.assembly.proofs.Wording.{behind_end}
 use Rattle.assembly.proofs.reading.behind.Statement.{statement}
 use Rattle.assembly.proofs.reading.behind.Tie as tie
 
@@ -12,4 +12,4 @@ behind-spec =
     (tie.spec
     (λ c. omega arith)
     (λ c. refl)
-    (λ c. behind-end c.before.args.s.now c.before.args.end (omega arith)))
+    (λ c. behind_end c.before.args.s.now c.before.args.end (omega arith)))

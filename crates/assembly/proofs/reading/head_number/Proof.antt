@@ -1,6 +1,6 @@
 -- `reading::head_number` meets its contract: the row's words, by computation.
 use borrow.Author.Rules.{rules}
-use Rattle.text.specs.Text.{ascii, decimalIn}
+use Rattle.text.specs.Text.{ascii, decimal_in}
 use Rattle.text.specs.Text as Text
 use Rattle.assembly.specs.Assembled.{pieces, heads}
 use Rattle.assembly.proofs.reading.head_number.Statement.{statement}

@@ -1,11 +1,11 @@
 -- `reading::index_number` meets its contract: the row's words, by computation.
 use borrow.Author.Rules.{rules}
-use Rattle.text.specs.Text.{ascii, decimalIn}
+use Rattle.text.specs.Text.{ascii, decimal_in}
 use Rattle.text.specs.Text as Text
-use Rattle.assembly.specs.Assembled.{pieces, indexWords}
+use Rattle.assembly.specs.Assembled.{pieces, index_words}
 use Rattle.assembly.proofs.reading.index_number.Statement.{statement}
 use Rattle.assembly.proofs.reading.index_number.Tie as tie
 
 pub index-number-spec : {M : Type 1} → statement M
-unfolding pieces indexWords decimalIn
+unfolding pieces index_words decimal_in
 index-number-spec = tie.close (tie.spec (λ c. search rules) (λ c. search rules) (λ c. c.number_in.ensures))

@@ -1,11 +1,11 @@
 -- `reading::mode_number` meets its contract: the row's words, by computation.
 use borrow.Author.Rules.{rules}
-use Rattle.text.specs.Text.{ascii, decimalIn}
+use Rattle.text.specs.Text.{ascii, decimal_in}
 use Rattle.text.specs.Text as Text
-use Rattle.assembly.specs.Assembled.{pieces, modeWords}
+use Rattle.assembly.specs.Assembled.{pieces, mode_words}
 use Rattle.assembly.proofs.reading.mode_number.Statement.{statement}
 use Rattle.assembly.proofs.reading.mode_number.Tie as tie
 
 pub mode-number-spec : {M : Type 1} → statement M
-unfolding pieces modeWords ascii
+unfolding pieces mode_words ascii
 mode-number-spec = tie.close (tie.spec (λ c. search rules) (λ c. search rules) (λ c. c.number_in.ensures))

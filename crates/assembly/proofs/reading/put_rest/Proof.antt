@@ -4,12 +4,12 @@ use native.Mathlib.Omega.{arith}
 use mathlib.Core.Path.{◌≡◌, ◌∙◌}
 use lib.ListN.{drop, get_or}
 use Rattle.assembly.specs.Assembled.{words_of}
-use Rattle.assembly.proofs.Table.{startLengths, starts, sortCounts, sortsOf, start-short, sorts-few, row, no_row}
+use Rattle.assembly.proofs.Table.{start_lengths, starts, sort_counts, sorts_of, start_short, sorts_few, row, no_row}
 use Rattle.assembly.proofs.reading.put_rest.Statement.{statement}
 use Rattle.assembly.proofs.reading.put_rest.Tie as tie
 
 pub put-rest-spec : {M : Type 1} → statement M
-unfolding startLengths starts sortCounts sortsOf
+unfolding start_lengths starts sort_counts sorts_of
 put-rest-spec =
     tie.close
     (tie.spec
@@ -19,14 +19,14 @@ put-rest-spec =
     (λ c κs. search rules)
     (λ c. omega arith) (λ c. omega arith) (λ c. omega arith)
     (λ c.
-    let k : c.before.before.before.before.byte.result ≡ get_or startLengths c.before.before.before.before.before.before.before.before.args.n 0 = c.before.before.before.before.byte.ensures in
-    let m = start-short c.before.before.before.before.before.before.before.before.args.n (omega arith) in
+    let k : c.before.before.before.before.byte.result ≡ get_or start_lengths c.before.before.before.before.before.before.before.before.args.n 0 = c.before.before.before.before.byte.ensures in
+    let m = start_short c.before.before.before.before.before.before.before.before.args.n (omega arith) in
     omega (arith, k, m))
     (λ c κs. search rules)
     (λ c. omega arith) (λ c. omega arith) (λ c. omega arith)
     (λ c.
-    let k : c.before.before.before.before.before.byte2.result ≡ get_or sortCounts c.before.before.before.before.before.before.before.before.before.before.before.args.n 0 = c.before.before.before.before.before.byte2.ensures in
-    let m = sorts-few c.before.before.before.before.before.before.before.before.before.before.before.args.n (omega arith) in
+    let k : c.before.before.before.before.before.byte2.result ≡ get_or sort_counts c.before.before.before.before.before.before.before.before.before.before.before.args.n 0 = c.before.before.before.before.before.byte2.ensures in
+    let m = sorts_few c.before.before.before.before.before.before.before.before.before.before.before.args.n (omega arith) in
     omega (arith, k, m))
     (λ c κs. search rules)
     (λ c.

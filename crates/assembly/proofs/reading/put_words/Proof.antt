@@ -7,7 +7,7 @@ use mathlib.Core.List.{map}
 use borrow.Author.Tests.{not-true, not-false}
 use lib.ListN.{length, drop}
 use Rattle.assembly.specs.Assembled.{words_of}
-use Rattle.assembly.specs.Reading.{sortOf, wordsPut}
+use Rattle.assembly.specs.Reading.{sort_of, words_put}
 use Rattle.assembly.proofs.Runs.{run_inside}
 use Rattle.assembly.proofs.Wording.{no_word, bad-word, good-word, all-put, too_many}
 use Rattle.assembly.proofs.reading.put_words.Statement.{statement}
@@ -15,7 +15,7 @@ use Rattle.assembly.proofs.reading.put_words.Tie as tie
 
 abbrev invariant-loop : tie.invariant-loop
 invariant-loop sorts l from line₀ at₀ k₀ line at k =
-    (k ≤ length sorts) × (wordsPut (map sortOf (drop k sorts)) line (words_of (drop at l)) ≡ wordsPut (map sortOf sorts) line₀ (words_of (drop from l)))
+    (k ≤ length sorts) × (words_put (map sort_of (drop k sorts)) line (words_of (drop at l)) ≡ words_put (map sort_of sorts) line₀ (words_of (drop from l)))
 
 abbrev decreases-loop : tie.decreases-loop
 decreases-loop sorts l from line₀ at₀ k₀ line at k = length sorts - k

@@ -7,7 +7,7 @@ use borrow.Author.Tests.{eq-eqb, ne_eqb}
 use lib.Dec.{eqb}
 use lib.ListN.{length, drop}
 use Rattle.assembly.specs.Reading.{run}
-use Rattle.assembly.proofs.Runs.{run_on, run-stop, run_out}
+use Rattle.assembly.proofs.Runs.{run_on, run_stop, run_out}
 use Rattle.assembly.proofs.reading.run_end.Statement.{statement}
 use Rattle.assembly.proofs.reading.run_end.Tie as tie
 
@@ -29,7 +29,7 @@ run-end-spec =
     (λ c.
     let v = c.before.before.before.before.loop in
     let k = c.before.before.before.before.before.before.args.k in
-    run-stop k _ v.i (omega arith) (ap (λ n. eqb n k) (sym c.before.blankness-of.ensures) ∙ ne_eqb _ _ c.if1.true) ∙ v.invariant)
+    run_stop k _ v.i (omega arith) (ap (λ n. eqb n k) (sym c.before.blankness-of.ensures) ∙ ne_eqb _ _ c.if1.true) ∙ v.invariant)
     (λ c. omega arith) (λ c. omega arith)
     (λ c.
     let v = c.before.before.before.before.loop in

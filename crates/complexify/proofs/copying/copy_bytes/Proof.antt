@@ -2,7 +2,7 @@
 use borrow.Author.Rules.{rules}
 use native.Mathlib.Omega.{arith}
 use mathlib.Core.Path.{◌∙◌}
-use Rattle.words.proofs.Stored.{stored-fits}
+use Rattle.words.proofs.Stored.{stored_fits}
 use Rattle.complexify.proofs.copying.copy_bytes.Statement.{statement}
 use Rattle.complexify.proofs.copying.copy_bytes.Tie as tie
 
@@ -11,4 +11,4 @@ copy-bytes-spec =
     tie.close
     (tie.spec
     (λ c κs. search rules) (λ c. search rules)
-    (λ c. c.before.before.put-bytes.ensures ∙ stored-fits _ _ _ (omega arith)))
+    (λ c. c.before.before.put-bytes.ensures ∙ stored_fits _ _ _ (omega arith)))

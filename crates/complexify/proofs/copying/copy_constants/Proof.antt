@@ -6,8 +6,8 @@ use mathlib.Core.Path.{◌≡◌, sym, ap, ◌∙◌}
 use native.Mathlib.Nat.{zero-add, add-zero}
 use lib.ListN.{length, drop, set}
 use lib.Seq.{sets}
-use Rattle.sheet.specs.Setup.{constantAt, constantsOf}
-use Rattle.sheet.proofs.Setting.{length-constants}
+use Rattle.sheet.specs.Setup.{constant_at, constants_of}
+use Rattle.sheet.proofs.Setting.{length_constants}
 use Rattle.words.proofs.Copying.{ended}
 use Rattle.refusals.proofs.Storing.{stored}
 use Rattle.complexify.proofs.Copies.{nth}
@@ -18,7 +18,7 @@ abbrev invariant-loop : tie.invariant-loop
 invariant-loop sheet count constants₀ i₀ constants i =
     (i ≤ count)
     × (length constants ≡ length constants₀)
-    × (sets constants (0 + i) (drop i (constantsOf sheet count)) ≡ sets constants₀ 0 (constantsOf sheet count))
+    × (sets constants (0 + i) (drop i (constants_of sheet count)) ≡ sets constants₀ 0 (constants_of sheet count))
 
 abbrev decreases-loop : tie.decreases-loop
 decreases-loop sheet count constants₀ i₀ constants i = count - i
@@ -31,6 +31,6 @@ copy-constants-spec =
     decreases-loop
     (λ c. (search rules, search rules, simp zero-add))
     (λ c κs. search rules) (λ c. search rules) (λ c. search rules) (λ c. search rules) (λ c. search rules)
-    (λ c. let a = c.before.before.before.before.before.args in let l = c.before.before.loop in let b = constantsOf a.sheet.now a.count in let n = length-constants a.sheet.now a.count 0 in let v = c.constant-at.ensures ∙ ap (constantAt a.sheet.now) (sym (zero-add l.i)) ∙ sym (nth a.sheet.now a.count 0 l.i (omega arith)) in (search rules, search rules, stored l.constants b l.i v (omega (arith, n)) ∙ l.invariant.2))
+    (λ c. let a = c.before.before.before.before.before.args in let l = c.before.before.loop in let b = constants_of a.sheet.now a.count in let n = length_constants a.sheet.now a.count 0 in let v = c.constant-at.ensures ∙ ap (constant_at a.sheet.now) (sym (zero-add l.i)) ∙ sym (nth a.sheet.now a.count 0 l.i (omega arith)) in (search rules, search rules, stored l.constants b l.i v (omega (arith, n)) ∙ l.invariant.2))
     (λ c. search rules)
-    (λ c. let a = c.before.before.before.before.args in let l = c.before.loop in let n = length-constants a.sheet.now a.count 0 in sym (ended l.constants (constantsOf a.sheet.now a.count) 0 l.i (omega (arith, n))) ∙ l.invariant.2))
+    (λ c. let a = c.before.before.before.before.args in let l = c.before.loop in let n = length_constants a.sheet.now a.count 0 in sym (ended l.constants (constants_of a.sheet.now a.count) 0 l.i (omega (arith, n))) ∙ l.invariant.2))

@@ -2,8 +2,8 @@
 use borrow.Author.Rules.{rules}
 use native.Mathlib.Omega.{arith}
 use mathlib.Core.Path.{sym, ◌∙◌}
-use Rattle.words.proofs.Stored.{stored-fits, stored-full}
-use Rattle.sheet.proofs.Setting.{length-constants}
+use Rattle.words.proofs.Stored.{stored_fits, stored_full}
+use Rattle.sheet.proofs.Setting.{length_constants}
 use Rattle.complexify.proofs.copying.put_constants.Statement.{statement}
 use Rattle.complexify.proofs.copying.put_constants.Tie as tie
 
@@ -13,5 +13,5 @@ put-constants-spec =
     (tie.spec
     (λ c κs. c.before.if1.true)
     (λ c. search rules)
-    (λ c. let a = c.before.before.before.before.before.before.before.args in let h = c.before.before.before.before.if1.true in c.before.before.copy-constants.ensures ∙ sym (stored-fits _ _ _ (omega (arith, h, length-constants a.sheet.now a.count 0))))
-    (λ c. let a = c.before.before.before.args in let h = c.if1.false in sym (stored-full _ _ _ (omega (arith, h, length-constants a.sheet.now a.count 0)))))
+    (λ c. let a = c.before.before.before.before.before.before.before.args in let h = c.before.before.before.before.if1.true in c.before.before.copy-constants.ensures ∙ sym (stored_fits _ _ _ (omega (arith, h, length_constants a.sheet.now a.count 0))))
+    (λ c. let a = c.before.before.before.args in let h = c.if1.false in sym (stored_full _ _ _ (omega (arith, h, length_constants a.sheet.now a.count 0)))))

@@ -5,7 +5,7 @@ use Prim.Native.Nat.{◌≤◌, ◌-◌}
 use mathlib.Core.Path.{◌≡◌, refl, sym, ◌∙◌}
 use lib.ListN.{length, replicate, length-set}
 use lib.Seq.{sets}
-use Rattle.complexify.proofs.Copies.{fill-turn, fill-ended}
+use Rattle.complexify.proofs.Copies.{fill_turn, fill_ended}
 use Rattle.complexify.proofs.copying.put_origins.Statement.{statement}
 use Rattle.complexify.proofs.copying.put_origins.Tie as tie
 
@@ -28,7 +28,7 @@ put-origins-spec =
     (λ c. search rules) (λ c. search rules) (λ c. search rules) (λ c. search rules)
     (λ c. let a = c.before.before.args in
     let l = c.before.loop in
-    (search rules, simp length-set (search rules), sym (fill-turn l.origins a.origin l.i a.end (omega arith)) ∙ l.invariant.2))
+    (search rules, simp length-set (search rules), sym (fill_turn l.origins a.origin l.i a.end (omega arith)) ∙ l.invariant.2))
     (λ c. search rules)
     (λ c. let a = c.before.before.args in let l = c.before.loop in
-    sym (fill-ended l.origins a.origin l.i a.end (omega arith)) ∙ l.invariant.2))
+    sym (fill_ended l.origins a.origin l.i a.end (omega arith)) ∙ l.invariant.2))

@@ -5,11 +5,11 @@ use Prim.Native.Nat.{◌-◌}
 use mathlib.Core.Path.{◌≡◌, refl, sym, ◌∙◌}
 use lib.ListN.{length, take, length-take}
 use Rattle.mir.proofs.Decoding.{ended}
-use Rattle.sheet.specs.Instruction.{instructionFrom}
+use Rattle.sheet.specs.Instruction.{instruction_from}
 use Rattle.sheet.proofs.Limit.{still}
 use Rattle.complexify.specs.Taken.{left}
-use Rattle.complexify.proofs.Copies.{kept-none}
-use Rattle.complexify.proofs.Turns.{turn-beyond, turn-halted, turn-taken, underway-first}
+use Rattle.complexify.proofs.Copies.{kept_none}
+use Rattle.complexify.proofs.Turns.{turn_beyond, turn-halted, turn-taken, underway-first}
 use Rattle.complexify.proofs.Running.{Lowers, lowers-next, ran-refused, ran-ended}
 use Rattle.complexify.proofs.Dating.{Dating, dating-first, dating-next, not-before, dated-refused, dated-ended}
 use Rattle.complexify.proofs.entry.run.Statement.{statement}
@@ -34,9 +34,9 @@ run_spec =
     (tie.spec
     invariant-loop
     decreases-loop
-    (λ c. let p = c.before.before.before.before.before.before.requires in ((underway-first p.0 p.1.1.1, kept-none _ 0 (omega arith)), refl, refl, refl, refl, refl, dating-first p.0.count p.1.1.0))
+    (λ c. let p = c.before.before.before.before.before.before.requires in ((underway-first p.0 p.1.1.1, kept_none _ 0 (omega arith)), refl, refl, refl, refl, refl, dating-first p.0.count p.1.1.0))
     (λ c κs. search rules) (λ c. search rules) (λ c. search rules) (λ c. search rules) (λ c. search rules) (λ c. search rules)
-    (λ c. let v = c.before.before.before.before.before.loop.invariant in let t = turn-beyond v.0.0.ready c.before.if2.true c.before.before.before.if1.true in (ran-refused v.0 t refl c.stop-at.ensures, dated-refused v.0 v.6 t refl c.stop-at.ensures))
+    (λ c. let v = c.before.before.before.before.before.loop.invariant in let t = turn_beyond v.0.0.ready c.before.if2.true c.before.before.before.if1.true in (ran-refused v.0 t refl c.stop-at.ensures, dated-refused v.0 v.6 t refl c.stop-at.ensures))
     (λ c κs. search rules) (λ c κs. search rules) (λ c. search rules) (λ c. search rules) (λ c. search rules) (λ c. search rules)
     (λ c. search rules)
     (λ c. let v = c.before.before.before.before.before.before.before.before.before.before.before.before.before.before.before.loop.invariant in let t = turn-halted v.0.0.ready (still c.before.before.before.before.before.before.before.before.before.before.before.before.before.before.before.loop.invariant.0.0.ready.index c.before.before.before.before.before.before.before.before.before.before.before.if2.false) c.before.before.before.before.before.before.pass-at.ensures c.before.if3.true in (ran-refused v.0 t refl c.stop-at2.ensures, dated-refused v.0 v.6 t refl c.stop-at2.ensures))
@@ -59,4 +59,4 @@ run_spec =
     (λ c. let h = ((turn-taken c.before.before.before.before.before.before.before.before.before.before.before.before.before.before.before.before.before.before.before.before.before.before.before.before.before.before.before.before.before.before.before.before.before.before.before.loop.invariant.0.0.ready (still c.before.before.before.before.before.before.before.before.before.before.before.before.before.before.before.before.before.before.before.before.before.before.before.before.before.before.before.before.before.before.before.before.before.before.before.loop.invariant.0.0.ready.index c.before.before.before.before.before.before.before.before.before.before.before.before.before.before.before.before.before.before.before.before.before.before.before.before.before.before.before.before.before.before.before.if2.false) c.before.before.before.before.before.before.before.before.before.before.before.before.before.before.before.before.before.before.before.before.before.before.before.before.before.before.pass-at.ensures c.before.before.before.before.before.before.before.before.before.before.before.before.before.before.before.before.before.before.before.before.before.before.before.before.before.before.before.before.before.before.before.before.before.if1.true c.before.before.before.before.before.before.before.before.before.before.before.before.before.before.before.before.before.before.before.before.before.if3.false c.before.before.before.before.before.before.before.before.before.before.before.before.before.before.before.before.before.before.one.ensures).here c.before.before.before.before.before.before.before.before.before.before.before.before.before.before.if4.false).on in let i = c.before.before.before.before.before.before.before.before.before.before.before.before.before.before.before.before.before.before.before.before.before.before.before.before.before.before.before.before.before.before.before.before.before.if1.true in omega (arith, h, i))
     (λ c. let v = c.before.before.before.before.before.before.before.before.before.before.before.before.before.before.before.before.before.before.before.before.before.before.before.before.before.before.before.before.before.before.before.before.before.before.before.loop.invariant in let m = c.before.before.before.before.before.before.before.before.before.before.before.before.before.before.before.before.before.before.before.before.before.before.before.before.before.before.pass-at.auto.1.1.1 in let k = c.before.before.before.before.before.before.before.before.before.before.before.before.before.before.before.before.before.before.one.auto.1.1.1.1.1.1.1 in let t = turn-taken c.before.before.before.before.before.before.before.before.before.before.before.before.before.before.before.before.before.before.before.before.before.before.before.before.before.before.before.before.before.before.before.before.before.before.before.loop.invariant.0.0.ready (still c.before.before.before.before.before.before.before.before.before.before.before.before.before.before.before.before.before.before.before.before.before.before.before.before.before.before.before.before.before.before.before.before.before.before.before.loop.invariant.0.0.ready.index c.before.before.before.before.before.before.before.before.before.before.before.before.before.before.before.before.before.before.before.before.before.before.before.before.before.before.before.before.before.before.before.if2.false) c.before.before.before.before.before.before.before.before.before.before.before.before.before.before.before.before.before.before.before.before.before.before.before.before.before.before.pass-at.ensures c.before.before.before.before.before.before.before.before.before.before.before.before.before.before.before.before.before.before.before.before.before.before.before.before.before.before.before.before.before.before.before.before.before.if1.true c.before.before.before.before.before.before.before.before.before.before.before.before.before.before.before.before.before.before.before.before.before.if3.false c.before.before.before.before.before.before.before.before.before.before.before.before.before.before.before.before.before.before.one.ensures in let z = c.before.before.before.before.before.before.before.before.before.before.before.before.before.before.if4.false in let few = still c.before.before.before.before.before.before.before.before.before.before.before.before.before.before.before.before.before.before.before.before.before.before.before.before.before.before.before.before.before.before.before.before.before.before.before.loop.invariant.0.0.ready.index c.before.before.before.before.before.before.before.before.before.before.before.before.before.before.before.before.before.before.before.before.before.before.before.before.before.before.before.before.before.before.before.if2.false in let u = lowers-next v.0 t k.0 few z c.before.before.before.before.before.before.before.before.before.before.before.copy-bytes.ensures in let d = dating-next v.6 t few z (not-before u) v.0.0.ready.words c.before.before.before.before.put-origins.ensures in (u, m.0 ∙ v.1, m.1.0 ∙ v.2, search rules, k.1.0 ∙ v.4, d.long ∙ sym v.6.long ∙ v.5, d))
     (λ c κs. search rules) (λ c. search rules) (λ c. search rules) (λ c. search rules) (λ c. search rules) (λ c. search rules)
-    (λ c. let v = c.before.before.before.loop.invariant in let a = c.before.before.before.before.before.before.before.before.before.before.args in let x = ended (instructionFrom a.own) a.sheet.now c.before.before.before.loop.p.at c.before.if1.false in (ran-ended v.0 x c.stop-at4.ensures, dated-ended v.0 v.6 x c.stop-at4.ensures)))
+    (λ c. let v = c.before.before.before.loop.invariant in let a = c.before.before.before.before.before.before.before.before.before.before.args in let x = ended (instruction_from a.own) a.sheet.now c.before.before.before.loop.p.at c.before.if1.false in (ran-ended v.0 x c.stop-at4.ensures, dated-ended v.0 v.6 x c.stop-at4.ensures)))

@@ -2,7 +2,7 @@
 use borrow.Author.Rules.{rules}
 use mathlib.Core.Path.{sym, ap}
 use Rattle.lowering.specs.Labels.{role}
-use Rattle.figures.specs.Shelf.{branchOf}
+use Rattle.figures.specs.Shelf.{branch_of}
 use Rattle.figures.proofs.counting.branch_of.Statement.{statement}
 use Rattle.figures.proofs.counting.branch_of.Tie as tie
 
@@ -14,17 +14,17 @@ branch-of-spec =
     (λ c. search rules) (λ c. search rules) (λ c. search rules) (λ c. search rules) (λ c. search rules) (λ c. search rules)
     (λ c. search rules) (λ c. search rules) (λ c. search rules) (λ c. search rules) (λ c. search rules) (λ c. search rules)
     (λ c. search rules) (λ c. search rules)
-    (λ c. sym (ap (λ i. branchOf (role i)) c.enum_told.given.1))
-    (λ c. sym (ap (λ i. branchOf (role i)) c.before.instruction.given.1))
-    (λ c. sym (ap (λ i. branchOf (role i)) c.before.instruction2.given.1))
-    (λ c. sym (ap (λ i. branchOf (role i)) c.before.instruction3.given.1))
-    (λ c. sym (ap (λ i. branchOf (role i)) c.before.instruction4.given.1))
-    (λ c. sym (ap (λ i. branchOf (role i)) c.before.instruction5.given.1))
-    (λ c. sym (ap (λ i. branchOf (role i)) c.before.instruction6.given.1))
-    (λ c. sym (ap (λ i. branchOf (role i)) c.before.instruction7.given.1))
-    (λ c. sym (ap (λ i. branchOf (role i)) c.before.instruction8.given.1))
-    (λ c. sym (ap (λ i. branchOf (role i)) c.before.instruction9.given.1))
-    (λ c. sym (ap (λ i. branchOf (role i)) c.before.instruction10.given.1))
-    (λ c. sym (ap (λ i. branchOf (role i)) c.before.instruction11.given.1))
-    (λ c. sym (ap (λ i. branchOf (role i)) c.before.instruction12.given.1))
-    (λ c. sym (ap (λ i. branchOf (role i)) c.before.instruction13.given.1)))
+    (λ c. sym (ap (λ i. branch_of (role i)) c.enum_told.given.1))
+    (λ c. sym (ap (λ i. branch_of (role i)) c.before.instruction.given.1))
+    (λ c. sym (ap (λ i. branch_of (role i)) c.before.instruction2.given.1))
+    (λ c. sym (ap (λ i. branch_of (role i)) c.before.instruction3.given.1))
+    (λ c. sym (ap (λ i. branch_of (role i)) c.before.instruction4.given.1))
+    (λ c. sym (ap (λ i. branch_of (role i)) c.before.instruction5.given.1))
+    (λ c. sym (ap (λ i. branch_of (role i)) c.before.instruction6.given.1))
+    (λ c. sym (ap (λ i. branch_of (role i)) c.before.instruction7.given.1))
+    (λ c. sym (ap (λ i. branch_of (role i)) c.before.instruction8.given.1))
+    (λ c. sym (ap (λ i. branch_of (role i)) c.before.instruction9.given.1))
+    (λ c. sym (ap (λ i. branch_of (role i)) c.before.instruction10.given.1))
+    (λ c. sym (ap (λ i. branch_of (role i)) c.before.instruction11.given.1))
+    (λ c. sym (ap (λ i. branch_of (role i)) c.before.instruction12.given.1))
+    (λ c. sym (ap (λ i. branch_of (role i)) c.before.instruction13.given.1)))

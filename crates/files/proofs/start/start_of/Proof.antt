@@ -4,13 +4,13 @@ use native.Mathlib.Omega.{arith}
 use Prim.Native.Nat.{◌-◌}
 use mathlib.Core.Path.{◌≡◌, refl, sym, ◌∙◌}
 use lib.ListN.{length, drop}
-use Rattle.files.specs.Start.{startFrom}
+use Rattle.files.specs.Start.{start_from}
 use Rattle.files.proofs.Digits.{no_digit, some-digit, below, above, large, digit, spelled}
 use Rattle.files.proofs.start.start_of.Statement.{statement}
 use Rattle.files.proofs.start.start_of.Tie as tie
 
 abbrev invariant-loop : tie.invariant-loop
-invariant-loop s n₀ i₀ n i = startFrom n (drop i s) ≡ startFrom 0 s
+invariant-loop s n₀ i₀ n i = start_from n (drop i s) ≡ start_from 0 s
 
 abbrev decreases-loop : tie.decreases-loop
 decreases-loop s n₀ i₀ n i = length s - i

@@ -6,7 +6,7 @@ use lib.Dec.{T}
 use lib.IntN.{ℤ, nat_abs, ◌-ℤ◌}
 use lib.Signed.{mag, non_neg}
 use Rattle.float.specs.Biased.{biased}
-use Rattle.float.proofs.Signed.{Is, is-sub, is-mag, is-abs, is-nonneg, read, is_read, is-handed, range-of}
+use Rattle.float.proofs.Signed.{Is, is_sub, is_mag, is_abs, is_nonneg, read, is_read, is_handed, range_of}
 use Rattle.float.proofs.exponent.gap.Statement.{statement}
 use Rattle.float.proofs.exponent.gap.Tie as tie
 
@@ -15,22 +15,22 @@ module _ (a b : ℤ) (A : mag a < 4096) (B : mag b < 4096) (l : biased b ≤ bia
   diff = read a -ℤ read b
 
   diff_is : Is diff (biased a + 8192) (8192 + biased b)
-  diff_is = is-sub (read a) (read b) (biased a) 8192 (biased b) 8192 (is-handed a (omega arith)) (is-handed b (omega arith))
+  diff_is = is_sub (read a) (read b) (biased a) 8192 (biased b) 8192 (is_handed a (omega arith)) (is_handed b (omega arith))
 
   pub diff-mag : mag diff < 2 ^ 31
-  diff-mag = let p = range-of a 4096 A (omega arith) in is-mag diff (biased a + 8192) (8192 + biased b) (2 ^ 31) diff_is (omega (arith, p.1)) (omega arith)
+  diff-mag = let p = range_of a 4096 A (omega arith) in is_mag diff (biased a + 8192) (8192 + biased b) (2 ^ 31) diff_is (omega (arith, p.1)) (omega arith)
 
   read_is : Is (read diff) (biased a + 8192) (8192 + biased b)
   read_is = is_read diff (biased a + 8192) (8192 + biased b) diff-mag diff_is
 
   pub diff-nonneg : T (non_neg (read diff))
-  diff-nonneg = is-nonneg (read diff) (biased a + 8192) (8192 + biased b) read_is (omega arith)
+  diff-nonneg = is_nonneg (read diff) (biased a + 8192) (8192 + biased b) read_is (omega arith)
 
   pub diff-abs : nat_abs (read diff) ≡ biased a + 8192 - (8192 + biased b)
-  diff-abs = is-abs (read diff) (biased a + 8192) (8192 + biased b) read_is (omega arith)
+  diff-abs = is_abs (read diff) (biased a + 8192) (8192 + biased b) read_is (omega arith)
 
   pub diff-fits : nat_abs (read diff) < 2 ^ 32
-  diff-fits = let p = range-of a 4096 A (omega arith) in omega (arith, diff-abs, p.1)
+  diff-fits = let p = range_of a 4096 A (omega arith) in omega (arith, diff-abs, p.1)
 
   pub result : biased a ≡ biased b + nat_abs (read diff)
   result = omega (arith, diff-abs)

@@ -7,16 +7,16 @@ use lib.IntN.{ℤ, pos, negsuc}
 use lib.Signed.{mag, le_z}
 use borrow.Author.Tests.{le-leb, lt-leb}
 use Rattle.float.specs.Biased.{biased}
-use Rattle.float.proofs.Sums.{leb-agree}
+use Rattle.float.proofs.Sums.{leb_agree}
 use Rattle.float.proofs.Signed.{read_same}
 use Rattle.float.proofs.exponent.not_above.Statement.{statement}
 use Rattle.float.proofs.exponent.not_above.Tie as tie
 
 order : (a b : ℤ) → mag a < 4096 → mag b < 4096 → le_z a b ≡ leb (biased a) (biased b)
-order (pos m) (pos n) A B = leb-agree m n (8192 + m) (8192 + n) (λ (x : m ≤ n). omega arith) (λ (x : n < m). omega arith)
+order (pos m) (pos n) A B = leb_agree m n (8192 + m) (8192 + n) (λ (x : m ≤ n). omega arith) (λ (x : n < m). omega arith)
 order (pos m) (negsuc n) A B = sym (lt-leb (8192 + m) (8191 - n) (omega arith))
 order (negsuc m) (pos n) A B = sym (le-leb (8191 - m) (8192 + n) (omega arith))
-order (negsuc m) (negsuc n) A B = leb-agree n m (8191 - m) (8191 - n) (λ (x : n ≤ m). omega arith) (λ (x : m < n). omega arith)
+order (negsuc m) (negsuc n) A B = leb_agree n m (8191 - m) (8191 - n) (λ (x : n ≤ m). omega arith) (λ (x : m < n). omega arith)
 
 returns : tie.Need-returns
 returns c =

@@ -6,7 +6,7 @@ use lib.Dec.{T}
 use lib.IntN.{ℤ, pos, negsuc, nat_abs, ◌+ℤ◌}
 use lib.Signed.{mag, non_neg, shr_z}
 use Rattle.float.specs.Biased.{biased}
-use Rattle.float.proofs.Signed.{Is, is-biased, is_pos, is-add, is-mag, is-abs, is-nonneg, is-half, read, is_read}
+use Rattle.float.proofs.Signed.{Is, is_biased, is_pos, is_add, is_mag, is_abs, is_nonneg, is-half, read, is_read}
 use Rattle.float.proofs.exponent.root_field.Statement.{statement}
 use Rattle.float.proofs.exponent.root_field.Tie as tie
 
@@ -19,25 +19,25 @@ module _ (e : ℤ) (small : mag e < 1200) where
       go (negsuc n) h = (omega arith, omega arith)
 
   half_is : Is (shr_z (read e) 2) (biased e / 2) 4096
-  half_is = is-half (read e) (biased e) 4096 (is_read e (biased e) 8192 (omega arith) (is-biased e (omega arith)))
+  half_is = is-half (read e) (biased e) 4096 (is_read e (biased e) 8192 (omega arith) (is_biased e (omega arith)))
 
   half-read : Is (read (shr_z (read e) 2)) (biased e / 2) 4096
-  half-read = is_read (shr_z (read e) 2) (biased e / 2) 4096 (is-mag (shr_z (read e) 2) (biased e / 2) 4096 (2 ^ 31) half_is (omega (arith, range.1)) (omega arith)) half_is
+  half-read = is_read (shr_z (read e) 2) (biased e / 2) 4096 (is_mag (shr_z (read e) 2) (biased e / 2) 4096 (2 ^ 31) half_is (omega (arith, range.1)) (omega arith)) half_is
 
   abbrev pub sum : ℤ
   sum = read (shr_z (read e) 2) +ℤ pos 1048
 
   pub sum_is : Is sum (biased e / 2 + 1048) 4096
-  sum_is = is-add (read (shr_z (read e) 2)) (pos 1048) (biased e / 2) 4096 1048 0 half-read (is_pos 1048)
+  sum_is = is_add (read (shr_z (read e) 2)) (pos 1048) (biased e / 2) 4096 1048 0 half-read (is_pos 1048)
 
   pub sum-mag : mag sum < 2 ^ 31
-  sum-mag = is-mag sum (biased e / 2 + 1048) 4096 (2 ^ 31) sum_is (omega (arith, range.1)) (omega arith)
+  sum-mag = is_mag sum (biased e / 2 + 1048) 4096 (2 ^ 31) sum_is (omega (arith, range.1)) (omega arith)
 
   pub sum-abs : nat_abs (read sum) ≡ biased e / 2 - 3048
-  sum-abs = is-abs (read sum) (biased e / 2 + 1048) 4096 (is_read sum (biased e / 2 + 1048) 4096 sum-mag sum_is) (omega (arith, range.0)) ∙ omega arith
+  sum-abs = is_abs (read sum) (biased e / 2 + 1048) 4096 (is_read sum (biased e / 2 + 1048) 4096 sum-mag sum_is) (omega (arith, range.0)) ∙ omega arith
 
   pub sum_nonneg : T (non_neg (read sum))
-  sum_nonneg = is-nonneg (read sum) (biased e / 2 + 1048) 4096 (is_read sum (biased e / 2 + 1048) 4096 sum-mag sum_is) (omega (arith, range.0))
+  sum_nonneg = is_nonneg (read sum) (biased e / 2 + 1048) 4096 (is_read sum (biased e / 2 + 1048) 4096 sum-mag sum_is) (omega (arith, range.0))
 
   pub sum_fits : nat_abs (read sum) < 2 ^ 64
   sum_fits = omega (arith, sum-abs, range.1)

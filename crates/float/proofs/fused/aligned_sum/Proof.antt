@@ -11,8 +11,8 @@ use lib.Ieee.{binary64, to_bits, sum, up, down}
 use Rattle.float.specs.Near.{Near, both, Scaled}
 use Rattle.float.specs.Biased.{biased}
 use Rattle.float.proofs.Signed.{read, same, handed}
-use Rattle.float.proofs.Sticky.{near-lt}
-use Rattle.float.proofs.Alignment.{pow-sum, aligned-scaled}
+use Rattle.float.proofs.Sticky.{near_lt}
+use Rattle.float.proofs.Alignment.{pow_sum, aligned_scaled}
 use Rattle.float.proofs.fused.aligned_sum.Statement.{statement}
 use Rattle.float.proofs.fused.aligned_sum.Tie as tie
 
@@ -21,15 +21,15 @@ upper : (h l : ℕ) → both h l < 2 ^ 127 → h < 2 ^ 63
 upper h l b = lt_of_mul-lt-mul_right (2 ^ 64) (lt_of_le_of_lt (le-add_right (h * 2 ^ 64) l) b)
 
 jammed : (x h l d : ℕ) → x < 2 ^ 127 → Near x (both h l) (2 ^ d) → h < 2 ^ 63
-jammed x h l d b n = upper h l (near-lt x (both h l) (2 ^ d) (2 ^ 126) (pow_pos d) (lt_of_lt_of_le b (mul-le-mul_left (2 * 2 ^ 126) (pow_pos d))) n)
+jammed x h l d b n = upper h l (near_lt x (both h l) (2 ^ d) (2 ^ 126) (pow_pos d) (lt_of_lt_of_le b (mul-le-mul_left (2 * 2 ^ 126) (pow_pos d))) n)
 
 -- b is moved down by d digits
 moved : (s t : Bool) (a b m d : ℕ) (x y : ℤ) → Scaled a → Scaled b → mag x < 4000 → mag y < 4000 → Near b m (2 ^ d) → biased (read x) ≡ biased (read y) + d
     → sum binary64 s (a * up (read x)) t (m * up (read x)) (down (read x)) ≡ sum binary64 s (a * 2 ^ biased x) t (b * 2 ^ biased y) (2 ^ 8192)
 moved s t a b m d x y A B X Y near e =
     ap (λ (z : ℤ). sum binary64 s (a * up z) t (m * up z) (down z)) (same x 4000 X (omega arith))
-    ∙ pow-sum s t a m x (omega (arith, X))
-    ∙ aligned-scaled s t a b m (biased x) (biased y) d A B near (omega (arith, e, ap biased (same x 4000 X (omega arith)), ap biased (same y 4000 Y (omega arith))))
+    ∙ pow_sum s t a m x (omega (arith, X))
+    ∙ aligned_scaled s t a b m (biased x) (biased y) d A B near (omega (arith, e, ap biased (same x 4000 X (omega arith)), ap biased (same y 4000 Y (omega arith))))
 
 pub aligned-sum-spec : {M : Type 1} → statement M
 aligned-sum-spec =

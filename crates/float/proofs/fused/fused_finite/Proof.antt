@@ -9,31 +9,31 @@ use lib.Bits.{bit_xor}
 use lib.Ieee.{Float, binary64, add, is_nan, to_bits}
 use borrow.Author.Rules.{rules}
 use borrow.Author.Tests.{eqb-true, eqb-false}
-use Rattle.float.specs.Word.{value, word, mulAdd}
-use Rattle.float.specs.Fused.{fusedMultiplyAdd}
+use Rattle.float.specs.Word.{value, word, mul_add}
+use Rattle.float.specs.Fused.{fused_multiply_add}
 use Rattle.float.proofs.Marks.{number_word}
-use Rattle.float.proofs.FusedWords.{zero-words, fused-number, unpacked-product, unpacked-sum}
+use Rattle.float.proofs.FusedWords.{zero_words, fused-number, unpacked_product, unpacked_sum}
 use Rattle.float.proofs.fused.fused_finite.Statement.{statement}
 use Rattle.float.proofs.fused.fused_finite.Tie as tie
 
 module _ (s : tie.Start) where
   abbrev fused : Float
-  fused = fusedMultiplyAdd binary64 (value s.args.a) (value s.args.b) (value s.args.c)
+  fused = fused_multiply_add binary64 (value s.args.a) (value s.args.b) (value s.args.c)
 
   is_number : is_nan fused ≡ false
   is_number = fused-number s.args.a s.args.b s.args.c s.pre.0 s.pre.1 s.pre.2
 
   -- a result whose value is the sum
-  by_value : {x : Float} {r : ℕ} → r ≡ to_bits binary64 x → fused ≡ x → r ≡ mulAdd s.args.a s.args.b s.args.c
+  by_value : {x : Float} {r : ℕ} → r ≡ to_bits binary64 x → fused ≡ x → r ≡ mul_add s.args.a s.args.b s.args.c
   by_value e same = e ∙ sym (ap (to_bits binary64) same) ∙ number_word (s.args.a ∷ s.args.b ∷ s.args.c ∷ []) fused is_number
 
   -- it is no NaN, whatever its operands were
-  by_word : (a b : ℕ) {x : Float} {r : ℕ} → r ≡ word (a ∷ b ∷ []) x → fused ≡ x → r ≡ mulAdd s.args.a s.args.b s.args.c
+  by_word : (a b : ℕ) {x : Float} {r : ℕ} → r ≡ word (a ∷ b ∷ []) x → fused ≡ x → r ≡ mul_add s.args.a s.args.b s.args.c
   by_word a b {x} e same = by_value (e ∙ sym (number_word (a ∷ b ∷ []) x (ap is_nan (sym same) ∙ is_number))) same
 
 -- a or b is zero
-either : (j : tie.Joined1) → (j.before.before.args.a % 2 ^ 63 ≡ 0) ⊎ (j.before.before.args.b % 2 ^ 63 ≡ 0)
-either j = elim j.if1.branch [
+Either : (j : tie.Joined1) → (j.before.before.args.a % 2 ^ 63 ≡ 0) ⊎ (j.before.before.args.b % 2 ^ 63 ≡ 0)
+Either j = elim j.if1.branch [
   | inl y ↦ inl (sym j.before.abs.ensures ∙ y.taken)
   | inr z ↦ inr (sym z.1.ensures ∙ eqb-true z.1.result 0 z.2.taken)
 ]
@@ -54,7 +54,7 @@ fused-finite-spec =
     let a = s.args in
     let x = c.before.xor in
     by_word s x.result a.c c.plus.ensures
-    (sym (zero-words a.a a.b a.c x.result s.ranges.a.fits s.ranges.b.fits s.requires.0 s.requires.1 s.requires.2 (either j)
+    (sym (zero_words a.a a.b a.c x.result s.ranges.a.fits s.ranges.b.fits s.requires.0 s.requires.1 s.requires.2 (Either j)
     (x.ensures ∙ ap₂ bit_xor c.before.before.before.sign.ensures c.before.before.sign2.ensures))))
     (λ c κs. search rules)
     (λ c κs.
@@ -69,7 +69,7 @@ fused-finite-spec =
     let u = t.before.before.before.unpack in
     let v = t.before.before.unpack2 in
     by_value s c.rounded-product.ensures
-    (unpacked-product a.a a.b a.c u.result.neg v.result.neg u.result.m v.result.m u.result.e v.result.e u.ensures v.ensures (sym t.before.abs3.ensures ∙ t.if3.true)))
+    (unpacked_product a.a a.b a.c u.result.neg v.result.neg u.result.m v.result.m u.result.e v.result.e u.ensures v.ensures (sym t.before.abs3.ensures ∙ t.if3.true)))
     (λ c κs. search rules)
     (λ c κs. search rules)
     (λ c.
@@ -79,4 +79,4 @@ fused-finite-spec =
     let v = c.before.before.before.before.unpack2 in
     let w = c.before.unpack3 in
     by_value s c.fused-parts.ensures
-    (unpacked-sum a.a a.b a.c u.result.neg v.result.neg w.result.neg u.result.m v.result.m w.result.m u.result.e v.result.e w.result.e u.ensures v.ensures w.ensures)))
+    (unpacked_sum a.a a.b a.c u.result.neg v.result.neg w.result.neg u.result.m v.result.m w.result.m u.result.e v.result.e w.result.e u.ensures v.ensures w.ensures)))

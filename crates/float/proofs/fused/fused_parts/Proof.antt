@@ -10,9 +10,9 @@ use borrow.Author.Rules.{rules}
 use borrow.Author.Tests.{leb-true, leb-false}
 use Rattle.float.specs.Near.{both, Scaled}
 use Rattle.float.specs.Biased.{biased}
-use Rattle.float.proofs.Signed.{read, same, handed, mag_of, range-of}
+use Rattle.float.proofs.Signed.{read, same, handed, mag_of, range_of}
 use Rattle.float.proofs.FusedSum.{sum_comm}
-use Rattle.float.proofs.Alignment.{product-scaled, addend-scaled, fused-sum}
+use Rattle.float.proofs.Alignment.{product-scaled, addend_scaled, fused-sum}
 use Rattle.float.proofs.fused.fused_parts.Statement.{statement}
 use Rattle.float.proofs.fused.fused_parts.Tie as tie
 
@@ -40,7 +40,7 @@ module _ (l : tie.After-sum) where
 
   ez-mag : mag ez < 4000
   ez-mag =
-      let r = range-of start.args.z.e 1200 start.pre.2.small (omega arith) in
+      let r = range_of start.args.z.e 1200 start.pre.2.small (omega arith) in
       mag_of ez 4000 (omega arith) (omega (arith, ez-is, r.0)) (omega (arith, ez-is, r.1))
 
   ep-read : biased (read ep) ≡ biased ep
@@ -59,9 +59,9 @@ module _ (l : tie.After-sum) where
   p-scaled = rw p-is (product-scaled start.args.x.m start.args.y.m start.args.x.e start.args.y.e start.pre.0 start.pre.1)
 
   z-scaled : Scaled (both (start.args.z.m * 512) 0)
-  z-scaled = addend-scaled start.args.z.m start.args.z.e start.pre.2
+  z-scaled = addend_scaled start.args.z.m start.args.z.e start.pre.2
 
-  -- the contract's sum, from that of the two in either order
+  -- the contract's sum, from that of the two in Either order
   by_parts : (s t : Bool) {r : ℕ} → r ≡ to_bits binary64 (sum binary64 s (p * 2 ^ biased (read ep)) t (both (start.args.z.m * 512) 0 * 2 ^ biased (read ez)) (2 ^ 8192))
       → r ≡ to_bits binary64 (sum binary64 s (start.args.x.m * start.args.y.m * 2 ^ (biased start.args.x.e + biased start.args.y.e)) t (start.args.z.m * 2 ^ (biased start.args.z.e + 8192)) (2 ^ 16384))
   by_parts s t e =

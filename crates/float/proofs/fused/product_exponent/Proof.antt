@@ -5,7 +5,7 @@ use native.Mathlib.Omega.{arith}
 use lib.IntN.{ℤ, negsuc}
 use lib.Signed.{mag}
 use Rattle.float.specs.Biased.{biased}
-use Rattle.float.proofs.Signed.{read, same, handed, range-of, mag_of}
+use Rattle.float.proofs.Signed.{read, same, handed, range_of, mag_of}
 use Rattle.float.proofs.fused.product_exponent.Statement.{statement}
 use Rattle.float.proofs.fused.product_exponent.Tie as tie
 
@@ -22,14 +22,14 @@ module _ (c : tie.After-sum) where
 
   pub total-mag : mag c.sum.result < 3000
   total-mag =
-      let p = range-of a 1200 c.before.requires.0 (omega arith) in
-      let q = range-of b 1200 c.before.requires.1 (omega arith) in
+      let p = range_of a 1200 c.before.requires.0 (omega arith) in
+      let q = range_of b 1200 c.before.requires.1 (omega arith) in
       mag_of c.sum.result 3000 (omega arith) (omega (arith, total, p.0, q.0)) (omega (arith, total, p.1, q.1))
 
   pub less : (r : ℤ) → (biased r + 8192 ≡ biased (read c.sum.result) + biased (negsuc 20)) × (mag r < 8192) → (biased r + 8213 ≡ biased a + biased b) × (mag r < 4000)
   less r h =
       let e : biased r + 21 ≡ biased c.sum.result = omega (arith, h.0, ap biased (same c.sum.result 3000 total-mag (omega arith))) in
-      let n = range-of c.sum.result 3000 total-mag (omega arith) in
+      let n = range_of c.sum.result 3000 total-mag (omega arith) in
       (omega (arith, e, total), mag_of r 4000 (omega arith) (omega (arith, e, n.0)) (omega (arith, e, n.1)))
 
 sum-requires : tie.Need-sum-requires

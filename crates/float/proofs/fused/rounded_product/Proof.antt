@@ -13,8 +13,8 @@ use borrow.Author.Rules.{rules}
 use Rattle.float.specs.Near.{both}
 use Rattle.float.specs.Biased.{biased}
 use Rattle.float.specs.Unpacked.{Normalized}
-use Rattle.float.proofs.Signed.{read, same, handed, range-of, mag_of, is-biased}
-use Rattle.float.proofs.RoundWord.{round-pow, shifts}
+use Rattle.float.proofs.Signed.{read, same, handed, range_of, mag_of, is_biased}
+use Rattle.float.proofs.RoundWord.{round_pow, shifts}
 use Rattle.float.proofs.fused.rounded_product.Statement.{statement}
 use Rattle.float.proofs.fused.rounded_product.Tie as tie
 
@@ -25,8 +25,8 @@ module _ (m n : ℕ) (x y g : ℤ) (X : Normalized m x) (Y : Normalized n y) (is
 
   pub sum-mag : mag g < 4000
   sum-mag =
-      let a = range-of x 1200 X.small (omega arith) in
-      let b = range-of y 1200 Y.small (omega arith) in
+      let a = range_of x 1200 X.small (omega arith) in
+      let b = range_of y 1200 Y.small (omega arith) in
       mag_of g 4000 (omega arith) (omega (arith, sum_is, a.0, b.0)) (omega (arith, sum_is, a.1, b.1))
 
   pub positive : 0 < m * n
@@ -36,7 +36,7 @@ module _ (m n : ℕ) (x y g : ℤ) (X : Normalized m x) (Y : Normalized n y) (is
   rounded s p e =
       let v = m * n in
       ap₂ (λ (z : ℤ) (k : ℕ). round binary64 s (k * up z) (down z)) (same g 4000 sum-mag (omega arith)) e
-      ∙ round-pow s v g (biased g) 8192 (is-biased g (omega (arith, sum-mag)))
+      ∙ round_pow s v g (biased g) 8192 (is_biased g (omega (arith, sum-mag)))
       ∙ round_same binary64 s (v * 2 ^ biased g) (2 ^ 8192) (v * 2 ^ (biased x + biased y)) (2 ^ 16384) (pow_pos 8192) (pow_pos 16384)
       (shifts v (biased g) 16384 ∙ ap (λ (i : ℕ). v * 2 ^ i) {x = biased g + 16384} {y = biased x + biased y + 8192} (omega (arith, sum_is)) ∙ sym (shifts v (biased x + biased y) 8192))
 

@@ -6,17 +6,17 @@ use native.Mathlib.Omega.{arith}
 use lib.Dec.{lit<}
 use lib.Ieee.Nearest.{closest}
 use borrow.Author.Rules.{rules}
-use Rattle.float.proofs.Closest.{closest-exact, closest-none}
+use Rattle.float.proofs.Closest.{closest_exact, closest_none}
 use Rattle.float.proofs.integral.nearest_whole.Statement.{statement}
 use Rattle.float.proofs.integral.nearest_whole.Tie as tie
 
 returns : tie.Need-returns
 returns c =
     let m = c.before.args.m in
-    sym (ap (λ (t : ℕ). closest m (2 ^ t)) c.if1.true ∙ ap (λ (x : ℕ). closest x 1) (sym (mul-one m)) ∙ closest-exact m 1 (lit< tt))
+    sym (ap (λ (t : ℕ). closest m (2 ^ t)) c.if1.true ∙ ap (λ (x : ℕ). closest x 1) (sym (mul-one m)) ∙ closest_exact m 1 (lit< tt))
 
 returns-2 : tie.Need-returns-2
-returns-2 c = let s = c.before.before in sym (closest-none s.args.m s.args.t (omega (arith, s.requires)) c.if2.true)
+returns-2 c = let s = c.before.before in sym (closest_none s.args.m s.args.t (omega (arith, s.requires)) c.if2.true)
 
 nearest-requires : tie.Need-nearest-requires
 nearest-requires c κs = search rules

@@ -12,8 +12,8 @@ use Rattle.float.specs.Integral.{whole}
 use Rattle.float.specs.declared.integral.Direction.{Direction}
 use Rattle.float.specs.Unpacked.{Unpacked}
 use Rattle.float.specs.Biased.{biased}
-use Rattle.float.proofs.ToIntegral.{small_word, whole-most, number-rounded}
-use Rattle.float.proofs.Signed.{Is, is-biased, is-shift, read, read_same}
+use Rattle.float.proofs.ToIntegral.{small_word, whole_most, number_rounded}
+use Rattle.float.proofs.Signed.{Is, is_biased, is_shift, read, read_same}
 use Rattle.float.proofs.integral.round_small.Statement.{statement}
 use Rattle.float.proofs.integral.round_small.Tie as tie
 
@@ -28,10 +28,10 @@ module _ (a : ℕ) (neg : Bool) (m : ℕ) (e : ℤ) (t : Unpacked a neg m e) (lo
   point k k-is =
       let h = t.small in
       let is : k ≡ 8192 - biased e = k-is ∙ ap (λ (z : ℤ). 8192 - biased z) same in
-      is-shift e (biased e) 8192 0 k (is-biased e (omega (arith, h))) (omega (arith, under, is))
+      is_shift e (biased e) 8192 0 k (is_biased e (omega (arith, h))) (omega (arith, under, is))
 
   pub whole_le : (d : Direction) (k : ℕ) → whole d neg m (2 ^ k) ≤ 2 ^ 53
-  whole_le d k = let h = t.hi in omega (arith, h, whole-most d neg m (2 ^ k), div-le_self m (2 ^ k))
+  whole_le d k = let h = t.hi in omega (arith, h, whole_most d neg m (2 ^ k), div-le_self m (2 ^ k))
 
 unpack-requires : tie.Need-unpack-requires
 unpack-requires c κs = search rules
@@ -64,7 +64,7 @@ returns c =
     ∙ ap (λ (n : ℕ). to_bits binary64 (round binary64 p.neg n 1)) c.before.whole.ensures
     ∙ sym (ap (to_bits binary64) (small_word s.args.d s.args.a p.neg p.m p.e k.result u.ensures.value
     (point s.args.a p.neg p.m p.e u.ensures s.requires.1 k.result k.ensures)))
-    ∙ number-rounded s.args.d s.args.a (let h = s.requires.1 in omega (arith, h))
+    ∙ number_rounded s.args.d s.args.a (let h = s.requires.1 in omega (arith, h))
 
 pub round-small-spec : {M : Type 1} → statement M
 round-small-spec =

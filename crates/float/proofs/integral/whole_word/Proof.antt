@@ -15,7 +15,7 @@ use lib.Ieee.Fits.{down_pos}
 use lib.Ieee.Scale.{round_same}
 use borrow.Author.Rules.{rules}
 use Rattle.float.proofs.Fields.{lifted}
-use Rattle.float.proofs.Signed.{Is, is_pos, is-sub, is-shift, is-mag, is-pow, read, is_read}
+use Rattle.float.proofs.Signed.{Is, is_pos, is_sub, is_shift, is_mag, is_pow, read, is_read}
 use Rattle.float.proofs.integral.whole_word.Statement.{statement}
 use Rattle.float.proofs.integral.whole_word.Tie as tie
 
@@ -51,11 +51,11 @@ module _ (n : ℕ) (p : 0 < n) (h : n ≤ 2 ^ 53) where
 
   pub exponent-is : Is exponent 0 shift
   exponent-is =
-      is-shift exponent (0 + 0) (0 + shift) 0 shift
-      (is-sub (pos 0) (to_z w32 shift) 0 0 shift 0 (is_pos 0) (is_read (pos shift) shift 0 (omega (arith, shift_le)) (is_pos shift))) (omega arith)
+      is_shift exponent (0 + 0) (0 + shift) 0 shift
+      (is_sub (pos 0) (to_z w32 shift) 0 0 shift 0 (is_pos 0) (is_read (pos shift) shift 0 (omega (arith, shift_le)) (is_pos shift))) (omega arith)
 
   pub exponent-mag : mag exponent < 8192
-  exponent-mag = is-mag exponent 0 shift 8192 exponent-is (omega arith) (omega (arith, shift_le))
+  exponent-mag = is_mag exponent 0 shift 8192 exponent-is (omega arith) (omega (arith, shift_le))
 
   pub read_is : Is (read exponent) 0 shift
   read_is = is_read exponent 0 shift (omega (arith, exponent-mag)) exponent-is
@@ -67,7 +67,7 @@ module _ (n : ℕ) (p : 0 < n) (h : n ≤ 2 ^ 53) where
       (mul-one (n * 2 ^ shift % 2 ^ 64 * up z)
       ∙ ap (λ (x : ℕ). x * up z) word-is
       ∙ mul_assoc n (2 ^ shift) (up z)
-      ∙ ap (λ (x : ℕ). n * x) (mul_comm (2 ^ shift) (up z) ∙ is-pow z 0 shift read_is ∙ one-mul (down z)))
+      ∙ ap (λ (x : ℕ). n * x) (mul_comm (2 ^ shift) (up z) ∙ is_pow z 0 shift read_is ∙ one-mul (down z)))
 
 sign-bit-requires : tie.Need-sign-bit-requires
 sign-bit-requires c κs = search rules
@@ -100,7 +100,7 @@ pack-requires c κs =
     let s = c.before in
     let n = s.args.n in
     let p = some n c.if1.false in
-    (word-lo n p s.requires, word-hi n p s.requires, is-mag (read (exponent n p s.requires)) 0 (shift n p s.requires) 8192 (read_is n p s.requires) (omega arith) (omega (arith, shift_le n p s.requires)))
+    (word-lo n p s.requires, word-hi n p s.requires, is_mag (read (exponent n p s.requires)) 0 (shift n p s.requires) 8192 (read_is n p s.requires) (omega arith) (omega (arith, shift_le n p s.requires)))
 
 returns-2 : tie.Need-returns-2
 returns-2 c =

@@ -7,7 +7,7 @@ use native.Mathlib.Numerals.{add-one}
 use native.Mathlib.Omega.{arith}
 use lib.Pow.{pow_pos}
 use borrow.Author.Rules.{rules}
-use Rattle.float.proofs.Closest.{closest-by}
+use Rattle.float.proofs.Closest.{closest_by}
 use Rattle.float.proofs.pack.nearest.Statement.{statement}
 use Rattle.float.proofs.pack.nearest.Tie as tie
 
@@ -42,7 +42,7 @@ returns c =
     let r = c.before.low-digits.ensures in
     let u = c.before.before.pow2.ensures in
     let h : a.w % 2 ^ a.t * 2 < 2 ^ a.t = omega (arith, r, u, c.if1.true) in
-    sym (closest-by Ordering.lt a.w (2 ^ a.t) h)
+    sym (closest_by Ordering.lt a.w (2 ^ a.t) h)
 
 returns-2 : tie.Need-returns-2
 returns-2 c =
@@ -50,7 +50,7 @@ returns-2 c =
     let r = c.before.before.low-digits.ensures in
     let u = c.before.before.before.pow2.ensures in
     let h : 2 ^ a.t < a.w % 2 ^ a.t * 2 = omega (arith, r, u, c.if2.true) in
-    add-one (a.w / 2 ^ a.t) ∙ sym (closest-by Ordering.gt a.w (2 ^ a.t) h)
+    add-one (a.w / 2 ^ a.t) ∙ sym (closest_by Ordering.gt a.w (2 ^ a.t) h)
 
 returns-3 : tie.Need-returns-3
 returns-3 c =
@@ -58,7 +58,7 @@ returns-3 c =
     let r = c.before.before.low-digits.ensures in
     let u = c.before.before.before.pow2.ensures in
     let h : a.w % 2 ^ a.t * 2 ≡ 2 ^ a.t = omega (arith, r, u, below c.before.before, c.if2.false, c.before.if1.false) in
-    sym (closest-by Ordering.eq a.w (2 ^ a.t) h)
+    sym (closest_by Ordering.eq a.w (2 ^ a.t) h)
 
 pub nearest-spec : {M : Type 1} → statement M
 nearest-spec =

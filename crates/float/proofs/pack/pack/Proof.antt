@@ -13,8 +13,8 @@ use lib.Ieee.Nearest.{closest}
 use borrow.Author.Rules.{rules}
 use Rattle.float.specs.Biased.{biased}
 use Rattle.float.proofs.RoundBits.{signed, infinite}
-use Rattle.float.proofs.RoundWord.{round-word, round-pow, too_large, too_small, subnormal, normal, kept-le}
-use Rattle.float.proofs.Signed.{Is, is-biased, is_pos, is-add, is-sub, is-shift, is-mag, is_lt, is_ge, is-nonneg, is-abs, read, is_read}
+use Rattle.float.proofs.RoundWord.{round-word, round_pow, too_large, too_small, subnormal, normal, kept-le}
+use Rattle.float.proofs.Signed.{Is, is_biased, is_pos, is_add, is_sub, is_shift, is_mag, is_lt, is_ge, is_nonneg, is_abs, read, is_read}
 use Rattle.float.proofs.pack.pack.Statement.{statement}
 use Rattle.float.proofs.pack.pack.Tie as tie
 
@@ -24,20 +24,20 @@ sign_le false = lit≤ tt
 
 module _ (e : ℤ) (small : mag e < 8192) where
   pub here : Is (read e) (biased e) 8192
-  here = is_read e (biased e) 8192 (omega arith) (is-biased e small)
+  here = is_read e (biased e) 8192 (omega arith) (is_biased e small)
 
   -- -1074 - e, and e + 1084
   abbrev pub gap : ℤ
   gap = negsuc 1073 -ℤ read e
 
   pub gap_is : Is gap 8192 (1074 + biased e)
-  gap_is = is-sub (negsuc 1073) (read e) 0 1074 (biased e) 8192 refl here
+  gap_is = is_sub (negsuc 1073) (read e) 0 1074 (biased e) 8192 refl here
 
   abbrev pub rise : ℤ
   rise = read e +ℤ pos 1084
 
   pub rise-is : Is rise (biased e + 1084) 8192
-  rise-is = is-shift rise (biased e + 1084) (8192 + 0) (biased e + 1084) 8192 (is-add (read e) (pos 1084) (biased e) 8192 1084 0 here (is_pos 1084)) (omega arith)
+  rise-is = is_shift rise (biased e + 1084) (8192 + 0) (biased e + 1084) 8192 (is_add (read e) (pos 1084) (biased e) 8192 1084 0 here (is_pos 1084)) (omega arith)
 
   bound : biased e < 16384
   bound = go e small
@@ -47,22 +47,22 @@ module _ (e : ℤ) (small : mag e < 8192) where
       go (negsuc n) h = omega arith
 
   pub gap-mag : mag gap < 2 ^ 31
-  gap-mag = is-mag gap 8192 (1074 + biased e) (2 ^ 31) gap_is (omega arith) (omega (arith, bound))
+  gap-mag = is_mag gap 8192 (1074 + biased e) (2 ^ 31) gap_is (omega arith) (omega (arith, bound))
 
   pub rise-mag : mag rise < 2 ^ 31
-  rise-mag = is-mag rise (biased e + 1084) 8192 (2 ^ 31) rise-is (omega (arith, bound)) (omega arith)
+  rise-mag = is_mag rise (biased e + 1084) 8192 (2 ^ 31) rise-is (omega (arith, bound)) (omega arith)
 
   pub gap-abs : biased e ≤ 7118 → nat_abs (read gap) ≡ 7118 - biased e
-  gap-abs h = is-abs (read gap) 8192 (1074 + biased e) (is_read gap 8192 (1074 + biased e) gap-mag gap_is) (omega arith) ∙ (omega arith)
+  gap-abs h = is_abs (read gap) 8192 (1074 + biased e) (is_read gap 8192 (1074 + biased e) gap-mag gap_is) (omega arith) ∙ (omega arith)
 
   pub rise-abs : 7108 ≤ biased e → nat_abs (read rise) ≡ biased e - 7108
-  rise-abs h = is-abs (read rise) (biased e + 1084) 8192 (is_read rise (biased e + 1084) 8192 rise-mag rise-is) (omega arith) ∙ (omega arith)
+  rise-abs h = is_abs (read rise) (biased e + 1084) 8192 (is_read rise (biased e + 1084) 8192 rise-mag rise-is) (omega arith) ∙ (omega arith)
 
   pub gap-nonneg : biased e ≤ 7118 → T (non_neg (read gap))
-  gap-nonneg h = is-nonneg (read gap) 8192 (1074 + biased e) (is_read gap 8192 (1074 + biased e) gap-mag gap_is) (omega arith)
+  gap-nonneg h = is_nonneg (read gap) 8192 (1074 + biased e) (is_read gap 8192 (1074 + biased e) gap-mag gap_is) (omega arith)
 
   pub rise-nonneg : 7108 ≤ biased e → T (non_neg (read rise))
-  rise-nonneg h = is-nonneg (read rise) (biased e + 1084) 8192 (is_read rise (biased e + 1084) 8192 rise-mag rise-is) (omega arith)
+  rise-nonneg h = is_nonneg (read rise) (biased e + 1084) 8192 (is_read rise (biased e + 1084) 8192 rise-mag rise-is) (omega arith)
 
   -- the tests
   pub large : lt_z (pos 961) (read e) ≡ true → 9153 < biased e
@@ -86,7 +86,7 @@ module _ (e : ℤ) (small : mag e < 8192) where
 -- the contract's word
 word : (neg : Bool) (w : ℕ) (e : ℤ) → 2 ^ 62 ≤ w → w < 2 ^ 63 → mag e < 8192
     → to_bits binary64 (round binary64 neg (w * up e) (down e)) ≡ signed neg (min ((biased e + 1084 - 8192) * 2 ^ 52 + closest w (2 ^ (10 + (8192 - (biased e + 1084))))) infinite)
-word neg w e lo hi small = ap (to_bits binary64) (round-pow neg w e (biased e) 8192 (is-biased e small)) ∙ round-word w (biased e) 8192 lo hi neg
+word neg w e lo hi small = ap (to_bits binary64) (round_pow neg w e (biased e) 8192 (is_biased e small)) ∙ round-word w (biased e) 8192 lo hi neg
 
 sign-bit-requires : tie.Need-sign-bit-requires
 sign-bit-requires c κs = search rules

@@ -11,8 +11,8 @@ use lib.Bits.{bit_and, and_mask}
 use mir.Syntax.{w32}
 use mir.Val.{to_z}
 use Rattle.float.specs.Unpacked.{Unpacked}
-use Rattle.float.proofs.Signed.{Is, is_pos, is-sub, is-shift, is-mag, read, is_read}
-use Rattle.float.proofs.Fields.{unpacked-sub, unpacked-normal, lifted, together}
+use Rattle.float.proofs.Signed.{Is, is_pos, is_sub, is_shift, is_mag, read, is_read}
+use Rattle.float.proofs.Fields.{unpacked_sub, unpacked_normal, lifted, together}
 use Rattle.float.proofs.parts.unpack.Statement.{statement}
 use Rattle.float.proofs.parts.unpack.Tie as tie
 
@@ -52,11 +52,11 @@ module _ (a : ℕ) (fine : Fine a) (z0 : expo a ≡ 0) where
   exponent-is =
       let u = up_by in
       let s = shift_is in
-      is-shift exponent 0 (1074 + shift) 0 (1074 + shift)
-      (is-sub (negsuc 1073) (to_z w32 shift) 0 1074 shift 0 refl (is_read (pos shift) shift 0 (omega (arith, u.2, s)) (is_pos shift))) refl
+      is_shift exponent 0 (1074 + shift) 0 (1074 + shift)
+      (is_sub (negsuc 1073) (to_z w32 shift) 0 1074 shift 0 refl (is_read (pos shift) shift 0 (omega (arith, u.2, s)) (is_pos shift))) refl
 
   pub exponent-mag : mag exponent < 2 ^ 31
-  exponent-mag = let u = up_by in let s = shift_is in is-mag exponent 0 (1074 + shift) (2 ^ 31) exponent-is (omega arith) (omega (arith, u.2, s))
+  exponent-mag = let u = up_by in let s = shift_is in is_mag exponent 0 (1074 + shift) (2 ^ 31) exponent-is (omega arith) (omega (arith, u.2, s))
 
   pub sub-result : Unpacked a (leb (2 ^ 63) a) (frac a * 2 ^ shift % 2 ^ 64) (read exponent)
   sub-result =
@@ -67,7 +67,7 @@ module _ (a : ℕ) (fine : Fine a) (z0 : expo a ≡ 0) where
       let hi : frac a * 2 ^ shift < 2 ^ 53 = subst (λ (x : ℕ). frac a * 2 ^ x < 2 ^ 53) (sym s) u.4 in
       let m : frac a * 2 ^ shift % 2 ^ 64 ≡ a % 2 ^ 52 * 2 ^ shift = mod-eq_of_lt (omega (arith, hi)) ∙ ap (λ (x : ℕ). x * 2 ^ shift) f in
       subst (λ (x : ℕ). Unpacked a (leb (2 ^ 63) a) x (read exponent)) (sym m)
-      (unpacked-sub a shift (read exponent) (sym (expo-is a) ∙ z0) (omega (arith, u.2, s))
+      (unpacked_sub a shift (read exponent) (sym (expo-is a) ∙ z0) (omega (arith, u.2, s))
       (subst (λ (x : ℕ). 2 ^ 52 ≤ x * 2 ^ shift) f lo) (subst (λ (x : ℕ). x * 2 ^ shift < 2 ^ 53) f hi)
       (is_read exponent 0 (1074 + shift) exponent-mag exponent-is))
 
@@ -98,18 +98,18 @@ module _ (a : ℕ) where
 
   pub power-is : Is power (expo a) 1075
   power-is =
-      is-shift power (expo a + 0) (0 + 1075) (expo a) 1075
-      (is-sub (to_z w32 (expo a)) (pos 1075) (expo a) 0 1075 0 (is_read (pos (expo a)) (expo a) 0 (omega (arith, expo-lt)) (is_pos (expo a))) (is_pos 1075)) (omega arith)
+      is_shift power (expo a + 0) (0 + 1075) (expo a) 1075
+      (is_sub (to_z w32 (expo a)) (pos 1075) (expo a) 0 1075 0 (is_read (pos (expo a)) (expo a) 0 (omega (arith, expo-lt)) (is_pos (expo a))) (is_pos 1075)) (omega arith)
 
   pub power-mag : mag power < 2 ^ 31
-  power-mag = is-mag power (expo a) 1075 (2 ^ 31) power-is (omega (arith, expo-lt)) (omega arith)
+  power-mag = is_mag power (expo a) 1075 (2 ^ 31) power-is (omega (arith, expo-lt)) (omega arith)
 
   pub normal-result : (x : ℕ) → expo a ≡ x → Fine a → (expo a ≡ 0 → ⊥) → Unpacked a (leb (2 ^ 63) a) (frac a + 2 ^ 52) (read power)
   normal-result zero e fine n = absurd (n e)
   normal-result (suc x) e fine n =
       let h : a / 2 ^ 52 % 2 ^ 11 ≡ suc x = sym (expo-is a) ∙ e in
       subst (λ (y : ℕ). Unpacked a (leb (2 ^ 63) a) (y + 2 ^ 52) (read power)) (sym (frac-is a))
-      (unpacked-normal a x (read power) h (omega (arith, fine.1, together a, h))
+      (unpacked_normal a x (read power) h (omega (arith, fine.1, together a, h))
       (is_read power (suc x) 1075 power-mag (subst (λ (y : ℕ). Is power y 1075) e power-is)))
 
 cast-t15 : tie.Need-overflow-cast-t15

@@ -2,7 +2,7 @@
 use native.Mathlib.Omega.{arith}
 use Prim.Native.Nat.{◌*◌, ◌%◌, ◌^◌}
 use borrow.Author.Rules.{rules}
-use Rattle.float.proofs.Heron.{Divided, divided, long, long-is, Close, close}
+use Rattle.float.proofs.Heron.{Divided, divided, long, long_is, Close, close}
 use Rattle.float.proofs.sqrt.lengthen.Statement.{statement}
 use Rattle.float.proofs.sqrt.lengthen.Tie as tie
 
@@ -17,7 +17,7 @@ returns : tie.Need-returns
 returns c =
     let s = c.before in
     let l = near c in
-    (long-is s.args.m s.args.w (omega (arith, s.requires.1)), l.0, l.1, omega (arith, l.2, by s, s.requires.1), omega (arith, by s), search rules)
+    (long_is s.args.m s.args.w (omega (arith, s.requires.1)), l.0, l.1, omega (arith, l.2, by s, s.requires.1), omega (arith, by s), search rules)
 
 pub lengthen-spec : {M : Type 1} → statement M
 lengthen-spec =

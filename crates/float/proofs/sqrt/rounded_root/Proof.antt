@@ -8,7 +8,7 @@ use borrow.Author.Tests.{le-leb, lt-leb}
 use lib.Dec.{leb}
 use Rattle.float.specs.Mends.{rounded}
 use Rattle.float.proofs.SquareRoot.{root-lt}
-use Rattle.float.proofs.ByMends.{rounded-is}
+use Rattle.float.proofs.ByMends.{rounded_is}
 use Rattle.float.proofs.sqrt.rounded_root.Statement.{statement}
 use Rattle.float.proofs.sqrt.rounded_root.Tie as tie
 
@@ -29,7 +29,7 @@ module _ (c : tie.After-whole-root) where
       root-lt (m * 2 ^ 52) q (2 ^ 53) (omega (arith, e.3), omega (arith, e.3, e.4)) (omega (arith, c.before.requires.1))
 
   result : cond (leb r q) q (q + 1) ≡ rounded m
-  result = rounded-is m q r c.whole-root.ensures.0 c.whole-root.ensures.3
+  result = rounded_is m q r c.whole-root.ensures.0 c.whole-root.ensures.3
 
 returns : tie.Need-returns
 returns c =

@@ -4,7 +4,7 @@ use Prim.Native.Nat.{ℕ, ◌+◌, ◌-◌, ◌*◌, ◌^◌, ◌≤◌}
 use native.Mathlib.Omega.{arith}
 use borrow.Author.Rules.{rules}
 use Rattle.float.specs.Mends.{middle, above, mended}
-use Rattle.float.proofs.Heron.{Near, once, twice, thrice, near-once, near-twice, near-thrice, above-is, eight-mends}
+use Rattle.float.proofs.Heron.{Near, once, twice, thrice, near-once, near-twice, near-thrice, above_is, eight-mends}
 use Rattle.float.proofs.sqrt.whole_root.Statement.{statement}
 use Rattle.float.proofs.sqrt.whole_root.Tie as tie
 
@@ -54,7 +54,7 @@ returns c =
     let e = l.lengthen.ensures in
     let t = c.last-mend.ensures in
     let q-is : q ≡ middle (m * 2 ^ 52) (thrice m * 2 ^ 26) = e.0 ∙ ap (λ (w : ℕ). middle (m * 2 ^ 52) (w * 2 ^ 26)) (third l.before) in
-    let unit = above-is (m * 2 ^ 52) q l.lengthen.result.under l.lengthen.result.over e.1 in
+    let unit = above_is (m * 2 ^ 52) q l.lengthen.result.under l.lengthen.result.over e.1 in
     let four : l.lengthen.result.mends ≡ 4 = omega (arith, e.5, three l.before) in
     let mends : c.last-mend.result.mends ≡ (mended m).mends = t.3 ∙ ap₂ (λ (k j : ℕ). k + j) four (unit ∙ ap (above (m * 2 ^ 52)) q-is) in (
       t.0 ∙ ap (λ (k : ℕ). q - k) unit ∙ ap (λ (x : ℕ). x - above (m * 2 ^ 52) x) q-is,

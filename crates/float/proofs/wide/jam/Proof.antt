@@ -5,7 +5,7 @@ use native.Mathlib.Nat.{div-le_self}
 use native.Mathlib.Omega.{arith}
 use lib.Pow.{pow_pos}
 use borrow.Author.Rules.{rules}
-use Rattle.float.proofs.Sticky.{jam-near, cut-near}
+use Rattle.float.proofs.Sticky.{jam_near, cut_near}
 use Rattle.float.proofs.wide.jam.Statement.{statement}
 use Rattle.float.proofs.wide.jam.Tie as tie
 
@@ -26,12 +26,12 @@ add-result c =
 returns : tie.Need-returns
 returns c =
     let a = c.before.before.args in
-    cut-near a.w (2 ^ a.d) (sym c.before.low-digits.ensures ∙ c.if1.true)
+    cut_near a.w (2 ^ a.d) (sym c.before.low-digits.ensures ∙ c.if1.true)
 
 returns-2 : tie.Need-returns-2
 returns-2 c =
     let a = c.before.before.args in
-    jam-near a.w (2 ^ a.d) (pow_pos a.d) (λ (e : a.w % 2 ^ a.d ≡ 0). c.if1.false (c.before.low-digits.ensures ∙ e))
+    jam_near a.w (2 ^ a.d) (pow_pos a.d) (λ (e : a.w % 2 ^ a.d ≡ 0). c.if1.false (c.before.low-digits.ensures ∙ e))
 
 pub jam-spec : {M : Type 1} → statement M
 jam-spec = tie.close (tie.spec shr-q low-digits-requires sub-result add-result returns returns-2)

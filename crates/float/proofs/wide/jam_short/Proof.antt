@@ -7,7 +7,7 @@ use native.Mathlib.Omega.{arith}
 use lib.Pow.{pow_pos, pow-add}
 use borrow.Author.Rules.{rules}
 use Rattle.float.specs.Near.{Near, both}
-use Rattle.float.proofs.Sticky.{near-more}
+use Rattle.float.proofs.Sticky.{near_more}
 use Rattle.float.proofs.wide.jam_short.Statement.{statement}
 use Rattle.float.proofs.wide.jam_short.Tie as tie
 
@@ -63,7 +63,7 @@ module _ (hi lo d l : ℕ) (p : 0 < d) (s : d < 64) (h : lo < 2 ^ 64) (n : Near 
       let x-is : 2 * k * 2 ^ d + lo ≡ both hi lo =
       ap (λ (z : ℕ). z * 2 ^ d + lo) k-is ∙ spread a m (2 ^ (64 - d)) (2 ^ d) whole_word ∙ ap (λ (z : ℕ). z * 2 ^ 64 + lo) (div-add-mod' hi (2 ^ d)) in
       let w-is : 2 * k + l ≡ both a (m * 2 ^ (64 - d) + l) = ap (λ (z : ℕ). z + l) k-is ∙ omega arith in
-      subst₂ (λ (x w : ℕ). Near x w (2 ^ d)) x-is w-is (near-more lo l (2 ^ d) k n)
+      subst₂ (λ (x w : ℕ). Near x w (2 ^ d)) x-is w-is (near_more lo l (2 ^ d) k n)
     where
       double : (a m q r : ℕ) → r ≡ 2 * q → 2 * (a * 2 ^ 63 + m * q) ≡ a * 2 ^ 64 + m * r
       double a m q r e = half a m q ∙ ap (λ (z : ℕ). a * 2 ^ 64 + m * z) (sym e)

@@ -8,7 +8,7 @@ use lib.Arith.{digits_lt}
 use lib.Pow.{pow_pos, pow-add, pow_mono}
 use borrow.Author.Rules.{rules}
 use Rattle.float.specs.Near.{Near, both}
-use Rattle.float.proofs.Sticky.{near-trans}
+use Rattle.float.proofs.Sticky.{near_trans}
 use Rattle.float.proofs.wide.jam_wide.Statement.{statement}
 use Rattle.float.proofs.wide.jam_wide.Tie as tie
 
@@ -33,7 +33,7 @@ jam-requires c κs = search rules
 twice : (x w r d : ℕ) → 64 ≤ d → Near x w (2 ^ 64) → Near w r (2 ^ (d - 64)) → Near x (both 0 r) (2 ^ d)
 twice x w r d h a b =
     subst₂ (λ (y u : ℕ). Near x y u) (sym (zero-add r)) (sym (pow-add 2 (d - 64) 64) ∙ ap (λ (z : ℕ). 2 ^ z) {x = d - 64 + 64} {y = d} (omega arith))
-    (near-trans x w r (2 ^ 64) (2 ^ (d - 64)) (pow_pos 64) a b (pow_pos (d - 64)))
+    (near_trans x w r (2 ^ 64) (2 ^ (d - 64)) (pow_pos 64) a b (pow_pos (d - 64)))
 
 returns-3 : tie.Need-returns-3
 returns-3 c =

@@ -6,7 +6,7 @@ use native.Mathlib.Omega.{arith}
 use lib.Pow.{pow_pos, high, low}
 use borrow.Author.Rules.{rules}
 use Rattle.float.specs.Near.{Near, both}
-use Rattle.float.proofs.Sticky.{jam-near}
+use Rattle.float.proofs.Sticky.{jam_near}
 use Rattle.float.proofs.wide.jam_word.Statement.{statement}
 use Rattle.float.proofs.wide.jam_word.Tie as tie
 
@@ -22,7 +22,7 @@ exact hi lo e = inl (omega arith)
 jammed : (hi lo : ℕ) → lo < 2 ^ 64 → (lo ≡ 0 → ⊥) → Near (both hi lo) (hi + (1 - hi % 2)) (2 ^ 64)
 jammed hi lo h n =
     subst (λ (q : ℕ). Near (both hi lo) (q + (1 - q % 2)) (2 ^ 64)) (high hi 64 h)
-    (jam-near (both hi lo) (2 ^ 64) (pow_pos 64) (λ (e : both hi lo % 2 ^ 64 ≡ 0). n (sym (low hi 64 h) ∙ e)))
+    (jam_near (both hi lo) (2 ^ 64) (pow_pos 64) (λ (e : both hi lo % 2 ^ 64 ≡ 0). n (sym (low hi 64 h) ∙ e)))
 
 returns : tie.Need-returns
 returns c = let v = c.before.before.args.v in exact v.hi v.lo c.if1.true

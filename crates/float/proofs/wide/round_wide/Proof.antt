@@ -7,7 +7,7 @@ use lib.Signed.{mag}
 use lib.Ieee.{binary64, to_bits, round, up, down}
 use Rattle.float.specs.Near.{both}
 use Rattle.float.specs.Biased.{biased}
-use Rattle.float.proofs.Signed.{read, same, handed, range-of, mag_of}
+use Rattle.float.proofs.Signed.{read, same, handed, range_of, mag_of}
 use Rattle.float.proofs.RoundWide.{moved_up}
 use Rattle.float.proofs.wide.round_wide.Statement.{statement}
 use Rattle.float.proofs.wide.round_wide.Tie as tie
@@ -18,7 +18,7 @@ module _ (e : ℤ) (small : mag e < 4000) (f : ℤ) (is : biased f + 8192 ≡ bi
   lower = omega (arith, is, ap biased (same e 4000 small (omega arith)))
 
   pub lower-mag : mag f < 4096
-  lower-mag = let r = range-of e 4000 small (omega arith) in mag_of f 4096 (omega arith) (omega (arith, lower, r.0)) (omega (arith, lower, r.1))
+  lower-mag = let r = range_of e 4000 small (omega arith) in mag_of f 4096 (omega arith) (omega (arith, lower, r.0)) (omega (arith, lower, r.1))
 
 sum-requires : tie.Need-sum-requires
 sum-requires c κs = let s = c.before.before in (handed s.args.e 4096 (omega (arith, s.requires.1)) (omega arith), omega arith)

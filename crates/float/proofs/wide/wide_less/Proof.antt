@@ -4,15 +4,15 @@ use Prim.Native.Nat.{ℕ, ◌^◌, ◌≤◌, ◌<◌}
 use native.Mathlib.Omega.{arith}
 use lib.Dec.{ltb}
 use Rattle.float.specs.Near.{both}
-use Rattle.float.proofs.Sums.{ltb-agree}
+use Rattle.float.proofs.Sums.{ltb_agree}
 use Rattle.float.proofs.wide.wide_less.Statement.{statement}
 use Rattle.float.proofs.wide.wide_less.Tie as tie
 
 level : (h l k m : ℕ) → h ≡ k → ltb l m ≡ ltb (both h l) (both k m)
-level h l k m e = ltb-agree l m (both h l) (both k m) (λ (x : l < m). omega arith) (λ (x : m ≤ l). omega arith)
+level h l k m e = ltb_agree l m (both h l) (both k m) (λ (x : l < m). omega arith) (λ (x : m ≤ l). omega arith)
 
 apart : (h l k m : ℕ) → l < 2 ^ 64 → m < 2 ^ 64 → (h ≡ k → ⊥) → ltb h k ≡ ltb (both h l) (both k m)
-apart h l k m L M n = ltb-agree h k (both h l) (both k m) (λ (x : h < k). omega arith) (λ (x : k ≤ h). omega (arith, n))
+apart h l k m L M n = ltb_agree h k (both h l) (both k m) (λ (x : h < k). omega arith) (λ (x : k ≤ h). omega (arith, n))
 
 returns : tie.Need-returns
 returns c = let s = c.before.before.before.before.before in level s.args.a.hi s.args.a.lo s.args.b.hi s.args.b.lo c.before.before.if1.true

@@ -1,12 +1,12 @@
 -- `lines::binary::bits_lines` meets its contract.
 use borrow.Author.Rules.{rules}
 use Rattle.lines.specs.Lists.{◌▹◌}
-use Rattle.lowering.specs.Lines.{bitsLines}
+use Rattle.lowering.specs.Lines.{bits_lines}
 use Rattle.lines.proofs.binary.bits_lines.Statement.{statement}
 use Rattle.lines.proofs.binary.bits_lines.Tie as tie
 
 pub bits-lines-spec : {M : Type 1} → statement M
-unfolding bitsLines
+unfolding bits_lines
 bits-lines-spec =
     tie.close
     (tie.spec

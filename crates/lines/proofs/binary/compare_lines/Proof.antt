@@ -1,12 +1,12 @@
 -- `lines::binary::compare_lines` meets its contract.
 use borrow.Author.Rules.{rules}
 use Rattle.lines.specs.Lists.{◌▹◌}
-use Rattle.lowering.specs.Lines.{compareLines}
+use Rattle.lowering.specs.Lines.{compare_lines}
 use Rattle.lines.proofs.binary.compare_lines.Statement.{statement}
 use Rattle.lines.proofs.binary.compare_lines.Tie as tie
 
 pub compare-lines-spec : {M : Type 1} → statement M
-unfolding compareLines
+unfolding compare_lines
 compare-lines-spec =
     tie.close
     (tie.spec

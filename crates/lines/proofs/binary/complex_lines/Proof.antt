@@ -1,12 +1,12 @@
 -- `lines::binary::complex_lines` meets its contract.
 use borrow.Author.Rules.{rules}
 use Rattle.lines.specs.Lists.{◌▹◌}
-use Rattle.lowering.specs.Lines.{complexLines}
+use Rattle.lowering.specs.Lines.{complex_lines}
 use Rattle.lines.proofs.binary.complex_lines.Statement.{statement}
 use Rattle.lines.proofs.binary.complex_lines.Tie as tie
 
 pub complex-lines-spec : {M : Type 1} → statement M
-unfolding complexLines
+unfolding complex_lines
 complex-lines-spec =
     tie.close
     (tie.spec

@@ -3,12 +3,12 @@ use borrow.Author.Rules.{rules}
 use native.Mathlib.Omega.{arith}
 use Rattle.lines.specs.Lists.{◌▹◌}
 use Rattle.mir.specs.Register.{re, im}
-use Rattle.lowering.specs.Lines.{divideLines}
+use Rattle.lowering.specs.Lines.{divide_lines}
 use Rattle.lines.proofs.binary.divide_lines.Statement.{statement}
 use Rattle.lines.proofs.binary.divide_lines.Tie as tie
 
 pub divide-lines-spec : {M : Type 1} → statement M
-unfolding divideLines re im
+unfolding divide_lines re im
 divide-lines-spec =
     tie.close
     (tie.spec

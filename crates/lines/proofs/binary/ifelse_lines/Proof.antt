@@ -1,12 +1,12 @@
 -- `lines::binary::ifelse_lines` meets its contract.
 use borrow.Author.Rules.{rules}
 use Rattle.lines.specs.Lists.{◌▹◌}
-use Rattle.lowering.specs.Lines.{ifelseLines}
+use Rattle.lowering.specs.Lines.{ifelse_lines}
 use Rattle.lines.proofs.binary.ifelse_lines.Statement.{statement}
 use Rattle.lines.proofs.binary.ifelse_lines.Tie as tie
 
 pub ifelse-lines-spec : {M : Type 1} → statement M
-unfolding ifelseLines
+unfolding ifelse_lines
 ifelse-lines-spec =
     tie.close
     (tie.spec

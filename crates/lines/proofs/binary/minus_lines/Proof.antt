@@ -1,12 +1,12 @@
 -- `lines::binary::minus_lines` meets its contract.
 use borrow.Author.Rules.{rules}
 use Rattle.lines.specs.Lists.{◌▹◌}
-use Rattle.lowering.specs.Lines.{minusLines}
+use Rattle.lowering.specs.Lines.{minus_lines}
 use Rattle.lines.proofs.binary.minus_lines.Statement.{statement}
 use Rattle.lines.proofs.binary.minus_lines.Tie as tie
 
 pub minus-lines-spec : {M : Type 1} → statement M
-unfolding minusLines
+unfolding minus_lines
 minus-lines-spec =
     tie.close
     (tie.spec

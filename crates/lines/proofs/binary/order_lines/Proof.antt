@@ -1,11 +1,11 @@
 -- `lines::binary::order_lines` meets its contract.
 use borrow.Author.Rules.{rules}
-use Rattle.lowering.specs.Lines.{orderLines}
+use Rattle.lowering.specs.Lines.{order_lines}
 use Rattle.lines.proofs.binary.order_lines.Statement.{statement}
 use Rattle.lines.proofs.binary.order_lines.Tie as tie
 
 pub order-lines-spec : {M : Type 1} → statement M
-unfolding orderLines
+unfolding order_lines
 order-lines-spec =
     tie.close
     (tie.spec

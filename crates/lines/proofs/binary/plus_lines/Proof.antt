@@ -1,12 +1,12 @@
 -- `lines::binary::plus_lines` meets its contract.
 use borrow.Author.Rules.{rules}
 use Rattle.lines.specs.Lists.{◌▹◌}
-use Rattle.lowering.specs.Lines.{plusLines}
+use Rattle.lowering.specs.Lines.{plus_lines}
 use Rattle.lines.proofs.binary.plus_lines.Statement.{statement}
 use Rattle.lines.proofs.binary.plus_lines.Tie as tie
 
 pub plus-lines-spec : {M : Type 1} → statement M
-unfolding plusLines
+unfolding plus_lines
 plus-lines-spec =
     tie.close
     (tie.spec

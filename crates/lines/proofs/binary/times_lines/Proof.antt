@@ -1,12 +1,12 @@
 -- `lines::binary::times_lines` meets its contract.
 use borrow.Author.Rules.{rules}
 use Rattle.lines.specs.Lists.{◌▹◌}
-use Rattle.lowering.specs.Lines.{timesLines}
+use Rattle.lowering.specs.Lines.{times_lines}
 use Rattle.lines.proofs.binary.times_lines.Statement.{statement}
 use Rattle.lines.proofs.binary.times_lines.Tie as tie
 
 pub times-lines-spec : {M : Type 1} → statement M
-unfolding timesLines
+unfolding times_lines
 times-lines-spec =
     tie.close
     (tie.spec

@@ -1,12 +1,12 @@
 -- `lines::moves::ensure_lines` meets its contract.
 use borrow.Author.Rules.{rules}
 use Rattle.lines.specs.Lists.{none}
-use Rattle.lowering.specs.Lines.{ensureLines}
+use Rattle.lowering.specs.Lines.{ensure_lines}
 use Rattle.lines.proofs.moves.ensure_lines.Statement.{statement}
 use Rattle.lines.proofs.moves.ensure_lines.Tie as tie
 
 pub ensure-lines-spec : {M : Type 1} → statement M
-unfolding ensureLines
+unfolding ensure_lines
 ensure-lines-spec =
     tie.close
     (tie.spec

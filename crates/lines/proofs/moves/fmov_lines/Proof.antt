@@ -1,12 +1,12 @@
 -- `lines::moves::fmov_lines` meets its contract.
 use borrow.Author.Rules.{rules}
 use Rattle.lines.specs.Lists.{◌▹◌}
-use Rattle.lowering.specs.Lines.{fmovLines}
+use Rattle.lowering.specs.Lines.{fmov_lines}
 use Rattle.lines.proofs.moves.fmov_lines.Statement.{statement}
 use Rattle.lines.proofs.moves.fmov_lines.Tie as tie
 
 pub fmov-lines-spec : {M : Type 1} → statement M
-unfolding fmovLines
+unfolding fmov_lines
 fmov-lines-spec =
     tie.close
     (tie.spec

@@ -1,11 +1,11 @@
 -- `lines::moves::load_lines` meets its contract.
 use borrow.Author.Rules.{rules}
-use Rattle.lowering.specs.Lines.{loadLines}
+use Rattle.lowering.specs.Lines.{load_lines}
 use Rattle.lines.proofs.moves.load_lines.Statement.{statement}
 use Rattle.lines.proofs.moves.load_lines.Tie as tie
 
 pub load-lines-spec : {M : Type 1} → statement M
-unfolding loadLines
+unfolding load_lines
 load-lines-spec =
     tie.close
     (tie.spec

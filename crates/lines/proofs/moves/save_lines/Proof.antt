@@ -1,11 +1,11 @@
 -- `lines::moves::save_lines` meets its contract.
 use borrow.Author.Rules.{rules}
-use Rattle.lowering.specs.Lines.{saveLines}
+use Rattle.lowering.specs.Lines.{save_lines}
 use Rattle.lines.proofs.moves.save_lines.Statement.{statement}
 use Rattle.lines.proofs.moves.save_lines.Tie as tie
 
 pub save-lines-spec : {M : Type 1} → statement M
-unfolding saveLines
+unfolding save_lines
 save-lines-spec =
     tie.close
     (tie.spec

@@ -1,12 +1,12 @@
 -- `lines::unary::abs2_lines` meets its contract.
 use borrow.Author.Rules.{rules}
 use Rattle.lines.specs.Lists.{◌▹◌}
-use Rattle.lowering.specs.Lines.{abs2Lines}
+use Rattle.lowering.specs.Lines.{abs2_lines}
 use Rattle.lines.proofs.unary.abs2_lines.Statement.{statement}
 use Rattle.lines.proofs.unary.abs2_lines.Tie as tie
 
 pub abs2-lines-spec : {M : Type 1} → statement M
-unfolding abs2Lines
+unfolding abs2_lines
 abs2-lines-spec =
     tie.close
     (tie.spec

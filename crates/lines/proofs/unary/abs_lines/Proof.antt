@@ -1,12 +1,12 @@
 -- `lines::unary::abs_lines` meets its contract.
 use borrow.Author.Rules.{rules}
 use Rattle.lines.specs.Lists.{◌▹◌}
-use Rattle.lowering.specs.Lines.{absLines}
+use Rattle.lowering.specs.Lines.{abs_lines}
 use Rattle.lines.proofs.unary.abs_lines.Statement.{statement}
 use Rattle.lines.proofs.unary.abs_lines.Tie as tie
 
 pub abs-lines-spec : {M : Type 1} → statement M
-unfolding absLines
+unfolding abs_lines
 abs-lines-spec =
     tie.close
     (tie.spec

@@ -1,12 +1,12 @@
 -- `lines::unary::conjugate_lines` meets its contract.
 use borrow.Author.Rules.{rules}
 use Rattle.lines.specs.Lists.{◌▹◌}
-use Rattle.lowering.specs.Lines.{conjugateLines}
+use Rattle.lowering.specs.Lines.{conjugate_lines}
 use Rattle.lines.proofs.unary.conjugate_lines.Statement.{statement}
 use Rattle.lines.proofs.unary.conjugate_lines.Tie as tie
 
 pub conjugate-lines-spec : {M : Type 1} → statement M
-unfolding conjugateLines
+unfolding conjugate_lines
 conjugate-lines-spec =
     tie.close
     (tie.spec

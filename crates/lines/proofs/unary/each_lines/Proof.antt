@@ -1,12 +1,12 @@
 -- `lines::unary::each_lines` meets its contract.
 use borrow.Author.Rules.{rules}
 use Rattle.lines.specs.Lists.{◌▹◌}
-use Rattle.lowering.specs.Lines.{eachLines}
+use Rattle.lowering.specs.Lines.{each_lines}
 use Rattle.lines.proofs.unary.each_lines.Statement.{statement}
 use Rattle.lines.proofs.unary.each_lines.Tie as tie
 
 pub each-lines-spec : {M : Type 1} → statement M
-unfolding eachLines
+unfolding each_lines
 each-lines-spec =
     tie.close
     (tie.spec

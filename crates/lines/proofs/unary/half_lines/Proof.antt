@@ -1,12 +1,12 @@
 -- `lines::unary::half_lines` meets its contract.
 use borrow.Author.Rules.{rules}
 use Rattle.lines.specs.Lists.{◌▹◌}
-use Rattle.lowering.specs.Lines.{halfLines}
+use Rattle.lowering.specs.Lines.{half_lines}
 use Rattle.lines.proofs.unary.half_lines.Statement.{statement}
 use Rattle.lines.proofs.unary.half_lines.Tie as tie
 
 pub half-lines-spec : {M : Type 1} → statement M
-unfolding halfLines
+unfolding half_lines
 half-lines-spec =
     tie.close
     (tie.spec

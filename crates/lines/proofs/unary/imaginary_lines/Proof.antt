@@ -1,12 +1,12 @@
 -- `lines::unary::imaginary_lines` meets its contract.
 use borrow.Author.Rules.{rules}
 use Rattle.lines.specs.Lists.{◌▹◌}
-use Rattle.lowering.specs.Lines.{imaginaryLines}
+use Rattle.lowering.specs.Lines.{imaginary_lines}
 use Rattle.lines.proofs.unary.imaginary_lines.Statement.{statement}
 use Rattle.lines.proofs.unary.imaginary_lines.Tie as tie
 
 pub imaginary-lines-spec : {M : Type 1} → statement M
-unfolding imaginaryLines
+unfolding imaginary_lines
 imaginary-lines-spec =
     tie.close
     (tie.spec

@@ -1,11 +1,11 @@
 -- `lines::unary::minding_half_lines` meets its contract.
 use borrow.Author.Rules.{rules}
-use Rattle.lowering.specs.Lines.{mindingHalfLines}
+use Rattle.lowering.specs.Lines.{minding_half_lines}
 use Rattle.lines.proofs.unary.minding_half_lines.Statement.{statement}
 use Rattle.lines.proofs.unary.minding_half_lines.Tie as tie
 
 pub minding-half-lines-spec : {M : Type 1} → statement M
-unfolding mindingHalfLines
+unfolding minding_half_lines
 minding-half-lines-spec =
     tie.close
     (tie.spec

@@ -1,11 +1,11 @@
 -- `lines::unary::not_lines` meets its contract.
 use borrow.Author.Rules.{rules}
-use Rattle.lowering.specs.Lines.{notLines}
+use Rattle.lowering.specs.Lines.{not_lines}
 use Rattle.lines.proofs.unary.not_lines.Statement.{statement}
 use Rattle.lines.proofs.unary.not_lines.Tie as tie
 
 pub not-lines-spec : {M : Type 1} → statement M
-unfolding notLines
+unfolding not_lines
 not-lines-spec =
     tie.close
     (tie.spec

@@ -1,12 +1,12 @@
 -- `lines::unary::real_lines` meets its contract.
 use borrow.Author.Rules.{rules}
 use Rattle.lines.specs.Lists.{◌▹◌}
-use Rattle.lowering.specs.Lines.{realLines}
+use Rattle.lowering.specs.Lines.{real_lines}
 use Rattle.lines.proofs.unary.real_lines.Statement.{statement}
 use Rattle.lines.proofs.unary.real_lines.Tie as tie
 
 pub real-lines-spec : {M : Type 1} → statement M
-unfolding realLines
+unfolding real_lines
 real-lines-spec =
     tie.close
     (tie.spec

@@ -1,11 +1,11 @@
 -- `lines::unary::real_root_lines` meets its contract.
 use borrow.Author.Rules.{rules}
-use Rattle.lowering.specs.Lines.{realRootLines}
+use Rattle.lowering.specs.Lines.{real_root_lines}
 use Rattle.lines.proofs.unary.real_root_lines.Statement.{statement}
 use Rattle.lines.proofs.unary.real_root_lines.Tie as tie
 
 pub real-root-lines-spec : {M : Type 1} → statement M
-unfolding realRootLines
+unfolding real_root_lines
 real-root-lines-spec =
     tie.close
     (tie.spec

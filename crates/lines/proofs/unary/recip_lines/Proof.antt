@@ -1,12 +1,12 @@
 -- `lines::unary::recip_lines` meets its contract.
 use borrow.Author.Rules.{rules}
 use Rattle.lines.specs.Lists.{◌▹◌}
-use Rattle.lowering.specs.Lines.{recipLines}
+use Rattle.lowering.specs.Lines.{recip_lines}
 use Rattle.lines.proofs.unary.recip_lines.Statement.{statement}
 use Rattle.lines.proofs.unary.recip_lines.Tie as tie
 
 pub recip-lines-spec : {M : Type 1} → statement M
-unfolding recipLines
+unfolding recip_lines
 recip-lines-spec =
     tie.close
     (tie.spec

@@ -6,14 +6,14 @@ use mathlib.Core.Path.{◌≡◌, ap}
 use native.Mathlib.Nat.{zero-add}
 use lib.ListN.{length, drop}
 use Rattle.mir.proofs.Decoding.{items, ended}
-use Rattle.records.specs.Record.{recordFrom}
+use Rattle.records.specs.Record.{record_from}
 use Rattle.records.proofs.Reading.{here-record, torn-record}
 use Rattle.listing.proofs.page.count_records.Statement.{statement}
 use Rattle.listing.proofs.page.count_records.Tie as tie
 
 abbrev invariant-loop : tie.invariant-loop
 invariant-loop listing count at₀ n₀ at n =
-    (n ≤ at) × (n + length (items (recordFrom count) (drop at listing)) ≡ length (items (recordFrom count) listing))
+    (n ≤ at) × (n + length (items (record_from count) (drop at listing)) ≡ length (items (record_from count) listing))
 
 abbrev decreases-loop : tie.decreases-loop
 decreases-loop listing count at₀ n₀ at n = length listing - at
@@ -49,6 +49,6 @@ count-records-spec =
     (λ c.
     let a = c.before.before.before.args in
     let l = c.before.loop in
-    let d = ap length (ended (recordFrom a.count) a.listing.now l.at (omega arith)).same in
+    let d = ap length (ended (record_from a.count) a.listing.now l.at (omega arith)).same in
     let i = l.invariant.1 in
     omega (arith, d, i)))

@@ -4,7 +4,7 @@ use borrow.Author.Rules.{rules}
 use native.Mathlib.Omega.{arith}
 use Prim.Native.Nat.{◌+◌, ◌-◌, ◌*◌, ◌≤◌}
 use lib.ListN.{length, drop}
-use Rattle.text.specs.Text.{constantLines}
+use Rattle.text.specs.Text.{constant_lines}
 use Rattle.text.proofs.Putting.{long, whole-fits, printing, Owes, all, less, none}
 use Rattle.listing.proofs.Putting.{constants-on, constants-end}
 use Rattle.listing.proofs.page.put_constants.Statement.{statement}
@@ -13,7 +13,7 @@ use Rattle.listing.proofs.page.put_constants.Tie as tie
 abbrev invariant-loop : tie.invariant-loop
 invariant-loop out₀ start constants at₀ i₀ out at i =
     (at + 80 * (length constants - i) ≤ length out)
-    × Owes out₀ start (constantLines 0 constants) out at (constantLines i (drop i constants))
+    × Owes out₀ start (constant_lines 0 constants) out at (constant_lines i (drop i constants))
 
 abbrev decreases-loop : tie.decreases-loop
 decreases-loop out₀ start constants at₀ i₀ out at i = length constants - i

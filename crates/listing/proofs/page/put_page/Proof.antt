@@ -4,7 +4,7 @@ use native.Mathlib.Omega.{arith}
 use lib.ListN.{length}
 use Rattle.records.specs.Record.{records}
 use Rattle.text.proofs.Putting.{long, whole-fits, printing}
-use Rattle.listing.proofs.Putting.{constants-short, paged}
+use Rattle.listing.proofs.Putting.{constants_short, paged}
 use Rattle.listing.proofs.page.put_page.Statement.{statement}
 use Rattle.listing.proofs.page.put_page.Tie as tie
 
@@ -37,7 +37,7 @@ put-page-spec =
     let q2 = c.before.before.before.before.before.put-constants.ensures in
     let g2 = long q2 in
     let k2 = q2.ends in
-    let s = constants-short 0 a.constants.now in
+    let s = constants_short 0 a.constants.now in
     let f2 = c.listing-heading.ensures.whole.fits in
     (omega (arith, n, f, g, k, g2, k2, s, f2), whole-fits c.listing-heading.ensures))
     (λ c κs.
@@ -51,7 +51,7 @@ put-page-spec =
     let q2 = c.before.before.before.before.before.before.before.before.before.put-constants.ensures in
     let g2 = long q2 in
     let k2 = q2.ends in
-    let s = constants-short 0 a.constants.now in
+    let s = constants_short 0 a.constants.now in
     let p3 = c.before.before.before.before.listing-heading.ensures in
     let q3 = printing p3 c.before.before.before.put-line2.ensures in
     let n3 = p3.whole.count in

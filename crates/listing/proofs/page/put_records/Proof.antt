@@ -6,9 +6,9 @@ use Prim.Native.Nat.{◌+◌, ◌-◌, ◌*◌, ◌≤◌}
 use mathlib.Core.Path.{sym, ap, ◌∙◌}
 use lib.ListN.{length, drop}
 use Rattle.mir.proofs.Decoding.{items, ended}
-use Rattle.records.specs.Record.{recordFrom, asNext}
+use Rattle.records.specs.Record.{record_from, as_next}
 use Rattle.records.proofs.Reading.{here-record, torn-record}
-use Rattle.text.specs.Text.{recordLines}
+use Rattle.text.specs.Text.{record_lines}
 use Rattle.text.proofs.Putting.{long, whole-fits, printing, Owes, all, less, none}
 use Rattle.listing.proofs.Putting.{records-on, records-end}
 use Rattle.listing.proofs.Sizes.{sized}
@@ -18,7 +18,7 @@ use Rattle.listing.proofs.page.put_records.Tie as tie
 abbrev invariant-loop : tie.invariant-loop
 invariant-loop out₀ start listing count at₀ from₀ out at from =
     (at + 5 * (length listing - from) ≤ length out)
-    × Owes out₀ start (recordLines (items (recordFrom count) listing)) out at (recordLines (items (recordFrom count) (drop from listing)))
+    × Owes out₀ start (record_lines (items (record_from count) listing)) out at (record_lines (items (record_from count) (drop from listing)))
 
 abbrev decreases-loop : tie.decreases-loop
 decreases-loop out₀ start listing count at₀ from₀ out at from = length listing - from
@@ -40,7 +40,7 @@ put-records-spec =
     let a = c.before.before.before.before.before.before.before.before.before.before.args in
     let l = c.before.before.before.before.before.before.before.loop in
     let p = c.record-line.ensures in
-    let e = sym c.before.before.before.before.before.read-record.ensures ∙ ap asNext c.before.before.before.q.given.1 in
+    let e = sym c.before.before.before.before.before.read-record.ensures ∙ ap as_next c.before.before.before.q.given.1 in
     let h = (here-record a.count a.listing.now l.from c.before.before.before.before.before.read-record.ensures c.before.before.before.q.given.1).inside in
     let z = sized a.count a.listing.now l.from c.before.before.before.q.given.0.0 c.before.before.before.q.given.0.1.0 e in
     let f = p.1 in
@@ -55,7 +55,7 @@ put-records-spec =
     let l = c.before.before.before.before.before.before.before.before.before.before.loop in
     let p = c.before.before.before.record-line.ensures in
     let q = printing p.0 c.before.before.put-line.ensures in
-    let e = sym c.before.before.before.before.before.before.before.before.read-record.ensures ∙ ap asNext c.before.before.before.before.before.before.q.given.1 in
+    let e = sym c.before.before.before.before.before.before.before.before.read-record.ensures ∙ ap as_next c.before.before.before.before.before.before.q.given.1 in
     let h = here-record a.count a.listing.now l.from c.before.before.before.before.before.before.before.before.read-record.ensures c.before.before.before.before.before.before.q.given.1 in
     let i = h.inside in
     let z = sized a.count a.listing.now l.from c.before.before.before.before.before.before.q.given.0.0 c.before.before.before.before.before.before.q.given.0.1.0 e in
@@ -69,4 +69,4 @@ put-records-spec =
     (λ c.
     let a = c.before.before.before.before.args in
     let l = c.before.loop in
-    none l.invariant.1 (records-end (ended (recordFrom a.count) a.listing.now l.from (omega arith)))))
+    none l.invariant.1 (records-end (ended (record_from a.count) a.listing.now l.from (omega arith)))))

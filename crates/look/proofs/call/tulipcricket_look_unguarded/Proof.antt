@@ -1,13 +1,13 @@
 -- `look::call::tulipcricket_look_unguarded` meets its contract.
 use borrow.Author.Rules.{rules}
 use borrow.Author.Tests.{eq-eqb, ne_eqb}
-use Rattle.look.specs.Call.{lookCall}
+use Rattle.look.specs.Call.{look_call}
 use Rattle.look.proofs.Calls.{wrong, looked}
 use Rattle.look.proofs.call.tulipcricket_look_unguarded.Statement.{statement}
 use Rattle.look.proofs.call.tulipcricket_look_unguarded.Tie as tie
 
 pub tulipcricket-look-unguarded-spec : {M : Type 1} → statement M
-unfolding lookCall
+unfolding look_call
 tulipcricket-look-unguarded-spec =
     tie.close
     (tie.spec

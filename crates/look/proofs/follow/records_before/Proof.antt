@@ -5,7 +5,7 @@ use Prim.Native.Nat.{ℕ, ◌+◌, ◌-◌, ◌≤◌}
 use mathlib.Core.Path.{◌≡◌, refl, sym, ◌∙◌}
 use lib.ListN.{length}
 use Rattle.mir.proofs.Decoding.{ended}
-use Rattle.records.specs.Record.{recordFrom}
+use Rattle.records.specs.Record.{record_from}
 use Rattle.player_machine.specs.Step.{before}
 use Rattle.player.specs.Positions.{left, fault, Sound}
 use Rattle.player.proofs.Looks.{stands}
@@ -73,7 +73,7 @@ records-before-spec =
     let l = c.before.loop in
     record {
       same = λ count z.
-          let d = before-none a.label (ended (recordFrom count) a.listing.now l.i (omega arith)) in
+          let d = before-none a.label (ended (record_from count) a.listing.now l.i (omega arith)) in
           let g = (l.invariant.2 count z).0 in
           omega (arith, d, g);
     }))

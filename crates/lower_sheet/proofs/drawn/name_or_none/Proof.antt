@@ -8,7 +8,7 @@ use mathlib.Core.List.{[]}
 use Rattle.text.specs.Line.{Prints, none, ◌▹◌}
 use Rattle.text.specs.Text.{space, register}
 use Rattle.text.proofs.Whole.{prints}
-use Rattle.reports.proofs.Brief.{register-short}
+use Rattle.reports.proofs.Brief.{register_short}
 use Rattle.lower_sheet.proofs.drawn.name_or_none.Statement.{statement}
 use Rattle.lower_sheet.proofs.drawn.name_or_none.Tie as tie
 
@@ -20,6 +20,6 @@ name-or-none-spec =
     (λ c. subst (λ b. Prints (cond b [] (space (register c.before.before.args.i))) c.empty-line.result) (sym (eq-eqb _ 0 c.before.if1.true)) (prints c.empty-line.ensures none (omega arith)))
     (λ c κs. search rules) (λ c κs. search rules) (λ c κs. search rules)
     (λ c.
-    let h = register-short c.before.before.before.before.args.i in
+    let h = register_short c.before.before.before.before.args.i in
     subst (λ b. Prints (cond b [] (space (register c.before.before.before.before.args.i))) c.register.result) (sym (ne_eqb _ 0 c.before.before.before.if1.false))
     (prints c.before.before.empty-line2.ensures (c.before.byte.ensures ▹ c.register.ensures) (omega (arith, h)))))

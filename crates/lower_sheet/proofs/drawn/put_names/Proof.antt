@@ -4,7 +4,7 @@ use native.Mathlib.Omega.{arith}
 use Prim.Native.Nat.{◌+◌, ◌-◌, ◌*◌, ◌≤◌}
 use lib.ListN.{length, drop}
 use Rattle.text.proofs.Putting.{long, line-put, Owes, all, less, none}
-use Rattle.lower_sheet.specs.Lowers.{markedNames}
+use Rattle.lower_sheet.specs.Lowers.{marked_names}
 use Rattle.lower_sheet.proofs.Telling.{names-on, names-end}
 use Rattle.lower_sheet.proofs.drawn.put_names.Statement.{statement}
 use Rattle.lower_sheet.proofs.drawn.put_names.Tie as tie
@@ -12,7 +12,7 @@ use Rattle.lower_sheet.proofs.drawn.put_names.Tie as tie
 abbrev invariant-loop : tie.invariant-loop
 invariant-loop out₀ start marks at₀ i₀ out at i =
     (i ≤ length marks) × (at ≤ start + 80 * i) × (start + 80 * length marks ≤ length out)
-    × Owes out₀ start (markedNames 0 marks) out at (markedNames i (drop i marks))
+    × Owes out₀ start (marked_names 0 marks) out at (marked_names i (drop i marks))
 
 abbrev decreases-loop : tie.decreases-loop
 decreases-loop out₀ start marks at₀ i₀ out at i = length marks - i

@@ -2,7 +2,7 @@
 use borrow.Author.Rules.{rules}
 use mathlib.Core.Path.{ap, ◌∙◌}
 use Rattle.mir.specs.Encode.{buf, placed}
-use Rattle.lower_sheet.specs.Lowers.{tidyLine}
+use Rattle.lower_sheet.specs.Lowers.{tidy_line}
 use Rattle.lower_sheet.proofs.Telling.{said}
 use Rattle.lower_sheet.proofs.told.put_tidy.Statement.{statement}
 use Rattle.lower_sheet.proofs.told.put_tidy.Tie as tie
@@ -16,4 +16,4 @@ put-tidy-spec =
     let a = c.before.before.before.before.before.before.before.before.before.args in
     c.before.before.put-line.ensures
     ∙ ap (placed (buf a.out.now a.at)) (said c.before.before.before.tidy-line.ensures)
-    ∙ ap (λ t. placed (buf a.out.now a.at) (tidyLine t.index t.test)) c.before.before.before.before.before.before.tidy.ensures))
+    ∙ ap (λ t. placed (buf a.out.now a.at) (tidy_line t.index t.test)) c.before.before.before.before.before.before.tidy.ensures))

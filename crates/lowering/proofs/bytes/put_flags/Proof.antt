@@ -7,8 +7,8 @@ use mathlib.Core.List.{map}
 use native.Mathlib.Nat.{add-zero}
 use lib.ListN.{length, drop, length-map}
 use lib.Seq.{sets}
-use Rattle.mir.specs.Encode.{flagByte}
-use Rattle.words.proofs.Stored.{stored-fits, stored-full}
+use Rattle.mir.specs.Encode.{flag_byte}
+use Rattle.words.proofs.Stored.{stored_fits, stored_full}
 use Rattle.lowering.proofs.RecordStored.{flag-stored, flags-ended}
 use Rattle.lowering.proofs.bytes.put_flags.Statement.{statement}
 use Rattle.lowering.proofs.bytes.put_flags.Tie as tie
@@ -16,7 +16,7 @@ use Rattle.lowering.proofs.bytes.put_flags.Tie as tie
 abbrev invariant-loop : tie.invariant-loop
 invariant-loop out₀ at flags i₀ out i =
     (i ≤ length flags) × (length out ≡ length out₀)
-    × (sets out (at + i) (drop i (map flagByte flags)) ≡ sets out₀ at (map flagByte flags))
+    × (sets out (at + i) (drop i (map flag_byte flags)) ≡ sets out₀ at (map flag_byte flags))
 
 abbrev decreases-loop : tie.decreases-loop
 decreases-loop out₀ at flags i₀ out i = length flags - i
@@ -27,9 +27,9 @@ put-flags-spec =
     (tie.spec
     invariant-loop
     decreases-loop
-    (λ c. let a = c.before.before.before.args in sym (stored-full _ _ _ (omega (arith, length-map a.flags.now flagByte))))
+    (λ c. let a = c.before.before.before.args in sym (stored_full _ _ _ (omega (arith, length-map a.flags.now flag_byte))))
     (λ c. search rules)
-    (λ c. let a = c.before.before.before.before.args in sym (stored-full _ _ _ (omega (arith, length-map a.flags.now flagByte))))
+    (λ c. let a = c.before.before.before.before.args in sym (stored_full _ _ _ (omega (arith, length-map a.flags.now flag_byte))))
     (λ c. (search rules, search rules, simp add-zero))
     (λ c. search rules) (λ c κs. search rules) (λ c. search rules) (λ c. search rules) (λ c. search rules) (λ c. search rules)
     (λ c. let a = c.before.before.before.before.before.before.before.before.args in let l = c.before.before.before.loop in
@@ -37,4 +37,4 @@ put-flags-spec =
     (λ c. search rules)
     (λ c. let a = c.before.before.before.before.before.before.args in let l = c.before.loop in
     sym (flags-ended l.out a.flags.now a.at l.i (omega arith)) ∙ l.invariant.2
-    ∙ sym (stored-fits a.out.now a.at (map flagByte a.flags.now) (omega (arith, length-map a.flags.now flagByte)))))
+    ∙ sym (stored_fits a.out.now a.at (map flag_byte a.flags.now) (omega (arith, length-map a.flags.now flag_byte)))))

@@ -4,8 +4,8 @@ use native.Mathlib.Omega.{arith}
 use mathlib.Core.Path.{◌≡◌, ◌∙◌}
 use mathlib.Core.List.{map}
 use lib.ListN.{length, replicate, length-map}
-use Rattle.mir.specs.Encode.{flagByte}
-use Rattle.words.proofs.Stored.{stored-fits}
+use Rattle.mir.specs.Encode.{flag_byte}
+use Rattle.words.proofs.Stored.{stored_fits}
 use Rattle.lowering.proofs.RecordStored.{both_stored}
 use Rattle.lowering.proofs.bytes.record_bytes.Statement.{statement}
 use Rattle.lowering.proofs.bytes.record_bytes.Tie as tie
@@ -15,7 +15,7 @@ record-bytes-spec =
     tie.close
     (tie.spec
     (λ c. search rules) (λ c. search rules) (λ c κs. search rules) (λ c. search rules) (λ c. search rules) (λ c κs. search rules)
-    (λ c. let ρ = c.before.before.before.before.before.before.before.before.before.before.args.real in let h : length ρ.regs ≡ 32 = search rules in let k : length ρ.places ≡ 64 = search rules in let n = length-map ρ.regs flagByte in
+    (λ c. let ρ = c.before.before.before.before.before.before.before.before.before.before.args.real in let h : length ρ.regs ≡ 32 = search rules in let k : length ρ.places ≡ 64 = search rules in let n = length-map ρ.regs flag_byte in
     c.before.put-bytes.ensures
-    ∙ both_stored (replicate 96 0) (map flagByte ρ.regs) ρ.places 32 (n ∙ h) (omega (arith, k))
-    (c.before.before.before.before.before.before.put-flags.ensures ∙ stored-fits (replicate 96 0) 0 (map flagByte ρ.regs) (omega (arith, h, n)))))
+    ∙ both_stored (replicate 96 0) (map flag_byte ρ.regs) ρ.places 32 (n ∙ h) (omega (arith, k))
+    (c.before.before.before.before.before.before.put-flags.ensures ∙ stored_fits (replicate 96 0) 0 (map flag_byte ρ.regs) (omega (arith, h, n)))))

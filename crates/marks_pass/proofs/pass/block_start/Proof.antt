@@ -6,13 +6,13 @@ use mathlib.Core.List.{List}
 use native.Mathlib.Omega.{arith}
 use lib.ListN.{length, drop}
 use Rattle.mir.specs.declared.records.Record.{Record}
-use Rattle.mir.specs.Encode.{encodeAll}
+use Rattle.mir.specs.Encode.{encode_all}
 use Rattle.marks_pass.proofs.Records as R
 use Rattle.marks_pass.proofs.pass.block_start.Statement.{statement}
 use Rattle.marks_pass.proofs.pass.block_start.Tie as tie
 
 abbrev invariant-loop : tie.invariant-loop
-invariant-loop listing at₀ at = (rs : List Record) → listing ≡ encodeAll rs → R.Seeking listing rs at
+invariant-loop listing at₀ at = (rs : List Record) → listing ≡ encode_all rs → R.Seeking listing rs at
 
 abbrev decreases-loop : tie.decreases-loop
 decreases-loop listing at₀ at = length listing - at
@@ -33,7 +33,7 @@ loop-again : tie.Need-loop-preserved invariant-loop decreases-loop
 loop-again c = λ rs e. R.seeking-on _ rs c.before.before.before.before.before.before.loop.at _ _ c.before.before.before.u16-at.ensures c.before.before.at_block.ensures c.before.before.before.before.before.loop-test.true c.before.if1.false (c.before.before.before.before.before.before.loop.invariant rs e)
 
 returns-3 : tie.Need-returns-3 invariant-loop decreases-loop
-returns-3 c = λ rs e. R.seeking-none _ rs c.before.loop.at (omega arith) (c.before.loop.invariant rs e)
+returns-3 c = λ rs e. R.seeking_none _ rs c.before.loop.at (omega arith) (c.before.loop.invariant rs e)
 
 pub block-start-spec : {M : Type 1} → statement M
 block-start-spec =

@@ -7,7 +7,7 @@ use mathlib.Core.List.{List}
 use native.Mathlib.Omega.{arith}
 use lib.ListN.{length, length-replicate}
 use Rattle.mir.specs.declared.records.Record.{Record}
-use Rattle.mir.specs.Encode.{encodeAll}
+use Rattle.mir.specs.Encode.{encode_all}
 use Rattle.marks_pass.proofs.Arrays.{clash}
 use Rattle.marks_pass.proofs.Passing as P
 use Rattle.marks_pass.proofs.pass.pass.Statement.{statement}
@@ -20,7 +20,7 @@ invariant-loop listing from filled₀ drawn₀ ways₀ fills₀ draws₀ known�
     × (length ways ≡ length ways₀)
     × (length fills ≡ 256)
     × (length draws ≡ 256)
-    × ((rs : List Record) → listing ≡ encodeAll rs → P.Passing listing rs known fills draws filled drawn ways at)
+    × ((rs : List Record) → listing ≡ encode_all rs → P.Passing listing rs known fills draws filled drawn ways at)
 
 abbrev decreases-loop : tie.decreases-loop
 decreases-loop listing from filled₀ drawn₀ ways₀ fills₀ draws₀ known₀ at₀ filled drawn ways fills draws known at = length listing - at
@@ -33,7 +33,7 @@ loop-holds c =
       refl,
       length-replicate 256 false,
       length-replicate 256 false,
-      λ rs e. P.passing-start _ _ p.1.0 p.1.1 (P.fresh 256 (omega arith)) rs e,
+      λ rs e. P.passing_start _ _ p.1.0 p.1.1 (P.fresh 256 (omega arith)) rs e,
     )
 
 direct-requires : tie.Need-direct-requires invariant-loop decreases-loop
@@ -100,7 +100,7 @@ same-length-9 c = c.before.loop.invariant.2
 returns-3 : tie.Need-returns-3 invariant-loop decreases-loop
 returns-3 c =
     let l = c.before.loop in
-    record { marks = λ rs e t. P.passing-end _ rs l.known l.at (omega arith) (l.invariant.5 rs e); whole = λ rs e b. refl }
+    record { marks = λ rs e t. P.passing_end _ rs l.known l.at (omega arith) (l.invariant.5 rs e); whole = λ rs e b. refl }
 
 pub pass_spec : {M : Type 1} → statement M
 pass_spec =

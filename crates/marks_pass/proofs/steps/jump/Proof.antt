@@ -14,7 +14,7 @@ returns-3 : tie.Need-returns-3
 returns-3 c = S.jumped-if _ _ _ c.before.before.before.before.before.before.before.before.before.before.before.before.before.before.before.u16-at.ensures c.before.before.before.before.before.before.before.before.before.before.before.before.before.before.byte.ensures (search rules) _ c.before.before.note.auto.0 c.before.before.before.before.byte2.ensures (search rules) c.before.before.before.before.before.before.before.before.before.before.before.if3.true c.before.before.before.before.before.before.before.before.draw.ensures c.before.before.note.ensures
 
 returns-4 : tie.Need-returns-4
-returns-4 c = S.jumped-none _ _ c.before.before.before.before.u16-at.ensures c.before.before.if1.false c.before.if2.false c.if3.false
+returns-4 c = S.jumped_none _ _ c.before.before.before.before.u16-at.ensures c.before.before.if1.false c.before.if2.false c.if3.false
 
 pub jump-spec : {M : Type 1} → statement M
 jump-spec =

@@ -6,7 +6,7 @@ use mathlib.Core.List.{List}
 use native.Mathlib.Omega.{arith}
 use lib.ListN.{length, drop}
 use Rattle.mir.specs.declared.records.Record.{Record}
-use Rattle.mir.specs.Encode.{encodeAll}
+use Rattle.mir.specs.Encode.{encode_all}
 use Rattle.marks.specs.Marks.{Marking}
 use Rattle.marks_pass.specs.Table.{table}
 use Rattle.marks_pass.specs.Standing.{Stands}
@@ -19,7 +19,7 @@ invariant-loop listing from filled₀ drawn₀ rows at₀ filled drawn at =
     (from ≤ at)
     × (length filled ≡ length filled₀)
     × (length drawn ≡ length drawn₀)
-    × ((rest : List Record) (m : Marking) → drop from listing ≡ encodeAll rest → Stands filled₀ drawn₀ m → R.Going listing rest m filled drawn at)
+    × ((rest : List Record) (m : Marking) → drop from listing ≡ encode_all rest → Stands filled₀ drawn₀ m → R.Going listing rest m filled drawn at)
 
 abbrev decreases-loop : tie.decreases-loop
 decreases-loop listing from filled₀ drawn₀ rows at₀ filled drawn at = length listing - at
@@ -69,7 +69,7 @@ same-length-4 c = c.before.loop.invariant.2
 returns-2 : tie.Need-returns-2 invariant-loop decreases-loop
 returns-2 c =
     let l = c.before.loop in
-    record { on = l.invariant.0; leads = λ rest m e s. R.going-ends _ rest m l.at (omega arith) (l.invariant.3 rest m e s) }
+    record { on = l.invariant.0; leads = λ rest m e s. R.going_ends _ rest m l.at (omega arith) (l.invariant.3 rest m e s) }
 
 pub straight-spec : {M : Type 1} → statement M
 straight-spec =

@@ -10,43 +10,43 @@ use Rattle.marks_pass.proofs.work.work.Statement.{statement}
 use Rattle.marks_pass.proofs.work.work.Tie as tie
 
 returns : tie.Need-returns
-returns c = R.does-high _ _ refl c.if1.true
+returns c = R.does_high _ _ refl c.if1.true
 
 register-requires : tie.Need-register-requires
 register-requires c κs =
     let b = c.before.before.before.before.before.before in
     let e = R.rows_long b.requires.0 in
-    (omega (arith, e), R.stands-within b.args.rows.now b.args.s.now (get_or b.args.s.now 2 0) 0 _ b.requires.0 (omega (arith, c.if1.false)) (omega arith) (omega arith) b.requires.1.0)
+    (omega (arith, e), R.stands_within b.args.rows.now b.args.s.now (get_or b.args.s.now 2 0) 0 _ b.requires.0 (omega (arith, c.if1.false)) (omega arith) (omega arith) b.requires.1.0)
 
 register-requires-2 : tie.Need-register-requires-2
 register-requires-2 c κs =
     let b = c.before.before.before.before.before.before.before in
     let e = R.rows_long b.requires.0 in
-    (omega (arith, e), R.stands-within b.args.rows.now b.args.s.now (get_or b.args.s.now 2 0) 1 _ b.requires.0 (omega (arith, c.before.if1.false)) (omega arith) (omega arith) b.requires.1.0)
+    (omega (arith, e), R.stands_within b.args.rows.now b.args.s.now (get_or b.args.s.now 2 0) 1 _ b.requires.0 (omega (arith, c.before.if1.false)) (omega arith) (omega arith) b.requires.1.0)
 
 register-requires-3 : tie.Need-register-requires-3
 register-requires-3 c κs =
     let b = c.before.before.before.before.before.before.before.before in
     let e = R.rows_long b.requires.0 in
-    (omega (arith, e), R.stands-within b.args.rows.now b.args.s.now (get_or b.args.s.now 2 0) 2 _ b.requires.0 (omega (arith, c.before.before.if1.false)) (omega arith) (omega arith) b.requires.1.0)
+    (omega (arith, e), R.stands_within b.args.rows.now b.args.s.now (get_or b.args.s.now 2 0) 2 _ b.requires.0 (omega (arith, c.before.before.if1.false)) (omega arith) (omega arith) b.requires.1.0)
 
 register-requires-4 : tie.Need-register-requires-4
 register-requires-4 c κs =
     let b = c.before.before.before.before.before.before.before.before.before in
     let e = R.rows_long b.requires.0 in
-    (omega (arith, e), R.stands-within b.args.rows.now b.args.s.now (get_or b.args.s.now 2 0) 3 _ b.requires.0 (omega (arith, c.before.before.before.if1.false)) (omega arith) (omega arith) b.requires.1.0)
+    (omega (arith, e), R.stands_within b.args.rows.now b.args.s.now (get_or b.args.s.now 2 0) 3 _ b.requires.0 (omega (arith, c.before.before.before.if1.false)) (omega arith) (omega arith) b.requires.1.0)
 
 register-requires-5 : tie.Need-register-requires-5
 register-requires-5 c κs =
     let b = c.before.before.before.before.before.before.before.before.before.before in
     let e = R.rows_long b.requires.0 in
-    (omega (arith, e), R.stands-within b.args.rows.now b.args.s.now (get_or b.args.s.now 2 0) 4 _ b.requires.0 (omega (arith, c.before.before.before.before.if1.false)) (omega arith) (omega arith) b.requires.1.0)
+    (omega (arith, e), R.stands_within b.args.rows.now b.args.s.now (get_or b.args.s.now 2 0) 4 _ b.requires.0 (omega (arith, c.before.before.before.before.if1.false)) (omega arith) (omega arith) b.requires.1.0)
 
 register-requires-6 : tie.Need-register-requires-6
 register-requires-6 c κs =
     let b = c.before.before.before.before.before.before.before.before.before.before.before in
     let e = R.rows_long b.requires.0 in
-    (omega (arith, e), R.stands-within b.args.rows.now b.args.s.now (get_or b.args.s.now 2 0) 5 _ b.requires.0 (omega (arith, c.before.before.before.before.before.if1.false)) (omega arith) (omega arith) b.requires.1.0)
+    (omega (arith, e), R.stands_within b.args.rows.now b.args.s.now (get_or b.args.s.now 2 0) 5 _ b.requires.0 (omega (arith, c.before.before.before.before.before.if1.false)) (omega arith) (omega arith) b.requires.1.0)
 
 returns-2 : tie.Need-returns-2
 unfolding stood apart

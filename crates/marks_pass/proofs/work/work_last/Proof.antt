@@ -10,7 +10,7 @@ use Rattle.marks_pass.proofs.work.work_last.Statement.{statement}
 use Rattle.marks_pass.proofs.work.work_last.Tie as tie
 
 returns : tie.Need-returns
-returns c = R.does-high _ _ c.before.byte.ensures c.if1.true
+returns c = R.does_high _ _ c.before.byte.ensures c.if1.true
 
 register-last-requires : tie.Need-register-last-requires
 register-last-requires c κs = let e = R.rows_long c.before.before.before.before.before.before.requires.0 in omega (arith, e)

@@ -1,11 +1,11 @@
 -- `mir::fields::read_cond_place` meets its contract.
 use borrow.Author.Rules.{rules}
-use Rattle.mir.specs.Field.{condPlace}
+use Rattle.mir.specs.Field.{cond_place}
 use Rattle.mir.proofs.fields.read_cond_place.Statement.{statement}
 use Rattle.mir.proofs.fields.read_cond_place.Tie as tie
 
 pub read-cond-place-spec : {M : Type 1} → statement M
-unfolding condPlace
+unfolding cond_place
 read-cond-place-spec =
     tie.close
     (tie.spec

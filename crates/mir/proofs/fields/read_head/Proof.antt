@@ -1,12 +1,12 @@
 -- `mir::fields::read_head` meets its contract: the tests in document 01's order.
 use borrow.Author.Rules.{rules}
 use borrow.Author.Tests.{eq-eqb, le-ltb, lt-ltb, ne_eqb}
-use Rattle.mir.specs.Field.{headFrom}
+use Rattle.mir.specs.Field.{head_from}
 use Rattle.mir.proofs.fields.read_head.Statement.{statement}
 use Rattle.mir.proofs.fields.read_head.Tie as tie
 
 pub read-head-spec : {M : Type 1} → statement M
-unfolding headFrom
+unfolding head_from
 read-head-spec =
     tie.close
     (tie.spec

@@ -1,11 +1,11 @@
 -- `mir::fields::read_save_place` meets its contract.
 use borrow.Author.Rules.{rules}
-use Rattle.mir.specs.Field.{savePlace}
+use Rattle.mir.specs.Field.{save_place}
 use Rattle.mir.proofs.fields.read_save_place.Statement.{statement}
 use Rattle.mir.proofs.fields.read_save_place.Tie as tie
 
 pub read-save-place-spec : {M : Type 1} → statement M
-unfolding savePlace
+unfolding save_place
 read-save-place-spec =
     tie.close
     (tie.spec

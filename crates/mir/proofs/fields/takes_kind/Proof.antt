@@ -1,11 +1,11 @@
 -- `mir::fields::takes_kind` meets its contract.
 use borrow.Author.Rules.{rules}
-use Rattle.mir.specs.Field.{takesKind}
+use Rattle.mir.specs.Field.{takes_kind}
 use Rattle.mir.proofs.fields.takes_kind.Statement.{statement}
 use Rattle.mir.proofs.fields.takes_kind.Tie as tie
 
 pub takes-kind-spec : {M : Type 1} → statement M
-unfolding takesKind
+unfolding takes_kind
 takes-kind-spec =
     tie.close
     (tie.spec

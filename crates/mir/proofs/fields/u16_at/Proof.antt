@@ -1,11 +1,11 @@
 -- `mir::fields::u16_at` meets its contract.
 use borrow.Author.Rules.{rules}
-use Rattle.mir.specs.Field.{u16At}
+use Rattle.mir.specs.Field.{u16_at}
 use Rattle.mir.proofs.fields.u16_at.Statement.{statement}
 use Rattle.mir.proofs.fields.u16_at.Tie as tie
 
 pub u16-at-spec : {M : Type 1} → statement M
-unfolding u16At
+unfolding u16_at
 u16-at-spec =
     tie.close
     (tie.spec

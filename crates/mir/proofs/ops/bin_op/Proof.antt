@@ -4,18 +4,18 @@ use native.Mathlib.Omega.{arith}
 use mathlib.Core.Path.{sym, ◌∙◌}
 use mathlib.Core.Bool.{true, false}
 use Rattle.mir.specs.declared.ops.BinOp.{BinOp}
-use Rattle.mir.specs.Operation.{binOps}
-use Rattle.mir.specs.Takes.{takesBin}
-use Rattle.mir.proofs.Tables.{taken-past, taken_at}
+use Rattle.mir.specs.Operation.{bin_ops}
+use Rattle.mir.specs.Takes.{takes_bin}
+use Rattle.mir.proofs.Tables.{taken_past, taken_at}
 use Rattle.mir.proofs.ops.bin_op.Statement.{statement}
 use Rattle.mir.proofs.ops.bin_op.Tie as tie
 
 pub bin-op-spec : {M : Type 1} → statement M
-unfolding binOps
+unfolding bin_ops
 bin-op-spec =
     tie.close
     (tie.spec
-    (λ c. let a = c.before.args in sym (taken-past (takesBin a.in-listing) binOps a.n (omega arith)))
+    (λ c. let a = c.before.args in sym (taken_past (takes_bin a.in-listing) bin_ops a.n (omega arith)))
     (λ c. search rules) (λ c. search rules) (λ c κs. search rules) (λ c. search rules)
-    (λ c. let a = c.before.before.before.before.args in taken_at takesBin binOps a.n BinOp.Plus a.in-listing true (omega arith) (sym c.before.if2.true ∙ c.before.before.is-taken.ensures))
-    (λ c. let a = c.before.before.before.args in taken_at takesBin binOps a.n BinOp.Plus a.in-listing false (omega arith) (sym c.if2.false ∙ c.before.is-taken.ensures)))
+    (λ c. let a = c.before.before.before.before.args in taken_at takes_bin bin_ops a.n BinOp.Plus a.in-listing true (omega arith) (sym c.before.if2.true ∙ c.before.before.is-taken.ensures))
+    (λ c. let a = c.before.before.before.args in taken_at takes_bin bin_ops a.n BinOp.Plus a.in-listing false (omega arith) (sym c.if2.false ∙ c.before.is-taken.ensures)))

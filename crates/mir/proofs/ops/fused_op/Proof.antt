@@ -4,18 +4,18 @@ use native.Mathlib.Omega.{arith}
 use mathlib.Core.Path.{sym, ◌∙◌}
 use mathlib.Core.Bool.{true, false}
 use Rattle.mir.specs.declared.ops.FusedOp.{FusedOp}
-use Rattle.mir.specs.Operation.{fusedOps}
-use Rattle.mir.specs.Takes.{takesFused}
-use Rattle.mir.proofs.Tables.{taken-past, taken_at}
+use Rattle.mir.specs.Operation.{fused_ops}
+use Rattle.mir.specs.Takes.{takes_fused}
+use Rattle.mir.proofs.Tables.{taken_past, taken_at}
 use Rattle.mir.proofs.ops.fused_op.Statement.{statement}
 use Rattle.mir.proofs.ops.fused_op.Tie as tie
 
 pub fused-op-spec : {M : Type 1} → statement M
-unfolding fusedOps
+unfolding fused_ops
 fused-op-spec =
     tie.close
     (tie.spec
-    (λ c. let a = c.before.args in sym (taken-past (takesFused a.in-listing) fusedOps a.n (omega arith)))
+    (λ c. let a = c.before.args in sym (taken_past (takes_fused a.in-listing) fused_ops a.n (omega arith)))
     (λ c. search rules) (λ c. search rules) (λ c κs. search rules) (λ c. search rules)
-    (λ c. let a = c.before.before.before.before.args in taken_at takesFused fusedOps a.n FusedOp.MulAdd a.in-listing true (omega arith) (sym c.before.if2.true ∙ c.before.before.is-taken.ensures))
-    (λ c. let a = c.before.before.before.args in taken_at takesFused fusedOps a.n FusedOp.MulAdd a.in-listing false (omega arith) (sym c.if2.false ∙ c.before.is-taken.ensures)))
+    (λ c. let a = c.before.before.before.before.args in taken_at takes_fused fused_ops a.n FusedOp.MulAdd a.in-listing true (omega arith) (sym c.before.if2.true ∙ c.before.before.is-taken.ensures))
+    (λ c. let a = c.before.before.before.args in taken_at takes_fused fused_ops a.n FusedOp.MulAdd a.in-listing false (omega arith) (sym c.if2.false ∙ c.before.is-taken.ensures)))

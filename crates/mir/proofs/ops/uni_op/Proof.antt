@@ -4,18 +4,18 @@ use native.Mathlib.Omega.{arith}
 use mathlib.Core.Path.{sym, ◌∙◌}
 use mathlib.Core.Bool.{true, false}
 use Rattle.mir.specs.declared.ops.UniOp.{UniOp}
-use Rattle.mir.specs.Operation.{uniOps}
-use Rattle.mir.specs.Takes.{takesUni}
-use Rattle.mir.proofs.Tables.{taken-past, taken_at}
+use Rattle.mir.specs.Operation.{uni_ops}
+use Rattle.mir.specs.Takes.{takes_uni}
+use Rattle.mir.proofs.Tables.{taken_past, taken_at}
 use Rattle.mir.proofs.ops.uni_op.Statement.{statement}
 use Rattle.mir.proofs.ops.uni_op.Tie as tie
 
 pub uni-op-spec : {M : Type 1} → statement M
-unfolding uniOps
+unfolding uni_ops
 uni-op-spec =
     tie.close
     (tie.spec
-    (λ c. let a = c.before.args in sym (taken-past (takesUni a.in-listing) uniOps a.n (omega arith)))
+    (λ c. let a = c.before.args in sym (taken_past (takes_uni a.in-listing) uni_ops a.n (omega arith)))
     (λ c. search rules) (λ c. search rules) (λ c κs. search rules) (λ c. search rules)
-    (λ c. let a = c.before.before.before.before.args in taken_at takesUni uniOps a.n UniOp.Neg a.in-listing true (omega arith) (sym c.before.if2.true ∙ c.before.before.is-taken.ensures))
-    (λ c. let a = c.before.before.before.args in taken_at takesUni uniOps a.n UniOp.Neg a.in-listing false (omega arith) (sym c.if2.false ∙ c.before.is-taken.ensures)))
+    (λ c. let a = c.before.before.before.before.args in taken_at takes_uni uni_ops a.n UniOp.Neg a.in-listing true (omega arith) (sym c.before.if2.true ∙ c.before.before.is-taken.ensures))
+    (λ c. let a = c.before.before.before.args in taken_at takes_uni uni_ops a.n UniOp.Neg a.in-listing false (omega arith) (sym c.if2.false ∙ c.before.is-taken.ensures)))

@@ -4,7 +4,7 @@ use native.Mathlib.Omega.{arith}
 use mathlib.Core.Path.{◌≡◌}
 use lib.ListN.{length}
 use Rattle.mir.specs.Length.{length_of}
-use Rattle.mir.proofs.Puts.{longest, put_full, put-fits}
+use Rattle.mir.proofs.Puts.{longest, put_full, put_fits}
 use Rattle.mir.proofs.writer.put.Statement.{statement}
 use Rattle.mir.proofs.writer.put.Tie as tie
 
@@ -22,4 +22,4 @@ put_spec =
     (λ c. search rules)
     (λ c κs. let a = c.before.before.before.before.args in let h = longest a.kind (search rules) in search rules)
     (λ c. search rules) (λ c. search rules)
-    (λ c. let a = c.before.before.before.before.before.before.before.args in put-fits a.out.now _ a.at a.kind a.t4 (search rules) (search rules) (omega arith) c.before.before.store.ensures))
+    (λ c. let a = c.before.before.before.before.before.before.before.args in put_fits a.out.now _ a.at a.kind a.t4 (search rules) (search rules) (omega arith) c.before.before.store.ensures))

@@ -1,13 +1,13 @@
 -- `pages::call::tulipcricket_pages_unguarded` meets its contract.
 use borrow.Author.Rules.{rules}
 use borrow.Author.Tests.{ne_eqb}
-use Rattle.pages.specs.Call.{pagesCall}
+use Rattle.pages.specs.Call.{pages_call}
 use Rattle.pages.proofs.Calls.{called}
 use Rattle.pages.proofs.call.tulipcricket_pages_unguarded.Statement.{statement}
 use Rattle.pages.proofs.call.tulipcricket_pages_unguarded.Tie as tie
 
 pub tulipcricket-pages-unguarded-spec : {M : Type 1} → statement M
-unfolding pagesCall
+unfolding pages_call
 tulipcricket-pages-unguarded-spec =
     tie.close
     (tie.spec

@@ -3,7 +3,7 @@ use borrow.Author.Rules.{rules}
 use native.Mathlib.Omega.{arith}
 use mathlib.Core.Path.{sym}
 use Rattle.mir.proofs.Decoding.{ended}
-use Rattle.records.specs.Record.{recordFrom}
+use Rattle.records.specs.Record.{record_from}
 use Rattle.records.proofs.Reading.{here-record, torn-record}
 use lib.ListN.{length}
 use Rattle.pages.proofs.Standing.{constant-first, record-first, blank-first}
@@ -19,7 +19,7 @@ line-at-spec =
     (λ c κs. search rules)
     (λ c.
     let a = c.before.before.before.before.before.args in
-    blank-first (omega arith) (ended (recordFrom (length a.constants.now)) a.listing.now a.from (omega arith)) c.blank-line.ensures)
+    blank-first (omega arith) (ended (record_from (length a.constants.now)) a.listing.now a.from (omega arith)) c.blank-line.ensures)
     (λ c κs. search rules) (λ c. search rules) (λ c. search rules) (λ c κs. search rules) (λ c. search rules) (λ c κs. search rules)
     (λ c.
     let a = c.before.before.before.before.before.before.before.before.before.args in

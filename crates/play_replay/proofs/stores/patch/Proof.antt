@@ -5,7 +5,7 @@ use native.Mathlib.Omega.{arith}
 use borrow.Author.Rules.{rules}
 use lib.ListN.{length, length-set}
 use Rattle.play_replay.specs.Case.{patched}
-use Rattle.play_replay.proofs.Tables.{patched-none, patched-next, patched-all}
+use Rattle.play_replay.proofs.Tables.{patched_none, patched_next, patched_all}
 use Rattle.play_replay.proofs.stores.patch.Statement.{statement}
 use Rattle.play_replay.proofs.stores.patch.Tie as tie
 
@@ -21,9 +21,9 @@ patch-spec =
     (tie.spec
     invariant-loop
     decreases-loop
-    (λ c. (omega arith, (refl, patched-none _ _ _)))
+    (λ c. (omega arith, (refl, patched_none _ _ _)))
     (λ c. omega arith) (λ c. omega arith) (λ c κs. omega arith) (λ c. omega arith) (λ c κs. omega arith) (λ c κs. search rules)
     (λ c. omega arith) (λ c. omega arith)
-    (λ c. (omega arith, (simp (c.before.before.put.ensures, length-set) c.before.before.before.before.before.before.before.loop.invariant.1.0, patched-next _ _ _ c.before.before.before.before.before.before.before.loop.i c.before.before.before.before.before.before.before.loop.invariant.1.1 c.before.before.before.before.before.count_at.ensures.0 c.before.before.before.before.word-at.ensures c.before.before.put.ensures)))
+    (λ c. (omega arith, (simp (c.before.before.put.ensures, length-set) c.before.before.before.before.before.before.before.loop.invariant.1.0, patched_next _ _ _ c.before.before.before.before.before.before.before.loop.i c.before.before.before.before.before.before.before.loop.invariant.1.1 c.before.before.before.before.before.count_at.ensures.0 c.before.before.before.before.word-at.ensures c.before.before.put.ensures)))
     (λ c. c.before.loop.invariant.1.0)
-    (λ c. patched-all _ _ _ c.before.loop.i _ c.before.loop.invariant.1.1 (omega arith)))
+    (λ c. patched_all _ _ _ c.before.loop.i _ c.before.loop.invariant.1.1 (omega arith)))

@@ -3,14 +3,14 @@ use borrow.Author.Rules.{rules}
 use native.Mathlib.Omega.{arith}
 use mathlib.Core.Path.{refl}
 use Prim.Native.Nat.{◌-◌}
-use Rattle.replay.specs.Tally.{replayedList}
+use Rattle.replay.specs.Tally.{replayed_list}
 use Rattle.replay.proofs.Replaying.{is_whole, Left, no-count, begun, stopped, ends-inside, turned, ended}
 use Rattle.play_replay.specs.Case.{cases}
 use Rattle.play_replay.proofs.tally.replay_list.Statement.{statement}
 use Rattle.play_replay.proofs.tally.replay_list.Tie as tie
 
 abbrev invariant-loop : tie.invariant-loop
-invariant-loop t₀ list n at₀ i₀ t at i = Left cases (replayedList cases t₀ list) n list i t at
+invariant-loop t₀ list n at₀ i₀ t at i = Left cases (replayed_list cases t₀ list) n list i t at
 
 abbrev decreases-loop : tie.decreases-loop
 decreases-loop t₀ list n at₀ i₀ t at i = n - i

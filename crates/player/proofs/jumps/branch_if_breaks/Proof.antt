@@ -5,7 +5,7 @@ use mathlib.Core.Path.{sym}
 use mathlib.Core.Bool.{not, ◌&&◌}
 use lib.Dec.{ltb}
 use borrow.Author.Tests.{lt-ltb, le-ltb}
-use Rattle.player.proofs.Rules.{or-true, or-or-true, or-false}
+use Rattle.player.proofs.Rules.{or-true, or-or_true, or-false}
 use Rattle.player.proofs.jumps.branch_if_breaks.Statement.{statement}
 use Rattle.player.proofs.jumps.branch_if_breaks.Tie as tie
 
@@ -15,10 +15,10 @@ branch-if-breaks-spec =
     (tie.spec
     (λ c.
     let a = c.before.args in
-    simp (lt-ltb _ _ c.if1.true) (or-or-true (ltb 1 a.l && not a.later) (ltb 2 a.l && a.stood)))
+    simp (lt-ltb _ _ c.if1.true) (or-or_true (ltb 1 a.l && not a.later) (ltb 2 a.l && a.stood)))
     (λ c.
     let a = c.before.before.args in
-    simp (le-ltb _ _ c.before.if1.false, c.if2.true) (or-or-true (ltb 1 a.l && not a.later) (ltb 2 a.l && a.stood)))
+    simp (le-ltb _ _ c.before.if1.false, c.if2.true) (or-or_true (ltb 1 a.l && not a.later) (ltb 2 a.l && a.stood)))
     (λ c.
     let a = c.before.before.before.args in
     let g : 1 < a.l = omega arith in

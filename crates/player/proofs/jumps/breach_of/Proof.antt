@@ -1,7 +1,7 @@
 -- `player::jumps::breach_of` meets its contract.
 use borrow.Author.Rules.{rules}
 use mathlib.Core.Path.{sym, ◌∙◌}
-use Rattle.player.proofs.Walks.{no-breach}
+use Rattle.player.proofs.Walks.{no_breach}
 use Rattle.player.proofs.jumps.breach_of.Statement.{statement}
 use Rattle.player.proofs.jumps.breach_of.Tie as tie
 
@@ -9,6 +9,6 @@ pub breach-of-spec : {M : Type 1} → statement M
 breach-of-spec =
     tie.close
     (tie.spec
-    (λ c. λ count e z. e.index ∙ sym (no-breach _ (sym e.jumps ∙ c.if1.true)))
+    (λ c. λ count e z. e.index ∙ sym (no_breach _ (sym e.jumps ∙ c.if1.true)))
     (λ c κs. search rules)
     (λ c. λ count e z. c.first-breach.ensures count z))

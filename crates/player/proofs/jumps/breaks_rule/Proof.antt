@@ -1,7 +1,7 @@
 -- `player::jumps::breaks_rule` meets its contract.
 use borrow.Author.Rules.{rules}
 use mathlib.Core.Path.{sym, ◌∙◌}
-use Rattle.player.proofs.Rules.{told-of-label, told-of-branch, told-of-call, told-of-branch-if, told-of-work}
+use Rattle.player.proofs.Rules.{told-of-label, told-of-branch, told-of-call, told-of-branch-if, told_of_work}
 use Rattle.player.proofs.jumps.breaks_rule.Statement.{statement}
 use Rattle.player.proofs.jumps.breaks_rule.Tie as tie
 
@@ -30,5 +30,5 @@ breaks-rule-spec =
     (λ c.
     λ before rec behind t e.
     let k = c.before.before.before.before.before.u16-at.ensures in
-    told-of-work _ (λ h. c.before.before.before.if1.false (k ∙ h)) (λ h. c.before.before.if2.false (k ∙ h)) (λ h. c.before.if3.false (k ∙ h)) (λ h. c.if4.false (k ∙ h))
+    told_of_work _ (λ h. c.before.before.before.if1.false (k ∙ h)) (λ h. c.before.before.if2.false (k ∙ h)) (λ h. c.before.if3.false (k ∙ h)) (λ h. c.if4.false (k ∙ h))
     before rec behind e))

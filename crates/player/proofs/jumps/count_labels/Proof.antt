@@ -5,12 +5,12 @@ use Prim.Native.Nat.{ℕ, ◌+◌, ◌-◌, ◌≤◌}
 use mathlib.Core.Path.{◌≡◌, refl, sym, ap, ◌∙◌}
 use lib.ListN.{length}
 use Rattle.mir.proofs.Decoding.{ended}
-use Rattle.records.specs.Record.{recordFrom}
+use Rattle.records.specs.Record.{record_from}
 use Rattle.player_machine.specs.Jumps.{bit}
 use Rattle.player.specs.Positions.{fault, Sound, Table}
-use Rattle.player.proofs.Walks.{bit-small}
+use Rattle.player.proofs.Walks.{bit_small}
 use Rattle.player.proofs.Looks.{stands}
-use Rattle.player.proofs.Rules.{CountedTo, counted-few, counted_start, counted-on, counted-labels, counted-returns}
+use Rattle.player.proofs.Rules.{CountedTo, counted_few, counted_start, counted-on, counted-labels, counted-returns}
 use Rattle.player.proofs.jumps.count_labels.Statement.{statement}
 use Rattle.player.proofs.jumps.count_labels.Tie as tie
 
@@ -39,7 +39,7 @@ count-labels-spec =
     let l = c.before.before.before.loop in
     (l.invariant.3.0, λ m. let h = l.invariant.3.1 m in omega (arith, h)))
     (λ c κs. search rules) (λ c κs. search rules)
-    (λ c. let h = bit-small c.before.encodes-return.result in let e = c.one-if.ensures in omega (arith, h, e))
+    (λ c. let h = bit_small c.before.encodes-return.result in let e = c.one-if.ensures in omega (arith, h, e))
     (λ c κs. search rules) (λ c. search rules)
     (λ c.
     let a = c.before.before.before.before.before.before.before.before.before.before.before.before.args in
@@ -59,13 +59,13 @@ count-labels-spec =
     let w = stands l.invariant.2.count l.invariant.2.none c.before.before.before.before.before.before.before.before.loop-test.true c.u16-at.ensures in
     let h = w.here in
     let g = h.on in
-    let b = bit-small c.before.before.encodes-return.result in
+    let b = bit_small c.before.before.encodes-return.result in
     let e = c.before.one-if.ensures in
     let d = c.before.before.before.before.before.count-label.ensures in (
       omega (arith, g, b, e),
       d.long ∙ l.invariant.1,
       record { count = l.invariant.2.count; none = sym h.sound ∙ l.invariant.2.none },
-      (d.long ∙ l.invariant.3.0, λ m. let i = l.invariant.3.1 m in let j = counted-few d m in omega (arith, g, i, j)),
+      (d.long ∙ l.invariant.3.0, λ m. let i = l.invariant.3.1 m in let j = counted_few d m in omega (arith, g, i, j)),
       λ count z.
           let k = l.invariant.4 count z in
           counted-on (stands count k.sound c.before.before.before.before.before.before.before.before.loop-test.true c.u16-at.ensures) k d (ap (◌+◌ l.returns) (c.before.one-if.ensures ∙ ap bit c.before.before.encodes-return.ensures)),
@@ -76,6 +76,6 @@ count-labels-spec =
     let l = c.before.loop in
     record {
       long = l.invariant.3.0;
-      labels = λ count z m. counted-labels (ended (recordFrom count) a.listing.now l.at (omega arith)) (l.invariant.4 count z) m;
-      returns = λ count z. counted-returns (ended (recordFrom count) a.listing.now l.at (omega arith)) (l.invariant.4 count z);
+      labels = λ count z m. counted-labels (ended (record_from count) a.listing.now l.at (omega arith)) (l.invariant.4 count z) m;
+      returns = λ count z. counted-returns (ended (record_from count) a.listing.now l.at (omega arith)) (l.invariant.4 count z);
     }))

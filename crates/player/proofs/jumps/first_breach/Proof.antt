@@ -5,12 +5,12 @@ use Prim.Native.Nat.{ℕ, ◌+◌, ◌-◌, ◌≤◌}
 use mathlib.Core.Path.{◌≡◌, refl, sym, ap, ◌∙◌}
 use lib.ListN.{length}
 use Rattle.mir.proofs.Decoding.{ended}
-use Rattle.records.specs.Record.{recordFrom}
+use Rattle.records.specs.Record.{record_from}
 use Rattle.player_machine.specs.Jumps.{bit}
 use Rattle.player.specs.Positions.{fault, Sound, Table, AllCounted}
-use Rattle.player.proofs.Walks.{bit-small}
+use Rattle.player.proofs.Walks.{bit_small}
 use Rattle.player.proofs.Looks.{stands}
-use Rattle.player.proofs.Rules.{counted-few, zeros, Ruled, ruled-start, ruled-on, ruled-stop, ruled-end}
+use Rattle.player.proofs.Rules.{counted_few, zeros, Ruled, ruled_start, ruled-on, ruled-stop, ruled-end}
 use Rattle.player.proofs.jumps.first_breach.Statement.{statement}
 use Rattle.player.proofs.jumps.first_breach.Tie as tie
 
@@ -37,7 +37,7 @@ first-breach-spec =
     (p.0, (p.1, (refl, λ l. let h = zeros 256 l in omega (arith, h)))))
     (λ c.
     let p = c.before.before.before.before.requires in
-    ((omega arith, omega arith), c.before.count-labels.ensures, p.1, (refl, λ l. let z = zeros 256 l in omega (arith, z)), λ count z. ruled-start count z c.before.count-labels.ensures (λ l. let z = zeros 256 l in omega (arith, z))))
+    ((omega arith, omega arith), c.before.count-labels.ensures, p.1, (refl, λ l. let z = zeros 256 l in omega (arith, z)), λ count z. ruled_start count z c.before.count-labels.ensures (λ l. let z = zeros 256 l in omega (arith, z))))
     (λ c. search rules) (λ c. search rules) (λ c. search rules) (λ c. search rules) (λ c. search rules)
     (λ c κs.
     let l = c.before.before.before.before.loop in
@@ -52,7 +52,7 @@ first-breach-spec =
     let l = c.before.before.before.before.before.before.before.loop in
     (l.invariant.3.0, λ m. let h = l.invariant.3.1 m in omega (arith, h)))
     (λ c κs. search rules) (λ c κs. search rules)
-    (λ c. let h = bit-small c.before.encodes-return.result in let e = c.one-if.ensures in omega (arith, h, e))
+    (λ c. let h = bit_small c.before.encodes-return.result in let e = c.one-if.ensures in omega (arith, h, e))
     (λ c κs. search rules) (λ c κs. search rules) (λ c. search rules)
     (λ c.
     let a = c.before.before.before.before.before.before.before.before.before.before.before.before.before.before.before.before.before.before.args in
@@ -73,13 +73,13 @@ first-breach-spec =
     let w = stands l.invariant.2.count l.invariant.2.none c.before.before.before.before.before.before.before.before.before.before.before.before.loop-test.true c.u16-at.ensures in
     let h = w.here in
     let g = h.on in
-    let b = bit-small c.before.before.before.encodes-return.result in
+    let b = bit_small c.before.before.before.encodes-return.result in
     let e = c.before.before.one-if.ensures in
     let d = c.before.before.before.before.before.count-label.ensures in (
       (omega (arith, g), omega (arith, g, b, e)),
       l.invariant.1,
       record { count = l.invariant.2.count; none = sym h.sound ∙ l.invariant.2.none },
-      (d.long ∙ l.invariant.3.0, λ m. let i = l.invariant.3.1 m in let j = counted-few d m in omega (arith, g, i, j)),
+      (d.long ∙ l.invariant.3.0, λ m. let i = l.invariant.3.1 m in let j = counted_few d m in omega (arith, g, i, j)),
       λ count z.
           let k = l.invariant.4 count z in
           ruled-on k (stands count k.sound c.before.before.before.before.before.before.before.before.before.before.before.before.loop-test.true c.u16-at.ensures) c.before.before.before.before.before.before.before.before.breaks-rule.ensures c.before.before.before.before.before.before.before.if1.false d (ap (◌+◌ l.returned) (c.before.before.one-if.ensures ∙ ap bit c.before.before.before.encodes-return.ensures)) c.before.block-open.ensures,
@@ -87,4 +87,4 @@ first-breach-spec =
     (λ c.
     let a = c.before.before.before.before.before.before.args in
     let l = c.before.loop in
-    λ count z. ruled-end (l.invariant.4 count z) (ended (recordFrom count) a.listing.now l.at (omega arith))))
+    λ count z. ruled-end (l.invariant.4 count z) (ended (record_from count) a.listing.now l.at (omega arith))))

@@ -5,11 +5,11 @@ use Prim.Native.Nat.{◌+◌, ◌-◌, ◌≤◌}
 use mathlib.Core.Path.{◌≡◌, refl, sym, ap, ◌∙◌, subst}
 use lib.ListN.{length}
 use Rattle.mir.proofs.Decoding.{ended}
-use Rattle.records.specs.Record.{recordFrom}
+use Rattle.records.specs.Record.{record_from}
 use native.Mathlib.Nat.{zero-add}
-use Rattle.player_machine.specs.Jumps.{isJump, bit, tally}
-use Rattle.player.specs.Positions.{left, fault, labelSeen, jumpSeen}
-use Rattle.player.proofs.Walks.{bit-small, tally-on, Noted, not_yet, noted-on, examined-end}
+use Rattle.player_machine.specs.Jumps.{is_jump, bit, tally}
+use Rattle.player.specs.Positions.{left, fault, label_seen, jump_seen}
+use Rattle.player.proofs.Walks.{bit_small, tally-on, Noted, not_yet, noted-on, examined-end}
 use Rattle.player.proofs.Looks.{label-seen, jump-seen, summarized, refused-summary}
 use Rattle.player.proofs.passes.examine.Statement.{statement}
 use Rattle.player.proofs.passes.examine.Tie as tie
@@ -19,7 +19,7 @@ invariant-loop s count end at₀ index₀ jumps₀ body₀ at index jumps body =
     ((index ≤ at) × (jumps ≤ at))
     × (index + length (left count s at) ≡ length (left count s 0))
     × (fault count s at ≡ fault count s 0)
-    × (jumps + tally isJump (left count s at) ≡ tally isJump (left count s 0))
+    × (jumps + tally is_jump (left count s at) ≡ tally is_jump (left count s 0))
     × Noted count s at body
 
 abbrev decreases-loop : tie.decreases-loop
@@ -46,7 +46,7 @@ examine-spec =
     let h = x.here.inside in
     omega (arith, h))
     (λ c. search rules) (λ c κs. search rules) (λ c κs. search rules)
-    (λ c. let h = bit-small c.before.jump-seen.result in let e = c.one-if.ensures in omega (arith, h, e))
+    (λ c. let h = bit_small c.before.jump-seen.result in let e = c.one-if.ensures in omega (arith, h, e))
     (λ c κs. search rules) (λ c κs. search rules)
     (λ c.
     let a = c.before.before.before.before.before.before.before.before.before.before.before.before.args in
@@ -62,13 +62,13 @@ examine-spec =
     let g = h.on in
     let k = ap length h.same in
     let i1 = l.invariant.1 in
-    let a3 = tally-on isJump h in
-    let b3 = c.before.before.one-if.ensures ∙ ap bit (c.before.before.before.jump-seen.ensures ∙ ap jumpSeen x.summary ∙ jump-seen x.rec) in
-    let c3 = bit-small (isJump x.rec) in
+    let a3 = tally-on is_jump h in
+    let b3 = c.before.before.one-if.ensures ∙ ap bit (c.before.before.before.jump-seen.ensures ∙ ap jump_seen x.summary ∙ jump-seen x.rec) in
+    let c3 = bit_small (is_jump x.rec) in
     let i3 = l.invariant.3 in
-    let e = sym (label-seen 1 x.rec) ∙ sym (ap (labelSeen 1) x.summary) ∙ sym c.before.label-seen.ensures in
+    let e = sym (label-seen 1 x.rec) ∙ sym (ap (label_seen 1) x.summary) ∙ sym c.before.label-seen.ensures in
     ((omega (arith, g), omega (arith, g, b3, c3)), omega (arith, k, i1), sym h.sound ∙ l.invariant.2, omega (arith, a3, b3, i3), subst (Noted a.count a.listing.now _) (sym c.block_start.ensures) (noted-on c.before.label-seen.result h l.invariant.2 e l.invariant.4)))
     (λ c.
     let a = c.before.before.before.args in
     let l = c.before.loop in
-    examined-end l.invariant.1 l.invariant.2 l.invariant.3 l.invariant.4 (ended (recordFrom a.count) a.listing.now l.at (omega arith))))
+    examined-end l.invariant.1 l.invariant.2 l.invariant.3 l.invariant.4 (ended (record_from a.count) a.listing.now l.at (omega arith))))

@@ -5,10 +5,10 @@ use Prim.Native.Nat.{ℕ, ◌-◌, ◌≤◌}
 use mathlib.Core.Path.{◌≡◌, refl, sym, ◌∙◌}
 use lib.ListN.{length}
 use Rattle.mir.proofs.Decoding.{ended}
-use Rattle.records.specs.Record.{recordFrom}
+use Rattle.records.specs.Record.{record_from}
 use Rattle.player_machine.specs.Machine.{seek}
 use Rattle.player.specs.Positions.{left, fault, Sound}
-use Rattle.player.proofs.Steps.{seek-on, seek-here, seek-none}
+use Rattle.player.proofs.Steps.{seek_on, seek_here, seek_none}
 use Rattle.player.proofs.Looks.{stands}
 use Rattle.player.proofs.Encoding.{such-label}
 use Rattle.player.proofs.passes.find.Statement.{statement}
@@ -37,7 +37,7 @@ find_spec =
       same = λ count z.
           let i = l.invariant.2 count z in
           let w = stands count i.1 c.before.before.before.loop-test.true refl in
-          seek-here _ w.here (sym (such-label _ w.rec w.encodes _) ∙ sym c.before.encodes-label.ensures ∙ c.if1.true) ∙ i.0;
+          seek_here _ w.here (sym (such-label _ w.rec w.encodes _) ∙ sym c.before.encodes-label.ensures ∙ c.if1.true) ∙ i.0;
       sound = λ count z. (l.invariant.2 count z).1;
       on = l.invariant.0;
     })
@@ -59,15 +59,15 @@ find_spec =
       λ count z.
           let i = l.invariant.2 count z in
           let w = stands count i.1 c.before.before.before.before.loop-test.true c.u16-at.ensures in
-          (seek-on _ w.here (sym (such-label _ w.rec w.encodes _) ∙ sym c.before.before.encodes-label.ensures ∙ c.before.if1.false) ∙ i.0, sym w.here.sound ∙ i.1),
+          (seek_on _ w.here (sym (such-label _ w.rec w.encodes _) ∙ sym c.before.before.encodes-label.ensures ∙ c.before.if1.false) ∙ i.0, sym w.here.sound ∙ i.1),
     ))
     (λ c.
     let a = c.before.before.before.args in
     let l = c.before.loop in
     record {
       same = λ count z.
-          let d = ended (recordFrom count) a.listing.now l.i (omega arith) in
-          seek-none _ d d ∙ (l.invariant.2 count z).0;
+          let d = ended (record_from count) a.listing.now l.i (omega arith) in
+          seek_none _ d d ∙ (l.invariant.2 count z).0;
       sound = λ count z. (l.invariant.2 count z).1;
       on = l.invariant.0;
     }))

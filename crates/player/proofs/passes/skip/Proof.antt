@@ -5,7 +5,7 @@ use Prim.Native.Nat.{ℕ, suc, ◌-◌}
 use mathlib.Core.Path.{◌≡◌, refl, sym, ap, ◌∙◌}
 use lib.ListN.{length, drop}
 use Rattle.mir.proofs.Decoding.{ended}
-use Rattle.records.specs.Record.{recordFrom}
+use Rattle.records.specs.Record.{record_from}
 use Rattle.player.specs.Positions.{left, fault, Sound}
 use Rattle.player.proofs.Walks.{skip-on, skip-none}
 use Rattle.player.proofs.Looks.{stands}
@@ -59,6 +59,6 @@ skip-spec =
     let a = c.before.before.before.args in
     let l = c.before.loop in
     record {
-      same = λ count z. skip-none l.n (ended (recordFrom count) a.listing.now l.at (omega arith)) ∙ (l.invariant.1 count z).0;
+      same = λ count z. skip-none l.n (ended (record_from count) a.listing.now l.at (omega arith)) ∙ (l.invariant.1 count z).0;
       sound = λ count z. (l.invariant.1 count z).1;
     }))

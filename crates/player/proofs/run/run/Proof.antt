@@ -5,10 +5,10 @@ use Prim.Native.Nat.{◌-◌, ◌*◌, ◌≤◌}
 use mathlib.Core.Path.{◌≡◌, refl, sym, ◌∙◌}
 use lib.ListN.{length}
 use Rattle.player_machine.specs.Machine.{ticks}
-use Rattle.player.specs.Positions.{onFrom, fault}
-use Rattle.player.proofs.Steps.{run-start, run_on, run-stop, run_end}
+use Rattle.player.specs.Positions.{on_from, fault}
+use Rattle.player.proofs.Steps.{run_start, run_on, run_stop, run_end}
 use Rattle.mir.proofs.Decoding.{ended}
-use Rattle.records.specs.Record.{recordFrom}
+use Rattle.records.specs.Record.{record_from}
 use Rattle.player.proofs.run.run.Statement.{statement}
 use Rattle.player.proofs.run.run.Tie as tie
 
@@ -16,7 +16,7 @@ abbrev invariant-loop : tie.invariant-loop
 invariant-loop s constants body start store₀ at₀ played₀ store at played =
     (played ≤ 65602 * at)
     × (length store ≡ length store₀)
-    × (ticks played (onFrom constants s body at store) ≡ onFrom constants s body start store₀)
+    × (ticks played (on_from constants s body at store) ≡ on_from constants s body start store₀)
     × (fault (length constants) s at ≡ 0)
 
 abbrev decreases-loop : tie.decreases-loop
@@ -28,7 +28,7 @@ run_spec =
     (tie.spec
     invariant-loop
     decreases-loop
-    (λ c. (omega arith, refl, run-start _, search rules))
+    (λ c. (omega arith, refl, run_start _, search rules))
     (λ c κs. let p = c.before.before.before.before.before.before.requires in (p.0, (p.1.0, (c.before.before.loop.invariant.3, c.before.loop-test.true))))
     (λ c.
     let h = c.before.before.before.run-record.ensures.small in
@@ -36,7 +36,7 @@ run_spec =
     (λ c. search rules)
     (λ c.
     let l = c.before.before.before.before.before.before.before.loop in
-    record { same = sym l.invariant.2 ∙ run-stop l.played c.before.before.before.before.run-record.ensures c.if1.true })
+    record { same = sym l.invariant.2 ∙ run_stop l.played c.before.before.before.before.run-record.ensures c.if1.true })
     (λ c.
     let h = c.before.before.before.before.run-record.ensures.on c.if1.false in
     omega (arith, h))
@@ -50,4 +50,4 @@ run_spec =
     (λ c.
     let a = c.before.before.before.before.before.args in
     let l = c.before.loop in
-    record { same = sym l.invariant.2 ∙ run_end a.constants.now a.body l.store l.played (ended (recordFrom (length a.constants.now)) a.listing.now l.at (omega arith)) }))
+    record { same = sym l.invariant.2 ∙ run_end a.constants.now a.body l.store l.played (ended (record_from (length a.constants.now)) a.listing.now l.at (omega arith)) }))

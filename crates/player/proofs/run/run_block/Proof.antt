@@ -7,10 +7,10 @@ use mathlib.Core.Path.{◌≡◌, refl, sym, ap, ◌∙◌}
 use lib.ListN.{length}
 use Rattle.player_machine.specs.Machine.{execs}
 use Rattle.player.specs.Positions.{block_at, fault}
-use Rattle.player.proofs.Steps.{works-on, works-done, works-jump, execs-none, execs-on}
+use Rattle.player.proofs.Steps.{works_on, works_done, works_jump, execs_none, execs_on}
 use Rattle.player.proofs.Looks.{Tried, readable, did, jumps, kept}
 use Rattle.mir.proofs.Decoding.{ended}
-use Rattle.records.specs.Record.{recordFrom}
+use Rattle.records.specs.Record.{record_from}
 use Rattle.player.proofs.run.run_block.Statement.{statement}
 use Rattle.player.proofs.run.run_block.Tie as tie
 
@@ -39,11 +39,11 @@ run-block-spec =
     let x = c.before.before.before.exec.ensures in
     let t : Tried a.constants.now a.listing.now l.at _ l.store _ = record { went = x.0; after = x.1 } in
     let f = readable (length a.constants.now) a.listing.now l.at l.invariant.4 (omega arith) in
-    let e = works-jump (jumps a.constants.now a.listing.now l.at f t (not-true _ c.if1.true)) in
+    let e = works_jump (jumps a.constants.now a.listing.now l.at f t (not-true _ c.if1.true)) in
     let g = ap length e in
     let i = l.invariant.3 in
     record {
-      same = kept a.constants.now a.listing.now l.at f t (not-true _ c.if1.true) ∙ sym (execs-none a.constants.now l.store e) ∙ l.invariant.2;
+      same = kept a.constants.now a.listing.now l.at f t (not-true _ c.if1.true) ∙ sym (execs_none a.constants.now l.store e) ∙ l.invariant.2;
       count = omega (arith, g, i);
       small = omega arith;
     })
@@ -76,15 +76,15 @@ run-block-spec =
     let d = did a.constants.now a.listing.now l.at f t c.u16-at.ensures (not-false _ c.before.if1.false) in
     let g = d.here.on in
     let w = d.here.inside in
-    let e = works-on d.here in
+    let e = works_on d.here in
     let k = ap length e in
     let i = l.invariant.3 in
-    ((omega (arith, g, w), omega (arith, g)), search rules, ap (execs a.constants.now _) d.same ∙ sym (execs-on a.constants.now l.store e) ∙ l.invariant.2, omega (arith, k, i), sym d.here.sound ∙ l.invariant.4))
+    ((omega (arith, g, w), omega (arith, g)), search rules, ap (execs a.constants.now _) d.same ∙ sym (execs_on a.constants.now l.store e) ∙ l.invariant.2, omega (arith, k, i), sym d.here.sound ∙ l.invariant.4))
     (λ c. search rules)
     (λ c.
     let a = c.before.before.before.before.before.args in
     let l = c.before.loop in
-    let e = works-done (ended (recordFrom (length a.constants.now)) a.listing.now l.at (omega arith)) in
+    let e = works_done (ended (record_from (length a.constants.now)) a.listing.now l.at (omega arith)) in
     let g = ap length e in
     let i = l.invariant.3 in
-    record { same = sym (execs-none a.constants.now l.store e) ∙ l.invariant.2; count = omega (arith, g, i); small = omega arith }))
+    record { same = sym (execs_none a.constants.now l.store e) ∙ l.invariant.2; count = omega (arith, g, i); small = omega arith }))

@@ -1,12 +1,12 @@
 -- `work::bytes::play_bi` meets its contract.
 use borrow.Author.Rules.{rules}
 use Rattle.player_machine.specs.Machine as Machine
-use Rattle.player_work.specs.Encoded.{biEncoded}
+use Rattle.player_work.specs.Encoded.{bi_encoded}
 use Rattle.player_work.proofs.bytes.play_bi.Statement.{statement}
 use Rattle.player_work.proofs.bytes.play_bi.Tie as tie
 
 pub play-bi-spec : {M : Type 1} → statement M
-unfolding biEncoded Machine.exec Machine.put Machine.writes
+unfolding bi_encoded Machine.exec Machine.put Machine.writes
 play-bi-spec =
     tie.close
     (tie.spec

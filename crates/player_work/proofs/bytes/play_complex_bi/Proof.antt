@@ -1,12 +1,12 @@
 -- `work::bytes::play_complex_bi` meets its contract.
 use borrow.Author.Rules.{rules}
 use Rattle.player_machine.specs.Machine as Machine
-use Rattle.player_work.specs.Encoded.{complexBiEncoded}
+use Rattle.player_work.specs.Encoded.{complex_bi_encoded}
 use Rattle.player_work.proofs.bytes.play_complex_bi.Statement.{statement}
 use Rattle.player_work.proofs.bytes.play_complex_bi.Tie as tie
 
 pub play-complex-bi-spec : {M : Type 1} → statement M
-unfolding complexBiEncoded Machine.exec Machine.put Machine.writes
+unfolding complex_bi_encoded Machine.exec Machine.put Machine.writes
 play-complex-bi-spec =
     tie.close
     (tie.spec

@@ -1,12 +1,12 @@
 -- `work::bytes::play_fused` meets its contract.
 use borrow.Author.Rules.{rules}
 use Rattle.player_machine.specs.Machine as Machine
-use Rattle.player_work.specs.Encoded.{fusedEncoded}
+use Rattle.player_work.specs.Encoded.{fused_encoded}
 use Rattle.player_work.proofs.bytes.play_fused.Statement.{statement}
 use Rattle.player_work.proofs.bytes.play_fused.Tie as tie
 
 pub play-fused-spec : {M : Type 1} → statement M
-unfolding fusedEncoded Machine.exec Machine.put Machine.writes
+unfolding fused_encoded Machine.exec Machine.put Machine.writes
 play-fused-spec =
     tie.close
     (tie.spec

@@ -1,12 +1,12 @@
 -- `work::bytes::play_load` meets its contract.
 use borrow.Author.Rules.{rules}
 use Rattle.player_machine.specs.Machine as Machine
-use Rattle.player_work.specs.Encoded.{loadEncoded}
+use Rattle.player_work.specs.Encoded.{load_encoded}
 use Rattle.player_work.proofs.bytes.play_load.Statement.{statement}
 use Rattle.player_work.proofs.bytes.play_load.Tie as tie
 
 pub play-load-spec : {M : Type 1} → statement M
-unfolding loadEncoded Machine.exec Machine.put Machine.writes
+unfolding load_encoded Machine.exec Machine.put Machine.writes
 play-load-spec =
     tie.close
     (tie.spec

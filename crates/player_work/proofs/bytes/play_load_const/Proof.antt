@@ -2,12 +2,12 @@
 use borrow.Author.Rules.{rules}
 use mathlib.Core.Path.{refl}
 use Rattle.player_machine.specs.Machine as Machine
-use Rattle.player_work.specs.Encoded.{loadConstEncoded}
+use Rattle.player_work.specs.Encoded.{load_const_encoded}
 use Rattle.player_work.proofs.bytes.play_load_const.Statement.{statement}
 use Rattle.player_work.proofs.bytes.play_load_const.Tie as tie
 
 pub play-load-const-spec : {M : Type 1} → statement M
-unfolding loadConstEncoded Machine.exec Machine.put Machine.writes
+unfolding load_const_encoded Machine.exec Machine.put Machine.writes
 play-load-const-spec =
     tie.close
     (tie.spec

@@ -2,12 +2,12 @@
 use borrow.Author.Rules.{rules}
 use mathlib.Core.Path.{refl}
 use Rattle.player_machine.specs.Machine as Machine
-use Rattle.player_work.specs.Encoded.{movEncoded}
+use Rattle.player_work.specs.Encoded.{mov_encoded}
 use Rattle.player_work.proofs.bytes.play_mov.Statement.{statement}
 use Rattle.player_work.proofs.bytes.play_mov.Tie as tie
 
 pub play-mov-spec : {M : Type 1} → statement M
-unfolding movEncoded Machine.exec Machine.put Machine.writes
+unfolding mov_encoded Machine.exec Machine.put Machine.writes
 play-mov-spec =
     tie.close
     (tie.spec

@@ -1,12 +1,12 @@
 -- `work::bytes::play_save` meets its contract.
 use borrow.Author.Rules.{rules}
 use Rattle.player_machine.specs.Machine as Machine
-use Rattle.player_work.specs.Encoded.{saveEncoded}
+use Rattle.player_work.specs.Encoded.{save_encoded}
 use Rattle.player_work.proofs.bytes.play_save.Statement.{statement}
 use Rattle.player_work.proofs.bytes.play_save.Tie as tie
 
 pub play-save-spec : {M : Type 1} → statement M
-unfolding saveEncoded Machine.exec Machine.put Machine.writes
+unfolding save_encoded Machine.exec Machine.put Machine.writes
 play-save-spec =
     tie.close
     (tie.spec

@@ -1,12 +1,12 @@
 -- `work::bytes::play_uni` meets its contract.
 use borrow.Author.Rules.{rules}
 use Rattle.player_machine.specs.Machine as Machine
-use Rattle.player_work.specs.Encoded.{uniEncoded}
+use Rattle.player_work.specs.Encoded.{uni_encoded}
 use Rattle.player_work.proofs.bytes.play_uni.Statement.{statement}
 use Rattle.player_work.proofs.bytes.play_uni.Tie as tie
 
 pub play-uni-spec : {M : Type 1} → statement M
-unfolding uniEncoded Machine.exec Machine.put Machine.writes
+unfolding uni_encoded Machine.exec Machine.put Machine.writes
 play-uni-spec =
     tie.close
     (tie.spec

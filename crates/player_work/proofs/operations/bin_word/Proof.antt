@@ -1,11 +1,11 @@
 -- `work::operations::bin_word` meets its contract, operation by operation.
 use borrow.Author.Rules.{rules}
-use Rattle.player_machine.specs.Machine.{binWord}
+use Rattle.player_machine.specs.Machine.{bin_word}
 use Rattle.player_work.proofs.operations.bin_word.Statement.{statement}
 use Rattle.player_work.proofs.operations.bin_word.Tie as tie
 
 pub bin-word-spec : {M : Type 1} → statement M
-unfolding binWord
+unfolding bin_word
 bin-word-spec =
     tie.close
     (tie.spec

@@ -1,11 +1,11 @@
 -- `work::operations::complex_words` meets its contract, operation by operation.
 use borrow.Author.Rules.{rules}
-use Rattle.player_machine.specs.Machine.{complexWords}
+use Rattle.player_machine.specs.Machine.{complex_words}
 use Rattle.player_work.proofs.operations.complex_words.Statement.{statement}
 use Rattle.player_work.proofs.operations.complex_words.Tie as tie
 
 pub complex-words-spec : {M : Type 1} → statement M
-unfolding complexWords
+unfolding complex_words
 complex-words-spec =
     tie.close
     (tie.spec

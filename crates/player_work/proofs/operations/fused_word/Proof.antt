@@ -1,11 +1,11 @@
 -- `work::operations::fused_word` meets its contract, operation by operation.
 use borrow.Author.Rules.{rules}
-use Rattle.player_machine.specs.Machine.{fusedWord}
+use Rattle.player_machine.specs.Machine.{fused_word}
 use Rattle.player_work.proofs.operations.fused_word.Statement.{statement}
 use Rattle.player_work.proofs.operations.fused_word.Tie as tie
 
 pub fused-word-spec : {M : Type 1} → statement M
-unfolding fusedWord
+unfolding fused_word
 fused-word-spec =
     tie.close
     (tie.spec

@@ -1,11 +1,11 @@
 -- `work::operations::uni_word` meets its contract, operation by operation.
 use borrow.Author.Rules.{rules}
-use Rattle.player_machine.specs.Machine.{uniWord}
+use Rattle.player_machine.specs.Machine.{uni_word}
 use Rattle.player_work.proofs.operations.uni_word.Statement.{statement}
 use Rattle.player_work.proofs.operations.uni_word.Tie as tie
 
 pub uni-word-spec : {M : Type 1} → statement M
-unfolding uniWord
+unfolding uni_word
 uni-word-spec =
     tie.close
     (tie.spec

@@ -1,9 +1,9 @@
 -- `records::reader::read_branch` meets its contract.
 use borrow.Author.Rules.{rules}
-use Rattle.records.specs.Record.{branchFrom}
+use Rattle.records.specs.Record.{branch_from}
 use Rattle.records.proofs.reader.read_branch.Statement.{statement}
 use Rattle.records.proofs.reader.read_branch.Tie as tie
 
 pub read-branch-spec : {M : Type 1} → statement M
-unfolding branchFrom
+unfolding branch_from
 read-branch-spec = tie.close (tie.spec (λ c κs. search rules) (λ c. simp c.byte.ensures))

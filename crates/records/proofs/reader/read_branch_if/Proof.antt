@@ -1,12 +1,12 @@
 -- `records::reader::read_branch_if` meets its contract.
 use borrow.Author.Rules.{rules}
 use borrow.Author.Tests.{le-ltb, lt-ltb}
-use Rattle.records.specs.Record.{branchIfFrom}
+use Rattle.records.specs.Record.{branch_if_from}
 use Rattle.records.proofs.reader.read_branch_if.Statement.{statement}
 use Rattle.records.proofs.reader.read_branch_if.Tie as tie
 
 pub read-branch-if-spec : {M : Type 1} → statement M
-unfolding branchIfFrom
+unfolding branch_if_from
 read-branch-if-spec =
     tie.close
     (tie.spec

@@ -1,11 +1,11 @@
 -- `records::reader::read_complex_bi` meets its contract.
 use borrow.Author.Rules.{rules}
-use Rattle.records.specs.Record.{complexBiFrom}
+use Rattle.records.specs.Record.{complex_bi_from}
 use Rattle.records.proofs.reader.read_complex_bi.Statement.{statement}
 use Rattle.records.proofs.reader.read_complex_bi.Tie as tie
 
 pub read-complex-bi-spec : {M : Type 1} → statement M
-unfolding complexBiFrom
+unfolding complex_bi_from
 read-complex-bi-spec =
     tie.close
     (tie.spec

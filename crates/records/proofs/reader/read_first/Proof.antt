@@ -1,11 +1,11 @@
 -- `records::reader::read_first` meets its contract.
 use borrow.Author.Rules.{rules}
-use Rattle.records.specs.Record.{recordFrom}
+use Rattle.records.specs.Record.{record_from}
 use Rattle.records.proofs.reader.read_first.Statement.{statement}
 use Rattle.records.proofs.reader.read_first.Tie as tie
 
 pub read-first-spec : {M : Type 1} → statement M
-unfolding recordFrom
+unfolding record_from
 read-first-spec =
     tie.close
     (tie.spec

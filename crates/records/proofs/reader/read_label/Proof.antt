@@ -1,9 +1,9 @@
 -- `records::reader::read_label` meets its contract.
 use borrow.Author.Rules.{rules}
-use Rattle.records.specs.Record.{labelFrom}
+use Rattle.records.specs.Record.{label_from}
 use Rattle.records.proofs.reader.read_label.Statement.{statement}
 use Rattle.records.proofs.reader.read_label.Tie as tie
 
 pub read-label-spec : {M : Type 1} → statement M
-unfolding labelFrom
+unfolding label_from
 read-label-spec = tie.close (tie.spec (λ c κs. search rules) (λ c. simp c.byte.ensures))

@@ -1,11 +1,11 @@
 -- `records::reader::read_load_complex` meets its contract.
 use borrow.Author.Rules.{rules}
-use Rattle.records.specs.Record.{loadComplexFrom}
+use Rattle.records.specs.Record.{load_complex_from}
 use Rattle.records.proofs.reader.read_load_complex.Statement.{statement}
 use Rattle.records.proofs.reader.read_load_complex.Tie as tie
 
 pub read-load-complex-spec : {M : Type 1} → statement M
-unfolding loadComplexFrom
+unfolding load_complex_from
 read-load-complex-spec =
     tie.close
     (tie.spec

@@ -2,28 +2,28 @@
 use borrow.Author.Rules.{rules}
 use native.Mathlib.Omega.{arith}
 use mathlib.Core.Path.{refl, sym, ap, ◌∙◌}
-use Rattle.mir.specs.Field.{headFrom}
+use Rattle.mir.specs.Field.{head_from}
 use Rattle.mir.proofs.Decoding.{next-got, next-refused, next_past}
-use Rattle.records.specs.Record.{recordFrom, asRead}
+use Rattle.records.specs.Record.{record_from, as_read}
 use Rattle.records.proofs.reader.read_record.Statement.{statement}
 use Rattle.records.proofs.reader.read_record.Tie as tie
 
 pub read-record-spec : {M : Type 1} → statement M
-unfolding recordFrom headFrom
+unfolding record_from head_from
 read-record-spec =
     tie.close
     (tie.spec
-    (λ c. let a = c.before.before.args in sym (next_past (recordFrom a.count) a.listing.now a.at refl (omega arith)))
+    (λ c. let a = c.before.before.args in sym (next_past (record_from a.count) a.listing.now a.at refl (omega arith)))
     (λ c. search rules) (λ c. search rules) (λ c. search rules) (λ c κs. search rules) (λ c. search rules) (λ c κs. search rules)
     (λ c. search rules) (λ c. search rules) (λ c. search rules)
     (λ c.
     let a = c.before.before.before.before.before.before.before.before.args in
     sym
-    (next-got (recordFrom a.count) a.listing.now a.at _ _
-    (sym c.before.before.before.before.read_first.ensures ∙ ap asRead c.before.before.«record».given.1)
+    (next-got (record_from a.count) a.listing.now a.at _ _
+    (sym c.before.before.before.before.read_first.ensures ∙ ap as_read c.before.before.«record».given.1)
     c.u16-at.ensures))
     (λ c.
     let a = c.before.before.before.before.before.before.before.args in
     sym
-    (next-refused (recordFrom a.count) a.listing.now a.at _
-    (sym c.before.before.before.read_first.ensures ∙ ap asRead c.before.n.given.1))))
+    (next-refused (record_from a.count) a.listing.now a.at _
+    (sym c.before.before.before.read_first.ensures ∙ ap as_read c.before.n.given.1))))

@@ -1,11 +1,11 @@
 -- `records::reader::read_save_complex` meets its contract.
 use borrow.Author.Rules.{rules}
-use Rattle.records.specs.Record.{saveComplexFrom}
+use Rattle.records.specs.Record.{save_complex_from}
 use Rattle.records.proofs.reader.read_save_complex.Statement.{statement}
 use Rattle.records.proofs.reader.read_save_complex.Tie as tie
 
 pub read-save-complex-spec : {M : Type 1} → statement M
-unfolding saveComplexFrom
+unfolding save_complex_from
 read-save-complex-spec =
     tie.close
     (tie.spec

@@ -1,11 +1,11 @@
 -- `records::reader::summarize` meets its contract.
 use borrow.Author.Rules.{rules}
-use Rattle.records.specs.Record.{recordFrom}
+use Rattle.records.specs.Record.{record_from}
 use Rattle.records.proofs.reader.summarize.Statement.{statement}
 use Rattle.records.proofs.reader.summarize.Tie as tie
 
 pub summarize-spec : {M : Type 1} → statement M
-unfolding recordFrom
+unfolding record_from
 summarize-spec =
     tie.close
     (tie.spec

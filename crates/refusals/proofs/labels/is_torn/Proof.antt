@@ -1,8 +1,8 @@
 -- `is_torn` meets its contract.
 use borrow.Author.Rules.{rules}
 use mathlib.Core.Path.{sym, ap, ◌∙◌}
-use Rattle.mir.specs.Field.{asHead}
-use Rattle.refusals.proofs.Searching.{head_read, head-refused}
+use Rattle.mir.specs.Field.{as_head}
+use Rattle.refusals.proofs.Searching.{head_read, head_refused}
 use Rattle.refusals.proofs.labels.is_torn.Statement.{statement}
 use Rattle.refusals.proofs.labels.is_torn.Tie as tie
 
@@ -11,5 +11,5 @@ is-torn-spec =
     tie.close
     (tie.spec
     (λ c κs. search rules) (λ c. search rules) (λ c. search rules)
-    (λ c. head_read _ _ (sym c.before.before.before.read_head.ensures ∙ ap asHead c.before.kind.given.1))
-    (λ c. head-refused _ _ (sym c.before.before.before.read_head.ensures ∙ ap asHead c.before.number.given.1)))
+    (λ c. head_read _ _ (sym c.before.before.before.read_head.ensures ∙ ap as_head c.before.kind.given.1))
+    (λ c. head_refused _ _ (sym c.before.before.before.read_head.ensures ∙ ap as_head c.before.number.given.1)))

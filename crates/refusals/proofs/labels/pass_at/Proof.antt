@@ -2,8 +2,8 @@
 use borrow.Author.Rules.{rules}
 use native.Mathlib.Omega.{arith}
 use mathlib.Core.Path.{sym, ap, ◌∙◌}
-use Rattle.mir.specs.Field.{asHead}
-use Rattle.refusals.proofs.Marking.{works-passed, passed-as}
+use Rattle.mir.specs.Field.{as_head}
+use Rattle.refusals.proofs.Marking.{works-passed, passed_as}
 use Rattle.refusals.proofs.Directing.{at-headed, at-torn, at_low, at-past}
 use Rattle.refusals.proofs.labels.pass_at.Statement.{statement}
 use Rattle.refusals.proofs.labels.pass_at.Tie as tie
@@ -12,11 +12,11 @@ pub pass-at-spec : {M : Type 1} → statement M
 pass-at-spec =
     tie.close
     (tie.spec
-    (λ c n. let a = c.before.before.before.before.args in let h = c.if1.true in passed-as (at-past n a.sheet.now a.at (omega (arith, h))) (works-passed (search rules) (search rules) _ _))
+    (λ c n. let a = c.before.before.before.before.args in let h = c.if1.true in passed_as (at-past n a.sheet.now a.at (omega (arith, h))) (works-passed (search rules) (search rules) _ _))
     (λ c. search rules) (λ c. search rules) (λ c. search rules) (λ c κs. search rules)
-    (λ c n. let a = c.before.before.before.before.before.before.before.args in passed-as (at_low n a.sheet.now a.at c.before.u16-at.ensures c.if2.true) (works-passed (search rules) (search rules) _ _))
+    (λ c n. let a = c.before.before.before.before.before.before.before.args in passed_as (at_low n a.sheet.now a.at c.before.u16-at.ensures c.if2.true) (works-passed (search rules) (search rules) _ _))
     (λ c κs. search rules) (λ c. search rules) (λ c κs. search rules) (λ c. search rules) (λ c. search rules) (λ c. search rules)
     (λ c n. let a = c.before.before.before.before.before.before.before.before.before.before.before.before.before.before.before.before.before.before.args in
-    passed-as (at-headed n a.sheet.now a.at _ (sym c.before.before.before.before.before.before.before.before.before.before.read_head.ensures ∙ ap asHead c.before.before.before.before.before.before.before.before.kind.given.1)) (c.before.before.before.before.pass-kind.ensures n))
+    passed_as (at-headed n a.sheet.now a.at _ (sym c.before.before.before.before.before.before.before.before.before.before.read_head.ensures ∙ ap as_head c.before.before.before.before.before.before.before.before.kind.given.1)) (c.before.before.before.before.pass-kind.ensures n))
     (λ c n. let a = c.before.before.before.before.before.before.before.before.before.before.before.args in
-    passed-as (at-torn n a.sheet.now a.at _ (sym c.before.before.before.read_head.ensures ∙ ap asHead c.before.number.given.1)) (works-passed (search rules) (search rules) _ _)))
+    passed_as (at-torn n a.sheet.now a.at _ (sym c.before.before.before.read_head.ensures ∙ ap as_head c.before.number.given.1)) (works-passed (search rules) (search rules) _ _)))

@@ -2,12 +2,12 @@
 -- Assumes nothing.
 use Rattle.std.proofs.Common.{◌≡◌, ℕ, ◌-◌, ◌<◌, List, [], length, take, drop, ap, ◌∙◌, arith, length-drop, drop_of_length-le, take_all, rules}
 use lib.Seq.{take-nil}
-use Rattle.replay.specs.Same.{same, samePart}
+use Rattle.replay.specs.Same.{same, same_part}
 use Rattle.replay.proofs.same.same_part.Statement.{statement}
 use Rattle.replay.proofs.same.same_part.Tie as tie
 
-past : (xs ys : List ℕ) (at : ℕ) → length ys < at → same xs [] ≡ samePart xs ys at
-unfolding samePart
+past : (xs ys : List ℕ) (at : ℕ) → length ys < at → same xs [] ≡ same_part xs ys at
+unfolding same_part
 past xs ys at h = simp (drop_of_length-le ys {i = at} (omega arith), take-nil)
 
 -- what is lent from a position on
@@ -15,16 +15,16 @@ rest : (ys : List ℕ) (at : ℕ) → take (length ys - at) (drop at ys) ≡ dro
 rest ys at = take_all (length ys - at) (drop at ys) (simp length-drop (omega arith))
 
 short : (xs ys : List ℕ) (at : ℕ) → length (take (length ys - at) (drop at ys)) < length xs
-    → same xs (take (length ys - at) (drop at ys)) ≡ samePart xs ys at
-unfolding samePart
+    → same xs (take (length ys - at) (drop at ys)) ≡ same_part xs ys at
+unfolding same_part
 short xs ys at h = simp (rest ys at, take_all (length xs) (drop at ys) (omega (arith, ap length (rest ys at))))
 
-enough : (xs ys : List ℕ) (at : ℕ) → same xs (take (length xs - 0) (take (length ys - at) (drop at ys))) ≡ samePart xs ys at
-unfolding samePart
+enough : (xs ys : List ℕ) (at : ℕ) → same xs (take (length xs - 0) (take (length ys - at) (drop at ys))) ≡ same_part xs ys at
+unfolding same_part
 enough xs ys at = let e : length xs - 0 ≡ length xs = omega arith in simp (rest ys at, e)
 
 pub same-part-spec : {M : Type 1} → statement M
-unfolding samePart
+unfolding same_part
 same-part-spec =
     tie.close
     (tie.spec

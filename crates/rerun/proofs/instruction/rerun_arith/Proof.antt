@@ -1,12 +1,12 @@
 -- `rerun_arith` meets its contract.
 use borrow.Author.Rules.{rules}
-use Rattle.lowering.specs.Rerun.{rerunArith}
+use Rattle.lowering.specs.Rerun.{rerun_arith}
 use Rattle.rerun.specs.Ends.{plainly}
 use Rattle.rerun.proofs.instruction.rerun_arith.Statement.{statement}
 use Rattle.rerun.proofs.instruction.rerun_arith.Tie as tie
 
 pub rerun-arith-spec : {M : Type 1} → statement M
-unfolding rerunArith
+unfolding rerun_arith
 rerun-arith-spec =
     tie.close
     (tie.spec

@@ -1,12 +1,12 @@
 -- `rerun_bin` meets its contract.
 use borrow.Author.Rules.{rules}
-use Rattle.lowering.specs.Rerun.{rerunBin}
+use Rattle.lowering.specs.Rerun.{rerun_bin}
 use Rattle.rerun.specs.Ends.{plainly, stay}
 use Rattle.rerun.proofs.instruction.rerun_bin.Statement.{statement}
 use Rattle.rerun.proofs.instruction.rerun_bin.Tie as tie
 
 pub rerun-bin-spec : {M : Type 1} → statement M
-unfolding rerunBin
+unfolding rerun_bin
 rerun-bin-spec =
     tie.close
     (tie.spec

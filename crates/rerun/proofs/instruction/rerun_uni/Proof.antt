@@ -11,10 +11,10 @@ use Rattle.sheet.specs.declared.setup.Mode.{Mode}
 use Rattle.mir.specs.Encode.{Buf}
 use Rattle.complexifier.specs.declared.state.Complexifier.{Complexifier}
 use Rattle.rerun.specs.declared.output.Output.{Output}
-use Rattle.lowering.specs.Complexifier.{State, Out, byOne, copied, abs, root, realRoot, recip}
-use Rattle.lowering.specs.Rerun.{rerunUni}
-use Rattle.lowering.specs.Lines.{eachLines}
-use Rattle.rerun.specs.Ends.{Ends, plainly, stay, byMode}
+use Rattle.lowering.specs.Complexifier.{State, Out, one_by_one, copied, abs, root, real_root, recip}
+use Rattle.lowering.specs.Rerun.{rerun_uni}
+use Rattle.lowering.specs.Lines.{each_lines}
+use Rattle.rerun.specs.Ends.{Ends, plainly, stay, by_mode}
 use Rattle.rerun.proofs.instruction.rerun_uni.Statement.{statement}
 use Rattle.rerun.proofs.instruction.rerun_uni.Tie as tie
 
@@ -22,8 +22,8 @@ use Rattle.rerun.proofs.instruction.rerun_uni.Tie as tie
 abbrev keys : List ℕ
 keys = 0 ∷ 6 ∷ 7 ∷ 8 ∷ 9 ∷ 16 ∷ []
 
-by-each : (m : Mode) (op : UniOp) (d a : ℕ) → OneOf keys (tag_of the_type op) → rerunUni m op d a ≡ byOne (eachLines op) copied d a
-unfolding rerunUni
+by-each : (m : Mode) (op : UniOp) (d a : ℕ) → OneOf keys (tag_of the_type op) → rerun_uni m op d a ≡ one_by_one (each_lines op) copied d a
+unfolding rerun_uni
 by-each m UniOp.Neg d a k = refl
 by-each m UniOp.Not d a k = absurd (miss keys 1 tt k)
 by-each m UniOp.Abs d a k = absurd (miss keys 2 tt k)
@@ -55,7 +55,7 @@ returns-15 c =
     (plainly c.before.before.before.each.ensures c.no-constants11.ensures)
 
 pub rerun-uni-spec : {M : Type 1} → statement M
-unfolding rerunUni
+unfolding rerun_uni
 rerun-uni-spec =
     tie.close
     (tie.spec
@@ -76,13 +76,13 @@ rerun-uni-spec =
     (λ c κs. search rules) (λ c κs. search rules) (λ c. search rules)
     (λ c. simp c.before.before.before.before.before.enum_told.given.1 (plainly c.before.before.before.not.ensures c.no-constants.ensures))
     (λ c. search rules)
-    (λ c. simp c.before.before.before.before.enum-told2.given.1 (byMode (λ x. abs x c.before.before.before.before.before.before.before.before.before.args.dst c.before.before.before.before.before.before.before.before.before.args.s1) c.before.before.before.before.before.before.is-stable.ensures c.before.before.abs.ensures))
+    (λ c. simp c.before.before.before.before.enum-told2.given.1 (by_mode (λ x. abs x c.before.before.before.before.before.before.before.before.before.args.dst c.before.before.before.before.before.before.before.before.before.args.s1) c.before.before.before.before.before.before.is-stable.ensures c.before.before.abs.ensures))
     (λ c. search rules)
-    (λ c. simp c.before.before.before.before.enum-told3.given.1 (byMode (λ x. root x c.before.before.before.before.before.before.before.before.before.args.dst c.before.before.before.before.before.before.before.before.before.args.s1) c.before.before.before.before.before.before.is-stable.ensures c.before.before.root.ensures))
+    (λ c. simp c.before.before.before.before.enum-told3.given.1 (by_mode (λ x. root x c.before.before.before.before.before.before.before.before.before.args.dst c.before.before.before.before.before.before.before.before.before.args.s1) c.before.before.before.before.before.before.is-stable.ensures c.before.before.root.ensures))
     (λ c. search rules)
-    (λ c. simp c.before.before.before.before.enum-told4.given.1 (byMode (λ x. realRoot x c.before.before.before.before.before.before.before.before.before.args.dst c.before.before.before.before.before.before.before.before.before.args.s1) c.before.before.before.before.before.before.is-stable.ensures c.before.before.real-root.ensures))
+    (λ c. simp c.before.before.before.before.enum-told4.given.1 (by_mode (λ x. real_root x c.before.before.before.before.before.before.before.before.before.args.dst c.before.before.before.before.before.before.before.before.before.args.s1) c.before.before.before.before.before.before.is-stable.ensures c.before.before.real-root.ensures))
     (λ c. search rules)
-    (λ c. simp c.before.before.before.before.enum-told5.given.1 (byMode (λ x. recip x c.before.before.before.before.before.before.before.before.before.args.dst c.before.before.before.before.before.before.before.before.before.args.s1) c.before.before.before.before.before.before.is-stable.ensures c.before.before.recip.ensures))
+    (λ c. simp c.before.before.before.before.enum-told5.given.1 (by_mode (λ x. recip x c.before.before.before.before.before.before.before.before.before.args.dst c.before.before.before.before.before.before.before.before.before.args.s1) c.before.before.before.before.before.before.is-stable.ensures c.before.before.recip.ensures))
     (λ c. search rules)
     (λ c. simp c.before.before.before.before.before.enum-told6.given.1 (plainly c.before.before.before.real.ensures c.no-constants2.ensures))
     (λ c. search rules)

@@ -2,10 +2,10 @@
 use borrow.Author.Rules.{rules}
 use mathlib.Core.Path.{sym, ◌∙◌}
 use mathlib.Core.Bool.{true, false}
-use Rattle.lowering.specs.Lines.{absLines}
-use Rattle.lowering.specs.Complexifier.{absBy, abs}
+use Rattle.lowering.specs.Lines.{abs_lines}
+use Rattle.lowering.specs.Complexifier.{abs_by, abs}
 use Rattle.complexifier.specs.Does.{made}
-use Rattle.rerun.specs.Ends.{plainly, byFlag}
+use Rattle.rerun.specs.Ends.{plainly, by_flag}
 use Rattle.rerun.proofs.methods.abs.Statement.{statement}
 use Rattle.rerun.proofs.methods.abs.Tie as tie
 
@@ -15,9 +15,9 @@ abs-spec =
     tie.close
     (tie.spec
     (λ c κs. search rules) (λ c κs. search rules) (λ c κs. search rules) (λ c κs. search rules) (λ c. search rules)
-    (λ c. byFlag (λ x. absBy c.before.before.before.before.before.before.before.before.before.before.args.stable x c.before.before.before.before.before.before.before.before.before.before.args.dst c.before.before.before.before.before.before.before.before.before.before.args.s1) _ (sym c.before.before.before.before.before.before.if1.true ∙ c.before.before.before.before.before.before.before.is-real-reg.ensures) (plainly (made (absLines true _ _) _ true c.before.before.before.before.abs-lines.ensures c.before.set-reg-real.ensures) c.no-constants.ensures))
+    (λ c. by_flag (λ x. abs_by c.before.before.before.before.before.before.before.before.before.before.args.stable x c.before.before.before.before.before.before.before.before.before.before.args.dst c.before.before.before.before.before.before.before.before.before.before.args.s1) _ (sym c.before.before.before.before.before.before.if1.true ∙ c.before.before.before.before.before.before.before.is-real-reg.ensures) (plainly (made (abs_lines true _ _) _ true c.before.before.before.before.abs-lines.ensures c.before.set-reg-real.ensures) c.no-constants.ensures))
     (λ c κs. c.before.before.before.before.before.before.requires)
     (λ c. search rules)
-    (λ c. simp c.before.before.before.before.if2.true (byFlag (λ x. absBy true x c.before.before.before.before.before.before.before.before.before.args.dst c.before.before.before.before.before.before.before.before.before.args.s1) _ (sym c.before.before.before.before.before.if1.false ∙ c.before.before.before.before.before.before.is-real-reg.ensures) c.before.before.stable-abs.ensures))
+    (λ c. simp c.before.before.before.before.if2.true (by_flag (λ x. abs_by true x c.before.before.before.before.before.before.before.before.before.args.dst c.before.before.before.before.before.before.before.before.before.args.s1) _ (sym c.before.before.before.before.before.if1.false ∙ c.before.before.before.before.before.before.is-real-reg.ensures) c.before.before.stable-abs.ensures))
     (λ c κs. search rules) (λ c κs. search rules) (λ c κs. search rules) (λ c. search rules)
-    (λ c. simp c.before.before.before.before.before.before.if2.false (byFlag (λ x. absBy false x c.before.before.before.before.before.before.before.before.before.before.before.args.dst c.before.before.before.before.before.before.before.before.before.before.before.args.s1) _ (sym c.before.before.before.before.before.before.before.if1.false ∙ c.before.before.before.before.before.before.before.before.is-real-reg.ensures) (plainly (made (absLines false _ _) _ false c.before.before.before.before.abs-lines2.ensures c.before.set-reg-complex.ensures) c.no-constants2.ensures))))
+    (λ c. simp c.before.before.before.before.before.before.if2.false (by_flag (λ x. abs_by false x c.before.before.before.before.before.before.before.before.before.before.before.args.dst c.before.before.before.before.before.before.before.before.before.before.before.args.s1) _ (sym c.before.before.before.before.before.before.before.if1.false ∙ c.before.before.before.before.before.before.before.before.is-real-reg.ensures) (plainly (made (abs_lines false _ _) _ false c.before.before.before.before.abs-lines2.ensures c.before.set-reg-complex.ensures) c.no-constants2.ensures))))

@@ -1,12 +1,12 @@
 -- `sheet::reader::read_branch` meets its contract.
 use borrow.Author.Rules.{rules}
 use borrow.Author.Tests.{le-ltb, lt-ltb}
-use Rattle.sheet.specs.Instruction.{branchFrom}
+use Rattle.sheet.specs.Instruction.{branch_from}
 use Rattle.sheet.proofs.reader.read_branch.Statement.{statement}
 use Rattle.sheet.proofs.reader.read_branch.Tie as tie
 
 pub read-branch-spec : {M : Type 1} → statement M
-unfolding branchFrom
+unfolding branch_from
 read-branch-spec =
     tie.close
     (tie.spec

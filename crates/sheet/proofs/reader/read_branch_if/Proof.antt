@@ -1,12 +1,12 @@
 -- `sheet::reader::read_branch_if` meets its contract.
 use borrow.Author.Rules.{rules}
 use borrow.Author.Tests.{le-ltb, lt-ltb}
-use Rattle.sheet.specs.Instruction.{branchIfFrom}
+use Rattle.sheet.specs.Instruction.{branch_if_from}
 use Rattle.sheet.proofs.reader.read_branch_if.Statement.{statement}
 use Rattle.sheet.proofs.reader.read_branch_if.Tie as tie
 
 pub read-branch-if-spec : {M : Type 1} → statement M
-unfolding branchIfFrom
+unfolding branch_if_from
 read-branch-if-spec =
     tie.close
     (tie.spec

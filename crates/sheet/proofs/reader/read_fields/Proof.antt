@@ -4,12 +4,12 @@ use mathlib.Core.Bool.{false}
 use borrow.Author.Rules.{rules}
 use borrow.Author.Tests.{ne_eqb}
 use Rattle.kinds.proofs.Found.{uni-found, bi-found, fused-found}
-use Rattle.sheet.specs.Instruction.{fieldsFrom}
+use Rattle.sheet.specs.Instruction.{fields_from}
 use Rattle.sheet.proofs.reader.read_fields.Statement.{statement}
 use Rattle.sheet.proofs.reader.read_fields.Tie as tie
 
 pub read-fields-spec : {M : Type 1} → statement M
-unfolding fieldsFrom
+unfolding fields_from
 read-fields-spec =
     tie.close
     (tie.spec

@@ -1,11 +1,11 @@
 -- `sheet::reader::read_first` meets its contract.
 use borrow.Author.Rules.{rules}
-use Rattle.sheet.specs.Instruction.{instructionFrom}
+use Rattle.sheet.specs.Instruction.{instruction_from}
 use Rattle.sheet.proofs.reader.read_first.Statement.{statement}
 use Rattle.sheet.proofs.reader.read_first.Tie as tie
 
 pub read-first-spec : {M : Type 1} → statement M
-unfolding instructionFrom
+unfolding instruction_from
 read-first-spec =
     tie.close
     (tie.spec

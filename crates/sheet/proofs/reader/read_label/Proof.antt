@@ -1,12 +1,12 @@
 -- `sheet::reader::read_label` meets its contract.
 use borrow.Author.Rules.{rules}
 use borrow.Author.Tests.{le-ltb, lt-ltb}
-use Rattle.sheet.specs.Instruction.{labelFrom}
+use Rattle.sheet.specs.Instruction.{label_from}
 use Rattle.sheet.proofs.reader.read_label.Statement.{statement}
 use Rattle.sheet.proofs.reader.read_label.Tie as tie
 
 pub read-label-spec : {M : Type 1} → statement M
-unfolding labelFrom
+unfolding label_from
 read-label-spec =
     tie.close
     (tie.spec

@@ -1,12 +1,12 @@
 -- `sheet::reader::read_load_const_math` meets its contract.
 use borrow.Author.Rules.{rules}
 use borrow.Author.Tests.{le-leb, lt-leb}
-use Rattle.sheet.specs.Instruction.{loadConstMathFrom}
+use Rattle.sheet.specs.Instruction.{load_const_math_from}
 use Rattle.sheet.proofs.reader.read_load_const_math.Statement.{statement}
 use Rattle.sheet.proofs.reader.read_load_const_math.Tie as tie
 
 pub read-load-const-math-spec : {M : Type 1} → statement M
-unfolding loadConstMathFrom
+unfolding load_const_math_from
 read-load-const-math-spec =
     tie.close
     (tie.spec

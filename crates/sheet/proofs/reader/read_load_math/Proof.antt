@@ -1,11 +1,11 @@
 -- `sheet::reader::read_load_math` meets its contract.
 use borrow.Author.Rules.{rules}
-use Rattle.sheet.specs.Instruction.{loadMathFrom}
+use Rattle.sheet.specs.Instruction.{load_math_from}
 use Rattle.sheet.proofs.reader.read_load_math.Statement.{statement}
 use Rattle.sheet.proofs.reader.read_load_math.Tie as tie
 
 pub read-load-math-spec : {M : Type 1} → statement M
-unfolding loadMathFrom
+unfolding load_math_from
 read-load-math-spec =
     tie.close
     (tie.spec

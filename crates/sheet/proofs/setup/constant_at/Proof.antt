@@ -4,12 +4,12 @@ use Prim.Native.Nat.{◌+◌, ◌*◌}
 use native.Mathlib.Omega.{arith}
 use mathlib.Core.Path.{sym}
 use Rattle.words.proofs.Padding.{past}
-use Rattle.sheet.specs.Setup.{constantAt}
+use Rattle.sheet.specs.Setup.{constant_at}
 use Rattle.sheet.proofs.setup.constant_at.Statement.{statement}
 use Rattle.sheet.proofs.setup.constant_at.Tie as tie
 
 pub constant-at-spec : {M : Type 1} → statement M
-unfolding constantAt
+unfolding constant_at
 constant-at-spec =
     tie.close
     (tie.spec

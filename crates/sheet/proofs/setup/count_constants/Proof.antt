@@ -3,13 +3,13 @@ use borrow.Author.Rules.{rules}
 use Prim.Native.Nat.{◌≤◌, ◌-◌}
 use mathlib.Core.Path.{◌≡◌, sym, ◌∙◌}
 use lib.ListN.{length}
-use Rattle.sheet.specs.Setup.{constantsFrom}
+use Rattle.sheet.specs.Setup.{constants_from}
 use Rattle.sheet.proofs.Counting.{left, plus_none, left_ended, left-full, left-broken, left-more, whole}
 use Rattle.sheet.proofs.setup.count_constants.Statement.{statement}
 use Rattle.sheet.proofs.setup.count_constants.Tie as tie
 
 abbrev invariant-loop : tie.invariant-loop
-invariant-loop s n₀ at₀ n at = (n ≤ 251) × (at ≤ length s) × (left s n at ≡ constantsFrom 251 s)
+invariant-loop s n₀ at₀ n at = (n ≤ 251) × (at ≤ length s) × (left s n at ≡ constants_from 251 s)
 
 abbrev decreases-loop : tie.decreases-loop
 decreases-loop s n₀ at₀ n at = 251 - n
@@ -20,7 +20,7 @@ count-constants-spec =
     (tie.spec
     invariant-loop
     decreases-loop
-    (λ c. (search rules, search rules, plus_none (constantsFrom 251 c.before.args.s.now)))
+    (λ c. (search rules, search rules, plus_none (constants_from 251 c.before.args.s.now)))
     (λ c. search rules) (λ c. search rules) (λ c. search rules) (λ c κs. search rules) (λ c κs. search rules)
     (λ c. let s = c.before.before.before.before.before.before.before.before.args.s.now in
     let l = c.before.before.before.before.before.before.loop in

@@ -5,7 +5,7 @@ use native.Mathlib.Omega.{arith}
 use mathlib.Core.Path.{◌∙◌}
 use lib.ListN.{length, drop, length-drop}
 use lib.Seq.{length-take-le}
-use Rattle.words.proofs.Stored.{stored-whole}
+use Rattle.words.proofs.Stored.{stored_whole}
 use Rattle.sheet.proofs.setup.places_of.Statement.{statement}
 use Rattle.sheet.proofs.setup.places_of.Tie as tie
 
@@ -14,4 +14,4 @@ places-of-spec =
     tie.close
     (tie.spec
     (λ c. search rules) (λ c. search rules) (λ c. search rules) (λ c. search rules) (λ c κs. search rules)
-    (λ c. let s = c.before.before.before.before.before.args.sheet.now in let h : 64 ≤ length (drop 5 s) = simp length-drop (omega arith) in c.before.put-bytes.ensures ∙ stored-whole _ _ (length-take-le 64 (drop 5 s) h)))
+    (λ c. let s = c.before.before.before.before.before.args.sheet.now in let h : 64 ≤ length (drop 5 s) = simp length-drop (omega arith) in c.before.put-bytes.ensures ∙ stored_whole _ _ (length-take-le 64 (drop 5 s) h)))

@@ -2,12 +2,12 @@
 use borrow.Author.Rules.{rules}
 use borrow.Author.Tests.{eq-eqb, le-ltb, lt-ltb, ne_eqb}
 use mathlib.Core.Path.{◌∙◌}
-use Rattle.sheet.specs.Setup.{headerFrom}
+use Rattle.sheet.specs.Setup.{header_from}
 use Rattle.sheet.proofs.setup.read_header.Statement.{statement}
 use Rattle.sheet.proofs.setup.read_header.Tie as tie
 
 pub read-header-spec : {M : Type 1} → statement M
-unfolding headerFrom
+unfolding header_from
 read-header-spec =
     tie.close
     (tie.spec

@@ -1,12 +1,12 @@
 -- `case::all_bytes` meets its contract. Assumes nothing.
 use borrow.Author.Rules.{rules}
 use mathlib.Core.Path.{refl}
-use Rattle.sheet_replay.specs.Case.{lentBytes}
+use Rattle.sheet_replay.specs.Case.{lent_bytes}
 use Rattle.sheet_replay.proofs.case.all_bytes.Statement.{statement}
 use Rattle.sheet_replay.proofs.case.all_bytes.Tie as tie
 
 pub all-bytes-spec : {M : Type 1} → statement M
-unfolding lentBytes
+unfolding lent_bytes
 all-bytes-spec =
     tie.close
     (tie.spec

@@ -1,13 +1,13 @@
 -- `case::numbers_agree` meets its contract: number, index, bytes written, then the count of constants. Assumes nothing.
 use borrow.Author.Rules.{rules}
 use borrow.Author.Tests.{eq-eqb, ne_eqb}
-use Rattle.sheet_replay.specs.Case.{numbersAgree}
+use Rattle.sheet_replay.specs.Case.{numbers_agree}
 use Rattle.sheet_replay.proofs.Judging.{count-decides}
 use Rattle.sheet_replay.proofs.case.numbers_agree.Statement.{statement}
 use Rattle.sheet_replay.proofs.case.numbers_agree.Tie as tie
 
 pub numbers-agree-spec : {M : Type 1} → statement M
-unfolding numbersAgree
+unfolding numbers_agree
 numbers-agree-spec =
     tie.close
     (tie.spec

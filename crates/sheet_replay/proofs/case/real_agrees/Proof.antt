@@ -1,11 +1,11 @@
 -- `case::real_agrees` meets its contract. Assumes nothing.
 use borrow.Author.Rules.{rules}
-use Rattle.sheet_replay.specs.Case.{realAgrees}
+use Rattle.sheet_replay.specs.Case.{real_agrees}
 use Rattle.sheet_replay.proofs.case.real_agrees.Statement.{statement}
 use Rattle.sheet_replay.proofs.case.real_agrees.Tie as tie
 
 pub real-agrees-spec : {M : Type 1} → statement M
-unfolding realAgrees
+unfolding real_agrees
 real-agrees-spec =
     tie.close
     (tie.spec

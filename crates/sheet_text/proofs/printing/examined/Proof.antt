@@ -5,7 +5,7 @@ use Prim.Native.Nat.{◌-◌}
 use mathlib.Core.Path.{refl}
 use lib.ListN.{length}
 use Rattle.mir.proofs.Decoding.{ended}
-use Rattle.sheet.specs.Instruction.{instructionFrom}
+use Rattle.sheet.specs.Instruction.{instruction_from}
 use Rattle.sheet.proofs.Limit.{still, on-done, on-end, on-full}
 use Rattle.sheet.proofs.Reading.{here-instruction, torn-instruction}
 use Rattle.sheet_text.proofs.Turns.{Counted, counts-on, counts_end}
@@ -49,4 +49,4 @@ examined-spec =
     (λ c.
     let a = c.before.before.before.args in
     let l = c.before.loop in
-    counts_end l.invariant (on-end a.count a.sheet.now l.at l.n (ended (instructionFrom a.count) a.sheet.now l.at (omega arith)))))
+    counts_end l.invariant (on-end a.count a.sheet.now l.at l.n (ended (instruction_from a.count) a.sheet.now l.at (omega arith)))))

@@ -4,9 +4,9 @@ use native.Mathlib.Omega.{arith}
 use Prim.Native.Nat.{◌+◌, ◌-◌, ◌*◌, ◌≤◌}
 use mathlib.Core.Path.{◌≡◌, ap, subst}
 use lib.ListN.{length}
-use Rattle.sheet.specs.Setup.{constantsOf, constantsFromOn}
-use Rattle.assembly.specs.SheetText.{constantLines}
-use Rattle.assembly.specs.Lines.{constantLine}
+use Rattle.sheet.specs.Setup.{constants_of, constants_from_on}
+use Rattle.assembly.specs.SheetText.{constant_lines}
+use Rattle.assembly.specs.Lines.{constant_line}
 use Rattle.text.proofs.Putting.{long, line-put, renamed, Owes, all, less, none}
 use Rattle.sheet_text.proofs.Turns.{constants-on, constants-end}
 use Rattle.sheet_text.proofs.printing.put_constants.Statement.{statement}
@@ -15,7 +15,7 @@ use Rattle.sheet_text.proofs.printing.put_constants.Tie as tie
 abbrev invariant-loop : tie.invariant-loop
 invariant-loop out₀ start sheet count at₀ i₀ out at i =
     (i ≤ count) × (at ≤ start + 80 * i) × (start + 80 * count ≤ length out)
-    × Owes out₀ start (constantLines (constantsOf sheet count)) out at (constantLines (constantsFromOn sheet (count - i) i))
+    × Owes out₀ start (constant_lines (constants_of sheet count)) out at (constant_lines (constants_from_on sheet (count - i) i))
 
 abbrev decreases-loop : tie.decreases-loop
 decreases-loop out₀ start sheet count at₀ i₀ out at i = count - i
@@ -31,7 +31,7 @@ put-constants-spec =
       omega arith,
       omega arith,
       omega arith,
-      subst (λ n. Owes a.out.now a.start (constantLines (constantsOf a.sheet.now a.count)) a.out.now a.start (constantLines (constantsFromOn a.sheet.now n 0))) e (all (omega arith)),
+      subst (λ n. Owes a.out.now a.start (constant_lines (constants_of a.sheet.now a.count)) a.out.now a.start (constant_lines (constants_from_on a.sheet.now n 0))) e (all (omega arith)),
     ))
     (λ c κs. search rules) (λ c κs. search rules) (λ c κs. search rules) (λ c. search rules) (λ c. search rules)
     (λ c.
@@ -45,7 +45,7 @@ put-constants-spec =
     let near = l.invariant.1 in
     let room = l.invariant.2 in
     let q = line-put p (omega (arith, f, near, room, more)) c.before.before.put-line.ensures in
-    let q' = renamed (ap constantLine word) q in
+    let q' = renamed (ap constant_line word) q in
     let g = long q in
     let k = q.ends in
     (omega (arith, more), omega (arith, n, f, k, near), omega (arith, g, room), less l.invariant.3 (constants-on a.sheet.now a.count l.i more) q'))

@@ -5,14 +5,14 @@ use Prim.Native.Nat.{◌+◌, ◌-◌, ◌*◌, ◌≤◌}
 use lib.ListN.{length, drop}
 use Rattle.sheet.proofs.Reading.{here-instruction}
 use Rattle.text.proofs.Putting.{long, line-put, Owes, all, less, none}
-use Rattle.sheet_text.proofs.Turns.{linesOn, instructions-on, instructions-torn, instructions-all}
+use Rattle.sheet_text.proofs.Turns.{lines_on, instructions-on, instructions-torn, instructions-all}
 use Rattle.sheet_text.proofs.printing.put_instructions.Statement.{statement}
 use Rattle.sheet_text.proofs.printing.put_instructions.Tie as tie
 
 abbrev invariant-loop : tie.invariant-loop
 invariant-loop out₀ start sheet first count at₀ from₀ n₀ out at from n =
     (at + 80 * (612 - n) ≤ length out)
-    × Owes out₀ start (linesOn 0 count (drop first sheet)) out at (linesOn n count (drop from sheet))
+    × Owes out₀ start (lines_on 0 count (drop first sheet)) out at (lines_on n count (drop from sheet))
 
 abbrev decreases-loop : tie.decreases-loop
 decreases-loop out₀ start sheet first count at₀ from₀ n₀ out at from n = 612 - n

@@ -4,18 +4,18 @@ use native.Mathlib.Omega.{arith}
 use Prim.Native.Nat.{◌+◌, ◌-◌, ◌*◌, ◌≤◌}
 use mathlib.Core.Path.{ap}
 use lib.ListN.{length}
-use Rattle.assembly.specs.SheetText.{realLines}
+use Rattle.assembly.specs.SheetText.{real_lines}
 use Rattle.text.proofs.Putting.{long, line-put, renamed, Owes, all, less, none}
 use Rattle.sheet_text.proofs.Turns.{reals-on, reals-end}
 use mathlib.Core.Bool.{cond}
 use mathlib.Core.List.{[]}
-use Rattle.assembly.specs.Lines.{realLine}
+use Rattle.assembly.specs.Lines.{real_line}
 use Rattle.sheet_text.proofs.printing.put_reals.Statement.{statement}
 use Rattle.sheet_text.proofs.printing.put_reals.Tie as tie
 
 abbrev invariant-loop : tie.invariant-loop
 invariant-loop out₀ start places at₀ i₀ out at i =
-    (i ≤ 512) × (at ≤ start + 80 * i) × (start + 40960 ≤ length out) × Owes out₀ start (realLines places 512 0) out at (realLines places (512 - i) i)
+    (i ≤ 512) × (at ≤ start + 80 * i) × (start + 40960 ≤ length out) × Owes out₀ start (real_lines places 512 0) out at (real_lines places (512 - i) i)
 
 abbrev decreases-loop : tie.decreases-loop
 decreases-loop out₀ start places at₀ i₀ out at i = 512 - i
@@ -38,7 +38,7 @@ put-reals-spec =
     let near = l.invariant.1 in
     let room = l.invariant.2 in
     let q = line-put p (omega (arith, f, near, room, more)) c.before.before.put-line.ensures in
-    let q' = renamed (ap (λ b. cond b (realLine l.i) []) bit) q in
+    let q' = renamed (ap (λ b. cond b (real_line l.i) []) bit) q in
     let g = long q in
     let k = q.ends in
     (omega (arith, more), omega (arith, n, f, k, near), omega (arith, g, room), less l.invariant.3 (reals-on a.places l.i more) q'))

@@ -1,16 +1,16 @@
 -- `text::lines::constants_heading` meets its contract.
 use borrow.Author.Rules.{rules}
 use Rattle.text.specs.Line.{◌▹◌}
-use Rattle.text.specs.Text.{ascii, constantsHeading}
-use Rattle.text.proofs.Short.{constants-heading-short}
+use Rattle.text.specs.Text.{ascii, constants_heading}
+use Rattle.text.proofs.Short.{constants_heading_short}
 use Rattle.text.proofs.Whole.{prints}
 use Rattle.text.proofs.lines.constants_heading.Statement.{statement}
 use Rattle.text.proofs.lines.constants_heading.Tie as tie
 
 pub constants-heading-spec : {M : Type 1} → statement M
-unfolding ascii constantsHeading
+unfolding ascii constants_heading
 constants-heading-spec =
     tie.close
     (tie.spec
     (λ c κs. search rules) (λ c. search rules) (λ c κs. search rules) (λ c κs. search rules) (λ c κs. search rules)
-    (λ c. prints c.before.before.before.before.empty-line.ensures (c.before.before.text.ensures ▹ c.before.number.ensures ▹ c.byte.ensures) (constants-heading-short c.before.before.before.before.before.args.count)))
+    (λ c. prints c.before.before.before.before.empty-line.ensures (c.before.before.text.ensures ▹ c.before.number.ensures ▹ c.byte.ensures) (constants_heading_short c.before.before.before.before.before.args.count)))

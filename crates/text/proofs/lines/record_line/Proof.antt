@@ -2,14 +2,14 @@
 use borrow.Author.Rules.{rules}
 use native.Mathlib.Omega.{arith}
 use Rattle.text.specs.Line.{◌▹◌}
-use Rattle.text.specs.Text.{recordText, recordLine}
-use Rattle.text.proofs.Short.{record-short, record-line-short}
+use Rattle.text.specs.Text.{record_text, record_line}
+use Rattle.text.proofs.Short.{record_short, record_line_short}
 use Rattle.text.proofs.Whole.{prints}
 use Rattle.text.proofs.lines.record_line.Statement.{statement}
 use Rattle.text.proofs.lines.record_line.Tie as tie
 
 pub record-line-spec : {M : Type 1} → statement M
-unfolding recordLine recordText
+unfolding record_line record_text
 record-line-spec =
     tie.close
     (tie.spec
@@ -19,7 +19,7 @@ record-line-spec =
     let h = c.before.record-operands.ensures.1 in
     let p = prints c.before.before.before.before.empty-line.ensures
     (c.before.before.before.record-name.ensures ▹ (c.before.before.byte.ensures ▹ c.before.record-operands.ensures.0) ▹ c.byte2.ensures)
-    (record-short r h) in
+    (record_short r h) in
     let k = p.whole.count in
-    let l = record-line-short r h in
+    let l = record_line_short r h in
     (p, omega (arith, k, l))))

@@ -4,7 +4,7 @@ use native.Mathlib.Omega.{arith}
 use Prim.Native.Nat.{◌+◌}
 use mathlib.Core.Path.{ap, ◌∙◌}
 use mathlib.Core.Bool.{◌||◌}
-use Rattle.tidy.specs.Looking.{lookOn}
+use Rattle.tidy.specs.Looking.{look_on}
 use Rattle.tidy.proofs.entry.look.Statement.{statement}
 use Rattle.tidy.proofs.entry.look.Tie as tie
 
@@ -17,4 +17,4 @@ look_spec =
     (λ c κs. c.before.before.before.before.before.before.requires.0.rooted)
     (λ c κs. search rules)
     (λ c κs. c.before.before.before.before.before.before.before.before.requires.0.rootless)
-    (λ c. let k = c.before.before.before.before.before.before.before.before.before.args.kept in λ j. record { bytes = k.bytes + c.before.before.before.before.before.before.before.before.before.args.size; roots = (c.before.before.before.before.either.ensures ∙ ap (λ x. k.roots || x) c.before.before.before.before.before.has-root.ensures) j; rooted = (c.before.before.look-on.ensures ∙ ap (lookOn k.rooted) c.before.before.before.untidy.ensures) j; rootless = (c.look-on2.ensures ∙ ap (lookOn k.rootless) c.before.untidy2.ensures) j }))
+    (λ c. let k = c.before.before.before.before.before.before.before.before.before.args.kept in λ j. record { bytes = k.bytes + c.before.before.before.before.before.before.before.before.before.args.size; roots = (c.before.before.before.before.Either.ensures ∙ ap (λ x. k.roots || x) c.before.before.before.before.before.has-root.ensures) j; rooted = (c.before.before.look-on.ensures ∙ ap (look_on k.rooted) c.before.before.before.untidy.ensures) j; rootless = (c.look-on2.ensures ∙ ap (look_on k.rootless) c.before.untidy2.ensures) j }))

@@ -5,10 +5,10 @@ use Prim.Native.Nat.{◌-◌}
 use mathlib.Core.Path.{◌≡◌, refl, sym, ◌∙◌}
 use lib.ListN.{length}
 use Rattle.mir.proofs.Decoding.{ended}
-use Rattle.sheet.specs.Instruction.{instructionFrom}
+use Rattle.sheet.specs.Instruction.{instruction_from}
 use Rattle.sheet.proofs.Limit.{still}
-use Rattle.complexify.proofs.Turns.{turn-beyond, turn-halted, turn-taken}
-use Rattle.tidy.proofs.Tidying.{Tidies, tidies-first, low, room-left, tidies-next, tidy-refused, tidy-ended}
+use Rattle.complexify.proofs.Turns.{turn_beyond, turn-halted, turn-taken}
+use Rattle.tidy.proofs.Tidying.{Tidies, tidies_first, low, room-left, tidies-next, tidy-refused, tidy-ended}
 use Rattle.tidy.proofs.entry.run.Statement.{statement}
 use Rattle.tidy.proofs.entry.run.Tie as tie
 
@@ -29,9 +29,9 @@ run_spec =
     invariant-loop
     decreases-loop
     (λ c κs. search rules)
-    (λ c. let p = c.before.before.before.before.before.requires in (tidies-first p.0 p.1 c.before-any.ensures, refl, refl, refl))
+    (λ c. let p = c.before.before.before.before.before.requires in (tidies_first p.0 p.1 c.before-any.ensures, refl, refl, refl))
     (λ c κs. search rules) (λ c. search rules) (λ c. search rules) (λ c. search rules)
-    (λ c. let v = c.before.before.before.before.before.loop.invariant in tidy-refused v.0 (turn-beyond v.0.0.ready c.before.if2.true c.before.before.before.if1.true) refl c.tidiness-at.ensures)
+    (λ c. let v = c.before.before.before.before.before.loop.invariant in tidy-refused v.0 (turn_beyond v.0.0.ready c.before.if2.true c.before.before.before.if1.true) refl c.tidiness-at.ensures)
     (λ c κs. search rules) (λ c κs. search rules) (λ c. search rules) (λ c. search rules) (λ c. search rules)
     (λ c. let v = c.before.before.before.before.before.before.before.before.before.before.before.before.before.before.before.loop.invariant in tidy-refused v.0 (turn-halted v.0.0.ready (still c.before.before.before.before.before.before.before.before.before.before.before.before.before.before.before.loop.invariant.0.0.ready.index c.before.before.before.before.before.before.before.before.before.before.before.if2.false) c.before.before.before.before.before.before.pass-at.ensures c.before.if3.true) refl c.tidiness-at2.ensures)
     (λ c. c.before.before.before.before.before.before.before.before.before.before.before.before.before.before.before.loop.invariant.0.1.bytes)
@@ -46,4 +46,4 @@ run_spec =
     (λ c. let h = ((turn-taken c.before.before.before.before.before.before.before.before.before.before.before.before.before.before.before.before.before.before.before.before.before.before.before.before.before.before.before.loop.invariant.0.0.ready (still c.before.before.before.before.before.before.before.before.before.before.before.before.before.before.before.before.before.before.before.before.before.before.before.before.before.before.before.loop.invariant.0.0.ready.index c.before.before.before.before.before.before.before.before.before.before.before.before.before.before.before.before.before.before.before.before.before.before.before.if2.false) c.before.before.before.before.before.before.before.before.before.before.before.before.before.before.before.before.before.before.pass-at.ensures c.before.before.before.before.before.before.before.before.before.before.before.before.before.before.before.before.before.before.before.before.before.before.before.before.before.if1.true c.before.before.before.before.before.before.before.before.before.before.before.before.before.if3.false c.before.before.before.before.before.before.before.before.before.one.ensures).here c.before.before.before.before.before.if4.false).on in let i = c.before.before.before.before.before.before.before.before.before.before.before.before.before.before.before.before.before.before.before.before.before.before.before.before.before.if1.true in omega (arith, h, i))
     (λ c. let v = c.before.before.before.before.before.before.before.before.before.before.before.before.before.before.before.before.before.before.before.before.before.before.before.before.before.before.before.loop.invariant in let m = c.before.before.before.before.before.before.before.before.before.before.before.before.before.before.before.before.before.before.pass-at.auto.1.1.1 in let k = c.before.before.before.before.before.before.before.before.before.one.auto.1.1.1.1.1.1.1 in (tidies-next v.0 (turn-taken c.before.before.before.before.before.before.before.before.before.before.before.before.before.before.before.before.before.before.before.before.before.before.before.before.before.before.before.loop.invariant.0.0.ready (still c.before.before.before.before.before.before.before.before.before.before.before.before.before.before.before.before.before.before.before.before.before.before.before.before.before.before.before.loop.invariant.0.0.ready.index c.before.before.before.before.before.before.before.before.before.before.before.before.before.before.before.before.before.before.before.before.before.before.before.if2.false) c.before.before.before.before.before.before.before.before.before.before.before.before.before.before.before.before.before.before.pass-at.ensures c.before.before.before.before.before.before.before.before.before.before.before.before.before.before.before.before.before.before.before.before.before.before.before.before.before.if1.true c.before.before.before.before.before.before.before.before.before.before.before.before.before.if3.false c.before.before.before.before.before.before.before.before.before.one.ensures) k.0 (still c.before.before.before.before.before.before.before.before.before.before.before.before.before.before.before.before.before.before.before.before.before.before.before.before.before.before.before.loop.invariant.0.0.ready.index c.before.before.before.before.before.before.before.before.before.before.before.before.before.before.before.before.before.before.before.before.before.before.before.if2.false) c.before.before.before.before.before.if4.false c.before.before.before.before.look.ensures, m.0 ∙ v.1, m.1.0 ∙ v.2, k.1.0 ∙ v.3))
     (λ c κs. search rules) (λ c. search rules) (λ c. search rules) (λ c. search rules)
-    (λ c. let v = c.before.before.before.loop.invariant in let a = c.before.before.before.before.before.before.before.before.before.args in tidy-ended v.0 (ended (instructionFrom a.own) a.sheet.now c.before.before.before.loop.p.at c.before.if1.false) c.tidiness-at4.ensures))
+    (λ c. let v = c.before.before.before.loop.invariant in let a = c.before.before.before.before.before.before.before.before.before.args in tidy-ended v.0 (ended (instruction_from a.own) a.sheet.now c.before.before.before.loop.p.at c.before.if1.false) c.tidiness-at4.ensures))

@@ -1,13 +1,13 @@
 -- `call::tulipcricket_unprint_unguarded` meets its contract.
 use borrow.Author.Rules.{rules}
 use borrow.Author.Tests.{ne_eqb}
-use Rattle.unprint.specs.Call.{unprintCall}
+use Rattle.unprint.specs.Call.{unprint_call}
 use Rattle.unprint.proofs.Calls.{called}
 use Rattle.unprint.proofs.call.tulipcricket_unprint_unguarded.Statement.{statement}
 use Rattle.unprint.proofs.call.tulipcricket_unprint_unguarded.Tie as tie
 
 pub tulipcricket-unprint-unguarded-spec : {M : Type 1} → statement M
-unfolding unprintCall
+unfolding unprint_call
 tulipcricket-unprint-unguarded-spec =
     tie.close
     (tie.spec

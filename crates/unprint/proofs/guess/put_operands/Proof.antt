@@ -5,10 +5,10 @@ use mathlib.Core.Path.{◌≡◌, refl, sym, ap, ◌∙◌}
 use Prim.Native.Nat.{◌+◌, ◌-◌, ◌≤◌}
 use mathlib.Core.List.{map}
 use lib.ListN.{length, drop}
-use Rattle.text.specs.Line.{addAll}
-use Rattle.assembly.proofs.Cutting.{ends-within}
+use Rattle.text.specs.Line.{add_all}
+use Rattle.assembly.proofs.Cutting.{ends_within}
 use Rattle.unprint.specs.Guess.{operands}
-use Rattle.unprint.specs.Standing.{sortOf}
+use Rattle.unprint.specs.Standing.{sort_of}
 use Rattle.unprint.proofs.Guessing.{all-put, one-put}
 use Rattle.unprint.proofs.guess.put_operands.Statement.{statement}
 use Rattle.unprint.proofs.guess.put_operands.Tie as tie
@@ -16,7 +16,7 @@ use Rattle.unprint.proofs.guess.put_operands.Tie as tie
 abbrev invariant-loop : tie.invariant-loop
 invariant-loop sorts t from line₀ at₀ k₀ line at k =
     (k ≤ length sorts) × (at ≤ length t)
-    × (addAll line (operands (map sortOf (drop k sorts)) (drop at t)) ≡ addAll line₀ (operands (map sortOf sorts) (drop from t)))
+    × (add_all line (operands (map sort_of (drop k sorts)) (drop at t)) ≡ add_all line₀ (operands (map sort_of sorts) (drop from t)))
 
 abbrev decreases-loop : tie.decreases-loop
 decreases-loop sorts t from line₀ at₀ k₀ line at k = length sorts - k
@@ -28,14 +28,14 @@ put-operands-spec =
     invariant-loop
     decreases-loop
     (λ c κs. search rules)
-    (λ c. let a = c.before.before.before.args in (omega arith, c.within.ensures.0, ap (λ s. addAll a.start (operands (map sortOf a.sorts.now) s)) c.within.ensures.1))
+    (λ c. let a = c.before.before.before.args in (omega arith, c.within.ensures.0, ap (λ s. add_all a.start (operands (map sort_of a.sorts.now) s)) c.within.ensures.1))
     (λ c κs. search rules)
     (λ c. search rules)
-    (λ c. let k = ends-within 32 c.before.before.before.before.before.before.before.args.t.now c.before.before.before.loop.at c.before.piece-end.result c.before.before.before.loop.invariant.1 c.before.piece-end.ensures in omega (arith, k))
-    (λ c. let k = ends-within 32 c.before.before.before.before.before.before.before.args.t.now c.before.before.before.loop.at c.before.piece-end.result c.before.before.before.loop.invariant.1 c.before.piece-end.ensures in omega (arith, k))
-    (λ c. let k = ends-within 32 c.before.before.before.before.before.before.before.args.t.now c.before.before.before.loop.at c.before.piece-end.result c.before.before.before.loop.invariant.1 c.before.piece-end.ensures in omega (arith, k))
+    (λ c. let k = ends_within 32 c.before.before.before.before.before.before.before.args.t.now c.before.before.before.loop.at c.before.piece-end.result c.before.before.before.loop.invariant.1 c.before.piece-end.ensures in omega (arith, k))
+    (λ c. let k = ends_within 32 c.before.before.before.before.before.before.before.args.t.now c.before.before.before.loop.at c.before.piece-end.result c.before.before.before.loop.invariant.1 c.before.piece-end.ensures in omega (arith, k))
+    (λ c. let k = ends_within 32 c.before.before.before.before.before.before.before.args.t.now c.before.before.before.loop.at c.before.piece-end.result c.before.before.before.loop.invariant.1 c.before.piece-end.ensures in omega (arith, k))
     (λ c κs. search rules)
-    (λ c. let k = ends-within 32 c.before.before.before.before.before.before.before.before.before.args.t.now c.before.before.before.before.before.loop.at c.before.before.before.piece-end.result c.before.before.before.before.before.loop.invariant.1 c.before.before.before.piece-end.ensures in omega (arith, k))
+    (λ c. let k = ends_within 32 c.before.before.before.before.before.before.before.before.before.args.t.now c.before.before.before.before.before.loop.at c.before.before.before.piece-end.result c.before.before.before.before.before.loop.invariant.1 c.before.before.before.piece-end.ensures in omega (arith, k))
     (λ c κs. search rules)
     (λ c. omega arith)
     (λ c. omega arith)

@@ -5,8 +5,8 @@ use mathlib.Core.Path.{◌≡◌, refl, sym, ap, ◌∙◌}
 use native.Mathlib.Nat.{sub-zero}
 use lib.ListN.{take}
 use Rattle.unprint.specs.Unprinted.{stepped}
-use Rattle.unprint.specs.Standing.{draftOf}
-use Rattle.unprint.proofs.Growing.{makes-as}
+use Rattle.unprint.specs.Standing.{draft_of}
+use Rattle.unprint.proofs.Growing.{makes_as}
 use Rattle.unprint.proofs.rows.with_fed.Statement.{statement}
 use Rattle.unprint.proofs.rows.with_fed.Tie as tie
 
@@ -20,4 +20,4 @@ with-fed-spec =
     (λ c. let k = c.before.typed-end.ensures.0 in omega (arith, k))
     (λ c κs. c.before.before.before.before.before.requires)
     (λ c. search rules)
-    (λ c. makes-as (ap (stepped (draftOf c.before.before.before.before.before.before.before.before.args.s c.before.before.before.before.before.before.before.before.args.out.now)) (ap (λ n. take n c.before.before.before.before.before.before.before.before.args.l.now) (sub-zero c.before.before.before.before.before.typed-end.result) ∙ c.before.before.before.before.before.typed-end.ensures.1)) c.before.before.step.ensures))
+    (λ c. makes_as (ap (stepped (draft_of c.before.before.before.before.before.before.before.before.args.s c.before.before.before.before.before.before.before.before.args.out.now)) (ap (λ n. take n c.before.before.before.before.before.before.before.before.args.l.now) (sub-zero c.before.before.before.before.before.typed-end.result) ∙ c.before.before.before.before.before.typed-end.ensures.1)) c.before.before.step.ensures))

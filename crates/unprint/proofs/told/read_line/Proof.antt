@@ -3,13 +3,13 @@ use borrow.Author.Rules.{rules}
 use Rattle.text.specs.Line.{◌▹◌}
 use Rattle.text.specs.Text.{ascii}
 use Rattle.text.proofs.Whole.{prints}
-use Rattle.unprint.specs.Told.{readLine}
+use Rattle.unprint.specs.Told.{read_line}
 use Rattle.unprint.proofs.Brief.{read_short}
 use Rattle.unprint.proofs.told.read_line.Statement.{statement}
 use Rattle.unprint.proofs.told.read_line.Tie as tie
 
 pub read-line-spec : {M : Type 1} → statement M
-unfolding ascii readLine
+unfolding ascii read_line
 read-line-spec =
     tie.close
     (tie.spec

@@ -3,13 +3,13 @@ use borrow.Author.Rules.{rules}
 use Rattle.text.specs.Line.{◌▹◌}
 use Rattle.text.specs.Text.{ascii}
 use Rattle.text.proofs.Whole.{prints}
-use Rattle.unprint.specs.Told.{refusedLine}
-use Rattle.unprint.proofs.Brief.{refused-short}
+use Rattle.unprint.specs.Told.{refused_line}
+use Rattle.unprint.proofs.Brief.{refused_short}
 use Rattle.unprint.proofs.told.refused_line.Statement.{statement}
 use Rattle.unprint.proofs.told.refused_line.Tie as tie
 
 pub refused-line-spec : {M : Type 1} → statement M
-unfolding ascii refusedLine
+unfolding ascii refused_line
 refused-line-spec =
     tie.close
     (tie.spec
@@ -18,4 +18,4 @@ refused-line-spec =
     (λ c.
     let d = c.before.before.before.before.before.before in
     let a = d.before.args in
-    prints d.empty-line.ensures (c.before.before.before.before.text.ensures ▹ c.before.before.before.number.ensures ▹ c.before.before.number2.ensures ▹ c.before.number3.ensures ▹ c.byte.ensures) (refused-short a.page a.line a.column)))
+    prints d.empty-line.ensures (c.before.before.before.before.text.ensures ▹ c.before.before.before.number.ensures ▹ c.before.before.number2.ensures ▹ c.before.number3.ensures ▹ c.byte.ensures) (refused_short a.page a.line a.column)))

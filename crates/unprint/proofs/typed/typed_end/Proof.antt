@@ -1,7 +1,7 @@
 -- `typed::typed_end` meets its contract.
 use borrow.Author.Rules.{rules}
 use native.Mathlib.Omega.{arith}
-use Rattle.unprint.proofs.Differing.{no_bytes, returned, not-returned}
+use Rattle.unprint.proofs.Differing.{no_bytes, returned, not_returned}
 use Rattle.unprint.proofs.typed.typed_end.Statement.{statement}
 use Rattle.unprint.proofs.typed.typed_end.Tie as tie
 
@@ -14,4 +14,4 @@ typed-end-spec =
     (λ c. search rules)
     (λ c. search rules)
     (λ c. (omega arith, returned c.before.before.before.args.l.now c.if2.true))
-    (λ c. (omega arith, not-returned c.before.before.before.args.l.now c.if2.false)))
+    (λ c. (omega arith, not_returned c.before.before.before.args.l.now c.if2.false)))

@@ -1,6 +1,6 @@
 -- `abs2` meets its contract.
 use borrow.Author.Rules.{rules}
-use Rattle.lowering.specs.Lines.{abs2Lines}
+use Rattle.lowering.specs.Lines.{abs2_lines}
 use Rattle.lowering.specs.Complexifier.{copied}
 use Rattle.complexifier.specs.Does.{made₁}
 use Rattle.complexifier.proofs.state.Complexifier.abs2.Statement.{statement}
@@ -11,4 +11,4 @@ abs2-spec =
     tie.close
     (tie.spec
     (λ c κs. search rules) (λ c κs. search rules) (λ c κs. search rules) (λ c. search rules)
-    (λ c. made₁ abs2Lines copied _ _ c.before.before.before.before.before.is-real-reg.ensures c.before.before.before.abs2-lines.ensures c.copy-real.ensures))
+    (λ c. made₁ abs2_lines copied _ _ c.before.before.before.before.before.is-real-reg.ensures c.before.before.before.abs2-lines.ensures c.copy-real.ensures))

@@ -1,6 +1,6 @@
 -- `bits` meets its contract.
 use borrow.Author.Rules.{rules}
-use Rattle.lowering.specs.Lines.{bitsLines}
+use Rattle.lowering.specs.Lines.{bits_lines}
 use Rattle.lowering.specs.Complexifier.{bits, promoted}
 use Rattle.complexifier.specs.Does.{made₂}
 use Rattle.complexifier.proofs.state.Complexifier.bits.Statement.{statement}
@@ -12,4 +12,4 @@ bits-spec =
     tie.close
     (tie.spec
     (λ c κs. search rules) (λ c κs. search rules) (λ c κs. search rules) (λ c κs. search rules) (λ c. search rules)
-    (λ c. made₂ (bitsLines _) promoted _ _ _ c.before.before.before.before.before.before.is-real-reg.ensures c.before.before.before.before.before.is-real-reg2.ensures c.before.before.before.bits-lines.ensures c.promote-real.ensures))
+    (λ c. made₂ (bits_lines _) promoted _ _ _ c.before.before.before.before.before.before.is-real-reg.ensures c.before.before.before.before.before.is-real-reg2.ensures c.before.before.before.bits-lines.ensures c.promote-real.ensures))

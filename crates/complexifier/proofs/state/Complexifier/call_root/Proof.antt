@@ -4,16 +4,16 @@ use mathlib.Core.Bool.{false}
 use mathlib.Core.List.{[], ◌∷◌}
 use Rattle.mir.specs.declared.records.Record.{Record}
 use Rattle.mir.specs.Register.{Ret}
-use Rattle.lowering.specs.Realness.{setReg}
-use Rattle.lowering.specs.Complexifier.{callRoot}
+use Rattle.lowering.specs.Realness.{set_reg}
+use Rattle.lowering.specs.Complexifier.{call_root}
 use Rattle.complexifier.specs.Does.{listing}
 use Rattle.complexifier.proofs.state.Complexifier.call_root.Statement.{statement}
 use Rattle.complexifier.proofs.state.Complexifier.call_root.Tie as tie
 
 pub call-root-spec : {M : Type 1} → statement M
-unfolding callRoot
+unfolding call_root
 call-root-spec =
     tie.close
     (tie.spec
     (λ c κs. search rules) (λ c κs. search rules) (λ c. search rules)
-    (λ c. listing (Record.Call 1 ∷ []) (λ ρ. setReg ρ Ret false) c.before.before.before.call.ensures c.set-reg-complex.ensures))
+    (λ c. listing (Record.Call 1 ∷ []) (λ ρ. set_reg ρ Ret false) c.before.before.before.call.ensures c.set-reg-complex.ensures))

@@ -1,7 +1,7 @@
 -- `compare` meets its contract.
 use borrow.Author.Rules.{rules}
 use mathlib.Core.Bool.{true}
-use Rattle.lowering.specs.Lines.{compareLines}
+use Rattle.lowering.specs.Lines.{compare_lines}
 use Rattle.lowering.specs.Complexifier.{compare}
 use Rattle.complexifier.specs.Does.{made, ◌▸◌}
 use Rattle.complexifier.proofs.state.Complexifier.compare.Statement.{statement}
@@ -13,4 +13,4 @@ compare-spec =
     tie.close
     (tie.spec
     (λ c κs. search rules) (λ c κs. search rules) (λ c κs. search rules) (λ c κs. search rules) (λ c. search rules)
-    (λ c. c.before.before.before.before.before.before.before.before.before.before.before.before.before.ensure-complex.ensures ▸ c.before.before.before.before.before.before.before.before.ensure-complex2.ensures ▸ made (compareLines _ _ _ _ _) _ true c.before.before.before.compare-lines.ensures c.set-reg-real.ensures))
+    (λ c. c.before.before.before.before.before.before.before.before.before.before.before.before.before.ensure-complex.ensures ▸ c.before.before.before.before.before.before.before.before.ensure-complex2.ensures ▸ made (compare_lines _ _ _ _ _) _ true c.before.before.before.compare-lines.ensures c.set-reg-real.ensures))

@@ -1,6 +1,6 @@
 -- `conjugate` meets its contract.
 use borrow.Author.Rules.{rules}
-use Rattle.lowering.specs.Lines.{conjugateLines}
+use Rattle.lowering.specs.Lines.{conjugate_lines}
 use Rattle.lowering.specs.Complexifier.{copied}
 use Rattle.complexifier.specs.Does.{made₁}
 use Rattle.complexifier.proofs.state.Complexifier.conjugate.Statement.{statement}
@@ -11,4 +11,4 @@ conjugate-spec =
     tie.close
     (tie.spec
     (λ c κs. search rules) (λ c κs. search rules) (λ c κs. search rules) (λ c. search rules)
-    (λ c. made₁ conjugateLines copied _ _ c.before.before.before.before.before.is-real-reg.ensures c.before.before.before.conjugate-lines.ensures c.copy-real.ensures))
+    (λ c. made₁ conjugate_lines copied _ _ c.before.before.before.before.before.is-real-reg.ensures c.before.before.before.conjugate-lines.ensures c.copy-real.ensures))

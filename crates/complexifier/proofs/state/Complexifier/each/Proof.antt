@@ -1,6 +1,6 @@
 -- `each` meets its contract.
 use borrow.Author.Rules.{rules}
-use Rattle.lowering.specs.Lines.{eachLines}
+use Rattle.lowering.specs.Lines.{each_lines}
 use Rattle.lowering.specs.Complexifier.{copied}
 use Rattle.complexifier.specs.Does.{made₁}
 use Rattle.complexifier.proofs.state.Complexifier.each.Statement.{statement}
@@ -11,4 +11,4 @@ each_spec =
     tie.close
     (tie.spec
     (λ c κs. search rules) (λ c κs. search rules) (λ c κs. search rules) (λ c. search rules)
-    (λ c. made₁ (eachLines _) copied _ _ c.before.before.before.before.before.is-real-reg.ensures c.before.before.before.each-lines.ensures c.copy-real.ensures))
+    (λ c. made₁ (each_lines _) copied _ _ c.before.before.before.before.before.is-real-reg.ensures c.before.before.before.each-lines.ensures c.copy-real.ensures))

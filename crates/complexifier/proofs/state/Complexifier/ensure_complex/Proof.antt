@@ -1,15 +1,15 @@
 -- `ensure_complex` meets its contract.
 use borrow.Author.Rules.{rules}
-use Rattle.lowering.specs.Lines.{ensureLines}
-use Rattle.lowering.specs.Complexifier.{ensureComplex, byOne, asComplex}
+use Rattle.lowering.specs.Lines.{ensure_lines}
+use Rattle.lowering.specs.Complexifier.{ensure_complex, one_by_one, as_complex}
 use Rattle.complexifier.specs.Does.{made₁}
 use Rattle.complexifier.proofs.state.Complexifier.ensure_complex.Statement.{statement}
 use Rattle.complexifier.proofs.state.Complexifier.ensure_complex.Tie as tie
 
 pub ensure-complex-spec : {M : Type 1} → statement M
-unfolding ensureComplex byOne
+unfolding ensure_complex one_by_one
 ensure-complex-spec =
     tie.close
     (tie.spec
     (λ c κs. search rules) (λ c κs. search rules) (λ c κs. search rules) (λ c. search rules)
-    (λ c. made₁ (λ x d a. ensureLines x d) asComplex _ _ c.before.before.before.before.before.is-real-reg.ensures c.before.before.before.ensure-lines.ensures c.set-reg-complex.ensures))
+    (λ c. made₁ (λ x d a. ensure_lines x d) as_complex _ _ c.before.before.before.before.before.is-real-reg.ensures c.before.before.before.ensure-lines.ensures c.set-reg-complex.ensures))

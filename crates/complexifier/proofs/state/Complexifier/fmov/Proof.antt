@@ -1,6 +1,6 @@
 -- `fmov` meets its contract.
 use borrow.Author.Rules.{rules}
-use Rattle.lowering.specs.Lines.{fmovLines}
+use Rattle.lowering.specs.Lines.{fmov_lines}
 use Rattle.lowering.specs.Complexifier.{fmov, copied}
 use Rattle.complexifier.specs.Does.{made₁}
 use Rattle.complexifier.proofs.state.Complexifier.fmov.Statement.{statement}
@@ -12,4 +12,4 @@ fmov-spec =
     tie.close
     (tie.spec
     (λ c κs. search rules) (λ c κs. search rules) (λ c κs. search rules) (λ c. search rules)
-    (λ c. made₁ fmovLines copied _ _ c.before.before.before.before.before.is-real-reg.ensures c.before.before.before.fmov-lines.ensures c.copy-real.ensures))
+    (λ c. made₁ fmov_lines copied _ _ c.before.before.before.before.before.is-real-reg.ensures c.before.before.before.fmov-lines.ensures c.copy-real.ensures))

@@ -1,12 +1,12 @@
 -- `fused_mul_add` meets its contract.
 use borrow.Author.Rules.{rules}
-use Rattle.lowering.specs.Complexifier.{fusedMulAdd}
+use Rattle.lowering.specs.Complexifier.{fused_mul_add}
 use Rattle.complexifier.specs.Does.{◌▸◌}
 use Rattle.complexifier.proofs.state.Complexifier.fused_mul_add.Statement.{statement}
 use Rattle.complexifier.proofs.state.Complexifier.fused_mul_add.Tie as tie
 
 pub fused-mul-add-spec : {M : Type 1} → statement M
-unfolding fusedMulAdd
+unfolding fused_mul_add
 fused-mul-add-spec =
     tie.close
     (tie.spec

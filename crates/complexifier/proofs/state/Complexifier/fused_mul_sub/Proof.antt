@@ -1,12 +1,12 @@
 -- `fused_mul_sub` meets its contract.
 use borrow.Author.Rules.{rules}
-use Rattle.lowering.specs.Complexifier.{fusedMulSub}
+use Rattle.lowering.specs.Complexifier.{fused_mul_sub}
 use Rattle.complexifier.specs.Does.{◌▸◌}
 use Rattle.complexifier.proofs.state.Complexifier.fused_mul_sub.Statement.{statement}
 use Rattle.complexifier.proofs.state.Complexifier.fused_mul_sub.Tie as tie
 
 pub fused-mul-sub-spec : {M : Type 1} → statement M
-unfolding fusedMulSub
+unfolding fused_mul_sub
 fused-mul-sub-spec =
     tie.close
     (tie.spec

@@ -1,12 +1,12 @@
 -- `fused_neg_mul_sub` meets its contract.
 use borrow.Author.Rules.{rules}
-use Rattle.lowering.specs.Complexifier.{fusedNegMulSub}
+use Rattle.lowering.specs.Complexifier.{fused_neg_mul_sub}
 use Rattle.complexifier.specs.Does.{◌▸◌}
 use Rattle.complexifier.proofs.state.Complexifier.fused_neg_mul_sub.Statement.{statement}
 use Rattle.complexifier.proofs.state.Complexifier.fused_neg_mul_sub.Tie as tie
 
 pub fused-neg-mul-sub-spec : {M : Type 1} → statement M
-unfolding fusedNegMulSub
+unfolding fused_neg_mul_sub
 fused-neg-mul-sub-spec =
     tie.close
     (tie.spec

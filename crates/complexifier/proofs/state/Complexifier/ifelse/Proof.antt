@@ -1,7 +1,7 @@
 -- `ifelse` meets its contract.
 use borrow.Author.Rules.{rules}
 use mathlib.Core.Bool.{false}
-use Rattle.lowering.specs.Lines.{ifelseLines}
+use Rattle.lowering.specs.Lines.{ifelse_lines}
 use Rattle.lowering.specs.Complexifier.{ifelse}
 use Rattle.complexifier.specs.Does.{made, ◌▸◌}
 use Rattle.complexifier.proofs.state.Complexifier.ifelse.Statement.{statement}
@@ -13,4 +13,4 @@ ifelse-spec =
     tie.close
     (tie.spec
     (λ c κs. search rules) (λ c κs. search rules) (λ c κs. search rules) (λ c κs. search rules) (λ c. search rules)
-    (λ c. c.before.before.before.before.before.before.before.before.before.before.before.before.before.ensure-complex.ensures ▸ c.before.before.before.before.before.before.before.before.ensure-complex2.ensures ▸ made (ifelseLines _ _ _ _) _ false c.before.before.before.ifelse-lines.ensures c.set-reg-complex.ensures))
+    (λ c. c.before.before.before.before.before.before.before.before.before.before.before.before.before.ensure-complex.ensures ▸ c.before.before.before.before.before.before.before.before.ensure-complex2.ensures ▸ made (ifelse_lines _ _ _ _) _ false c.before.before.before.ifelse-lines.ensures c.set-reg-complex.ensures))

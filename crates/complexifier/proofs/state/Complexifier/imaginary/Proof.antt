@@ -1,7 +1,7 @@
 -- `imaginary` meets its contract.
 use borrow.Author.Rules.{rules}
-use Rattle.lowering.specs.Lines.{imaginaryLines}
-use Rattle.lowering.specs.Complexifier.{asReal}
+use Rattle.lowering.specs.Lines.{imaginary_lines}
+use Rattle.lowering.specs.Complexifier.{as_real}
 use Rattle.complexifier.specs.Does.{made₁}
 use Rattle.complexifier.proofs.state.Complexifier.imaginary.Statement.{statement}
 use Rattle.complexifier.proofs.state.Complexifier.imaginary.Tie as tie
@@ -11,4 +11,4 @@ imaginary-spec =
     tie.close
     (tie.spec
     (λ c κs. search rules) (λ c κs. search rules) (λ c κs. search rules) (λ c. search rules)
-    (λ c. made₁ imaginaryLines asReal _ _ c.before.before.before.before.before.is-real-reg.ensures c.before.before.before.imaginary-lines.ensures c.set-reg-real.ensures))
+    (λ c. made₁ imaginary_lines as_real _ _ c.before.before.before.before.before.is-real-reg.ensures c.before.before.before.imaginary-lines.ensures c.set-reg-real.ensures))

@@ -4,15 +4,15 @@ use mathlib.Core.Bool.{true}
 use mathlib.Core.List.{[], ◌∷◌}
 use Rattle.mir.specs.Register.{re}
 use Rattle.lowering.specs.Pushes as mir
-use Rattle.lowering.specs.Complexifier.{loadConst}
+use Rattle.lowering.specs.Complexifier.{load_const}
 use Rattle.complexifier.specs.Does.{made}
 use Rattle.complexifier.proofs.state.Complexifier.load_const.Statement.{statement}
 use Rattle.complexifier.proofs.state.Complexifier.load_const.Tie as tie
 
 pub load-const-spec : {M : Type 1} → statement M
-unfolding loadConst
+unfolding load_const
 load-const-spec =
     tie.close
     (tie.spec
     (λ c κs. search rules) (λ c κs. search rules) (λ c. search rules)
-    (λ c. made (mir.loadConst (re _) _ ∷ []) _ true c.before.before.before.load-const-lines.ensures c.set-reg-real.ensures))
+    (λ c. made (mir.load_const (re _) _ ∷ []) _ true c.before.before.before.load-const-lines.ensures c.set-reg-real.ensures))

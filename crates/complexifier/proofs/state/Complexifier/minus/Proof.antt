@@ -1,6 +1,6 @@
 -- `minus` meets its contract.
 use borrow.Author.Rules.{rules}
-use Rattle.lowering.specs.Lines.{minusLines}
+use Rattle.lowering.specs.Lines.{minus_lines}
 use Rattle.lowering.specs.Complexifier.{minus, promoted}
 use Rattle.complexifier.specs.Does.{made₂}
 use Rattle.complexifier.proofs.state.Complexifier.minus.Statement.{statement}
@@ -12,4 +12,4 @@ minus-spec =
     tie.close
     (tie.spec
     (λ c κs. search rules) (λ c κs. search rules) (λ c κs. search rules) (λ c κs. search rules) (λ c. search rules)
-    (λ c. made₂ minusLines promoted _ _ _ c.before.before.before.before.before.before.is-real-reg.ensures c.before.before.before.before.before.is-real-reg2.ensures c.before.before.before.minus-lines.ensures c.promote-real.ensures))
+    (λ c. made₂ minus_lines promoted _ _ _ c.before.before.before.before.before.before.is-real-reg.ensures c.before.before.before.before.before.is-real-reg2.ensures c.before.before.before.minus-lines.ensures c.promote-real.ensures))

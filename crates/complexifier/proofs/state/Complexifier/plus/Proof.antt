@@ -1,6 +1,6 @@
 -- `plus` meets its contract.
 use borrow.Author.Rules.{rules}
-use Rattle.lowering.specs.Lines.{plusLines}
+use Rattle.lowering.specs.Lines.{plus_lines}
 use Rattle.lowering.specs.Complexifier.{plus, promoted}
 use Rattle.complexifier.specs.Does.{made₂}
 use Rattle.complexifier.proofs.state.Complexifier.plus.Statement.{statement}
@@ -12,4 +12,4 @@ plus-spec =
     tie.close
     (tie.spec
     (λ c κs. search rules) (λ c κs. search rules) (λ c κs. search rules) (λ c κs. search rules) (λ c. search rules)
-    (λ c. made₂ plusLines promoted _ _ _ c.before.before.before.before.before.before.is-real-reg.ensures c.before.before.before.before.before.is-real-reg2.ensures c.before.before.before.plus-lines.ensures c.promote-real.ensures))
+    (λ c. made₂ plus_lines promoted _ _ _ c.before.before.before.before.before.before.is-real-reg.ensures c.before.before.before.before.before.is-real-reg2.ensures c.before.before.before.plus-lines.ensures c.promote-real.ensures))

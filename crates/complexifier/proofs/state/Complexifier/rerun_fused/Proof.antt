@@ -1,11 +1,11 @@
 -- `rerun_fused` meets its contract.
 use borrow.Author.Rules.{rules}
-use Rattle.lowering.specs.Rerun.{rerunFused}
+use Rattle.lowering.specs.Rerun.{rerun_fused}
 use Rattle.complexifier.proofs.state.Complexifier.rerun_fused.Statement.{statement}
 use Rattle.complexifier.proofs.state.Complexifier.rerun_fused.Tie as tie
 
 pub rerun-fused-spec : {M : Type 1} → statement M
-unfolding rerunFused
+unfolding rerun_fused
 rerun-fused-spec =
     tie.close
     (tie.spec

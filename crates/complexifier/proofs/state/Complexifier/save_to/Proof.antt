@@ -2,16 +2,16 @@
 use borrow.Author.Rules.{rules}
 use mathlib.Core.List.{map}
 use Rattle.mir.specs.declared.records.Record.{Record}
-use Rattle.lowering.specs.Lines.{saveLines}
-use Rattle.lowering.specs.Complexifier.{saveTo, savedReal}
+use Rattle.lowering.specs.Lines.{save_lines}
+use Rattle.lowering.specs.Complexifier.{save_to, saved_realness}
 use Rattle.complexifier.specs.Does.{listing, ◌▸◌}
 use Rattle.complexifier.proofs.state.Complexifier.save_to.Statement.{statement}
 use Rattle.complexifier.proofs.state.Complexifier.save_to.Tie as tie
 
 pub save-to-spec : {M : Type 1} → statement M
-unfolding saveTo
+unfolding save_to
 save-to-spec =
     tie.close
     (tie.spec
     (λ c κs. search rules) (λ c κs. search rules) (λ c κs. search rules) (λ c. search rules)
-    (λ c. c.before.before.before.before.before.before.before.before.ensure-complex.ensures ▸ listing (map Record.Work (saveLines _ _)) (savedReal c.before.before.before.before.before.before.before.before.before.before.before.args.loc) c.before.before.before.save-lines.ensures c.saved.ensures))
+    (λ c. c.before.before.before.before.before.before.before.before.ensure-complex.ensures ▸ listing (map Record.Work (save_lines _ _)) (saved_realness c.before.before.before.before.before.before.before.before.before.before.before.args.loc) c.before.before.before.save-lines.ensures c.saved.ensures))

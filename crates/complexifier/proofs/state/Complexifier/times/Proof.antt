@@ -1,6 +1,6 @@
 -- `times` meets its contract.
 use borrow.Author.Rules.{rules}
-use Rattle.lowering.specs.Lines.{timesLines}
+use Rattle.lowering.specs.Lines.{times_lines}
 use Rattle.lowering.specs.Complexifier.{times, promoted}
 use Rattle.complexifier.specs.Does.{made₂}
 use Rattle.complexifier.proofs.state.Complexifier.times.Statement.{statement}
@@ -12,4 +12,4 @@ times-spec =
     tie.close
     (tie.spec
     (λ c κs. search rules) (λ c κs. search rules) (λ c κs. search rules) (λ c κs. search rules) (λ c. search rules)
-    (λ c. made₂ timesLines promoted _ _ _ c.before.before.before.before.before.before.is-real-reg.ensures c.before.before.before.before.before.is-real-reg2.ensures c.before.before.before.times-lines.ensures c.promote-real.ensures))
+    (λ c. made₂ times_lines promoted _ _ _ c.before.before.before.before.before.before.is-real-reg.ensures c.before.before.before.before.before.is-real-reg2.ensures c.before.before.before.times-lines.ensures c.promote-real.ensures))

@@ -1,12 +1,12 @@
 -- `is_real_loc` meets its contract.
 use borrow.Author.Rules.{rules}
-use Rattle.lowering.specs.Realness.{isRealLoc}
+use Rattle.lowering.specs.Realness.{is_real_loc}
 use mathlib.Core.Path.{◌∙◌}
 use Rattle.lowering.proofs.realness.Realness.is_real_loc.Statement.{statement}
 use Rattle.lowering.proofs.realness.Realness.is_real_loc.Tie as tie
 
 pub is-real-loc-spec : {M : Type 1} → statement M
-unfolding isRealLoc
+unfolding is_real_loc
 is-real-loc-spec =
     tie.close
     (tie.spec

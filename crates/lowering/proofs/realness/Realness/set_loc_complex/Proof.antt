@@ -1,12 +1,12 @@
 -- `set_loc_complex` meets its contract.
 use borrow.Author.Rules.{rules}
-use Rattle.lowering.specs.Realness.{withoutLoc}
+use Rattle.lowering.specs.Realness.{without_loc}
 use mathlib.Core.Path.{◌∙◌}
 use Rattle.lowering.proofs.realness.Realness.set_loc_complex.Statement.{statement}
 use Rattle.lowering.proofs.realness.Realness.set_loc_complex.Tie as tie
 
 pub set-loc-complex-spec : {M : Type 1} → statement M
-unfolding withoutLoc
+unfolding without_loc
 set-loc-complex-spec =
     tie.close
     (tie.spec

@@ -7,15 +7,15 @@ use mathlib.Core.Logic.{⊎_elim}
 use native.Mathlib.Omega.{arith}
 use borrow.Author.Tests.{leb-true, leb-false}
 use lib.ListN.{length, drop, length-set}
-use Rattle.text.specs.Line.{addAll}
-use Rattle.text.specs.Text.{decimalIn, decimal}
+use Rattle.text.specs.Line.{add_all}
+use Rattle.text.specs.Text.{decimal_in, decimal}
 use Rattle.text.proofs.Digits.{found, all}
 use Rattle.text.proofs.line.Line.decimal.Statement.{statement}
 use Rattle.text.proofs.line.Line.decimal.Tie as tie
 
 abbrev invariant-loop : tie.invariant-loop
 invariant-loop self n digits₀ at₀ rest₀ digits at rest =
-    (at ≤ 19) × (length digits ≡ 20) × (decimalIn at rest ++ drop (at + 1) digits ≡ decimal n)
+    (at ≤ 19) × (length digits ≡ 20) × (decimal_in at rest ++ drop (at + 1) digits ≡ decimal n)
 
 abbrev decreases-loop : tie.decreases-loop
 decreases-loop self n digits₀ at₀ rest₀ digits at rest = at
@@ -75,7 +75,7 @@ returns c =
       same =
           c.text.ensures.same
           ∙ ap
-          (addAll a.self)
+          (add_all a.self)
           (all v.digits v.at v.rest few (omega arith) (omega arith) ∙ v.invariant.2);
     }
 

@@ -2,12 +2,12 @@
 use borrow.Author.Rules.{rules}
 use borrow.Author.Tests.{lt-ltb, le-ltb}
 use mathlib.Core.Path.{◌∙◌}
-use Rattle.text.specs.Text.{hexIn}
+use Rattle.text.specs.Text.{hex_in}
 use Rattle.text.proofs.line.Line.hex1.Statement.{statement}
 use Rattle.text.proofs.line.Line.hex1.Tie as tie
 
 pub hex1-spec : {M : Type 1} → statement M
-unfolding hexIn
+unfolding hex_in
 hex1-spec =
     tie.close
     (tie.spec

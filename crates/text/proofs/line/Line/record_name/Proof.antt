@@ -1,11 +1,11 @@
 -- `text::lines::Line::record_name` meets its contract.
 use borrow.Author.Rules.{rules}
-use Rattle.text.specs.Text.{ascii, recordName}
+use Rattle.text.specs.Text.{ascii, record_name}
 use Rattle.text.proofs.line.Line.record_name.Statement.{statement}
 use Rattle.text.proofs.line.Line.record_name.Tie as tie
 
 pub record-name-spec : {M : Type 1} → statement M
-unfolding ascii recordName
+unfolding ascii record_name
 record-name-spec =
     tie.close
     (tie.spec

@@ -2,12 +2,12 @@
 use borrow.Author.Rules.{rules}
 use native.Mathlib.Omega.{arith}
 use Rattle.text.specs.Line.{◌▹◌}
-use Rattle.text.specs.Text.{recordOperands}
+use Rattle.text.specs.Text.{record_operands}
 use Rattle.text.proofs.line.Line.record_operands.Statement.{statement}
 use Rattle.text.proofs.line.Line.record_operands.Tie as tie
 
 pub record-operands-spec : {M : Type 1} → statement M
-unfolding recordOperands
+unfolding record_operands
 record-operands-spec =
     tie.close
     (tie.spec

@@ -4,14 +4,14 @@ use Prim.Native.Nat.{◌≤◌, ◌-◌}
 use mathlib.Core.Path.{◌≡◌, refl, sym, ◌∙◌}
 use native.Mathlib.Omega.{arith}
 use lib.ListN.{length, drop}
-use Rattle.text.specs.Line.{addAll}
+use Rattle.text.specs.Line.{add_all}
 use Rattle.text.specs.Text.{registers}
-use Rattle.text.proofs.Adding.{turn-register, ended-registers}
+use Rattle.text.proofs.Adding.{turn_register, ended_registers}
 use Rattle.text.proofs.line.Line.registers.Statement.{statement}
 use Rattle.text.proofs.line.Line.registers.Tie as tie
 
 abbrev invariant-loop : tie.invariant-loop
-invariant-loop rs line₀ i₀ line i = (i ≤ length rs) × (addAll line (registers (drop i rs)) ≡ addAll line₀ (registers rs))
+invariant-loop rs line₀ i₀ line i = (i ≤ length rs) × (add_all line (registers (drop i rs)) ≡ add_all line₀ (registers rs))
 
 abbrev decreases-loop : tie.decreases-loop
 decreases-loop rs line₀ i₀ line i = length rs - i
@@ -38,13 +38,13 @@ loop-again : tie.Need-loop-preserved invariant-loop decreases-loop
 loop-again c =
     let a = c.before.before.before.before.before.before.args in
     let v = c.before.before.before.before.loop in
-    (search rules, turn-register a.rs.now v.i (omega arith) c.before.byte.ensures c.register.ensures ∙ v.invariant.1)
+    (search rules, turn_register a.rs.now v.i (omega arith) c.before.byte.ensures c.register.ensures ∙ v.invariant.1)
 
 returns : tie.Need-returns invariant-loop decreases-loop
 returns c =
     let a = c.before.before.before.args in
     let v = c.before.loop in
-    record { same = sym (ended-registers v.line a.rs.now v.i (omega arith)) ∙ v.invariant.1 }
+    record { same = sym (ended_registers v.line a.rs.now v.i (omega arith)) ∙ v.invariant.1 }
 
 pub registers-spec : {M : Type 1} → statement M
 registers-spec =

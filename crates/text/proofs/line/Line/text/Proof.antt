@@ -4,13 +4,13 @@ use Prim.Native.Nat.{◌≤◌, ◌+◌, ◌-◌}
 use mathlib.Core.Path.{◌≡◌, refl, sym, ap, ◌∙◌}
 use native.Mathlib.Omega.{arith}
 use lib.ListN.{length, drop}
-use Rattle.text.specs.Line.{addAll}
+use Rattle.text.specs.Line.{add_all}
 use Rattle.text.proofs.Adding.{turn, ended}
 use Rattle.text.proofs.line.Line.text.Statement.{statement}
 use Rattle.text.proofs.line.Line.text.Tie as tie
 
 abbrev invariant-loop : tie.invariant-loop
-invariant-loop s line₀ i₀ line i = (i ≤ length s) × (addAll line (drop i s) ≡ addAll line₀ s)
+invariant-loop s line₀ i₀ line i = (i ≤ length s) × (add_all line (drop i s) ≡ add_all line₀ s)
 
 abbrev decreases-loop : tie.decreases-loop
 decreases-loop s line₀ i₀ line i = length s - i
@@ -34,7 +34,7 @@ loop-again : tie.Need-loop-preserved invariant-loop decreases-loop
 loop-again c =
     let a = c.before.before.before.before.before.args in
     let v = c.before.before.before.loop in
-    (search rules, ap (λ l. addAll l (drop (v.i + 1) a.s.now)) c.byte.ensures.same ∙ turn v.line a.s.now v.i (omega arith) ∙ v.invariant.1)
+    (search rules, ap (λ l. add_all l (drop (v.i + 1) a.s.now)) c.byte.ensures.same ∙ turn v.line a.s.now v.i (omega arith) ∙ v.invariant.1)
 
 returns : tie.Need-returns invariant-loop decreases-loop
 returns c =

@@ -4,14 +4,14 @@ use Prim.Native.Nat.{◌≤◌, ◌+◌, ◌-◌}
 use mathlib.Core.Path.{◌≡◌, refl, sym, ap, ◌∙◌}
 use native.Mathlib.Omega.{arith}
 use lib.ListN.{length, drop}
-use Rattle.text.specs.Line.{addAll}
+use Rattle.text.specs.Line.{add_all}
 use Rattle.text.specs.Words.{word_in}
 use Rattle.text.proofs.Words.{past_words, byte-before, end_before, byte_of, end_of}
 use Rattle.text.proofs.line.Line.word_in.Statement.{statement}
 use Rattle.text.proofs.line.Line.word_in.Tie as tie
 
 abbrev invariant-loop : tie.invariant-loop
-invariant-loop words n line₀ left₀ i₀ line left i = (i ≤ length words) × (addAll line (word_in (drop i words) left) ≡ addAll line₀ (word_in words n))
+invariant-loop words n line₀ left₀ i₀ line left i = (i ≤ length words) × (add_all line (word_in (drop i words) left) ≡ add_all line₀ (word_in words n))
 
 abbrev decreases-loop : tie.decreases-loop
 decreases-loop words n line₀ left₀ i₀ line left i = length words - i
@@ -38,7 +38,7 @@ word-in-spec =
     (λ c.
     let a = c.before.before.before.before.before.before.before.args in
     let v = c.before.before.before.before.before.loop in
-    (search rules, ap (λ l. addAll l (word_in (drop (v.i + 1) a.words.now) v.left)) c.byte.ensures.same ∙ byte_of v.line _ v.i (omega arith) v.left (omega arith) c.before.if3.false ∙ v.invariant.1))
+    (search rules, ap (λ l. add_all l (word_in (drop (v.i + 1) a.words.now) v.left)) c.byte.ensures.same ∙ byte_of v.line _ v.i (omega arith) v.left (omega arith) c.before.if3.false ∙ v.invariant.1))
     (λ c.
     let v = c.before.loop in
     record { same = sym (past_words v.line _ v.i v.left (omega arith)) ∙ v.invariant.1 }))

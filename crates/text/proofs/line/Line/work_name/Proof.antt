@@ -1,11 +1,11 @@
 -- `text::lines::Line::work_name` meets its contract.
 use borrow.Author.Rules.{rules}
-use Rattle.text.specs.Text.{ascii, workName}
+use Rattle.text.specs.Text.{ascii, work_name}
 use Rattle.text.proofs.line.Line.work_name.Statement.{statement}
 use Rattle.text.proofs.line.Line.work_name.Tie as tie
 
 pub work-name-spec : {M : Type 1} → statement M
-unfolding ascii workName
+unfolding ascii work_name
 work-name-spec =
     tie.close
     (tie.spec

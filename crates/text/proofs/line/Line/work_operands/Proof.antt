@@ -2,12 +2,12 @@
 use borrow.Author.Rules.{rules}
 use native.Mathlib.Omega.{arith}
 use Rattle.text.specs.Line.{◌▹◌}
-use Rattle.text.specs.Text.{workOperands}
+use Rattle.text.specs.Text.{work_operands}
 use Rattle.text.proofs.line.Line.work_operands.Statement.{statement}
 use Rattle.text.proofs.line.Line.work_operands.Tie as tie
 
 pub work-operands-spec : {M : Type 1} → statement M
-unfolding workOperands
+unfolding work_operands
 work-operands-spec =
     tie.close
     (tie.spec
