@@ -273,9 +273,7 @@ ENTRIES = {
     "peak": "peak",
     "nearest": "nearest_point",
     "figures": "shelf",
-    "tidy": "tidy",
     "pages": "pages",
-    "unprint": "unprint",
 }
 
 

@@ -23,7 +23,6 @@
 #define tulipcricket_shelf tulipcricket_shelf_unguarded
 #define tulipcricket_look tulipcricket_look_unguarded
 #define tulipcricket_pages tulipcricket_pages_unguarded
-#define tulipcricket_unprint tulipcricket_unprint_unguarded
 #endif
 
 enum { USUAL = 0x1f80, X87_USUAL = 0x037f, LENT = 0xa5 };
@@ -291,17 +290,6 @@ static void pages(const Environment *e) {
     kept(e, "tulipcricket_pages", leave());
     holds(e, "the pages' answer", number == 0 && memcmp(answer, expected, sizeof answer) == 0);
     holds(e, "the listing's page", memcmp(page, after, sizeof page) == 0);
-    uint8_t back[sizeof listed + 8];
-    uint64_t words[2], read[6];
-    static const uint64_t given[] = {0, sizeof listed, 1, 0, 0, 0};
-    memset(back, LENT, sizeof back);
-    memset(words, LENT, sizeof words);
-    memset(read, LENT, sizeof read);
-    enter(e);
-    number = tulipcricket_unprint(after, TULIPCRICKET_PAGE, back, sizeof back, (uint8_t *)words, sizeof words, (uint8_t *)read, sizeof read);
-    kept(e, "tulipcricket_unprint", leave());
-    holds(e, "the answer of the page read back", number == 0 && memcmp(read, given, sizeof read) == 0);
-    holds(e, "the page read back", memcmp(back, listed, sizeof listed) == 0 && words[0] == constant && back[sizeof listed] == LENT);
 }
 
 static void in(const Environment *e) {
@@ -361,7 +349,6 @@ static void empty(void) {
     holds(&e, "look at the end of no records",
           tulipcricket_look(none, 0, none, 0, store, sizeof store, 0, answer, TULIPCRICKET_LOOK_ANSWER) == 0 &&
               memcmp(answer, zeros, TULIPCRICKET_LOOK_ANSWER) == 0);
-    holds(&e, "nothing at all read back", tulipcricket_unprint(none, 0, none, 0, none, 0, none, 0) == 8);
     holds(&e, "pages of nothing at all", tulipcricket_pages(none, 0, none, 0, none, 0, none, 0) == 8);
     holds(&e, "no page of no records",
           tulipcricket_pages(none, 0, none, 0, none, 0, end, sizeof end) == 0 && memcmp(end, zeros, sizeof end) == 0);

@@ -89,8 +89,3 @@ uint32_t tulipcricket_pages(const uint8_t *listing, size_t listing_len, const ui
                             uint8_t *pages, size_t pages_len, uint8_t *answer, size_t answer_len) {
     GUARDED(tulipcricket_pages_unguarded(SLICE(listing), SLICE(constants), SLICE(pages), SLICE(answer)));
 }
-
-uint32_t tulipcricket_unprint(const uint8_t *pages, size_t pages_len, uint8_t *listing, size_t listing_len, uint8_t *constants,
-                              size_t constants_len, uint8_t *answer, size_t answer_len) {
-    GUARDED(tulipcricket_unprint_unguarded(SLICE(pages), SLICE(listing), SLICE(constants), SLICE(answer)));
-}

@@ -10,10 +10,10 @@
  * Lowering and playing return the number of documents 01 and 02, which is also the first number of the answer:
  *   0 accepted          1 torn record     2 unknown work      3 bad register    4 bad place
  *   5 missing constant  6 barred operand  7 listing full      8 wrong setup     9 stray jump
- *  10 misplaced label  11 unequal records (labels and branches)  14 sheet too long  15 not as printed
+ *  10 misplaced label  11 unequal records (labels and branches)  14 sheet too long
  * Lowering never gives 9; playing never gives 6, 7, 10, 11 or 14. Of document 02 the running peak returns 0, 8 or
  * 12, the nearest point 0, 8 or 13, the shelf figures what lowering returns, looking at a record what playing returns,
- * pages that or 7, reading pages back 0, 7, 8 or 15.
+ * pages that or 7.
  *
  * Lowering lists what the Rust lists, faults too. In plain mode a LoadMath Divide of a real register by a complex place gives a wrong
  * quotient: 6 / (1 + i) plays as 6 - 3i. Load the place into a general register and Divide by that. docs/DIFFERENCES.md has more.
@@ -44,8 +44,7 @@ enum {
     TULIPCRICKET_LOOK_ANSWER = 64,
     TULIPCRICKET_PAGE = 4380,            /* bytes of a page: 60 lines of 72 characters and a line feed */
     TULIPCRICKET_PAGES_LIMIT = 976740,   /* bytes of the pages of the longest listing with 256 constants: 223 pages */
-    TULIPCRICKET_PAGES_ANSWER = 24,
-    TULIPCRICKET_UNPRINT_ANSWER = 48
+    TULIPCRICKET_PAGES_ANSWER = 24
 };
 
 /* The library's version, such as "0.1.0". */
@@ -188,24 +187,6 @@ uint32_t tulipcricket_look(const uint8_t *listing, size_t listing_len, const uin
  * the answer is not 24 bytes all is as lent, and the number 8. */
 uint32_t tulipcricket_pages(const uint8_t *listing, size_t listing_len, const uint8_t *constants, size_t constants_len,
                             uint8_t *pages, size_t pages_len, uint8_t *answer, size_t answer_len);
-
-/* Reads such pages back, typed ones too.
- *
- * pages      the text: each line as printed, but for spaces at its end. A line may end with a carriage return before its line feed, and begin
- *            with a form feed; a blank line counts for nothing.
- * listing    the room for the listing, constants the room for its constants; bytes past them are as lent. 65,536 and 2,048 bytes suffice.
- * answer     48 bytes:
- *              0  number
- *              8  bytes of the listing
- *             16  constants
- *             24  page, 32 line, 40 column of a refusal, each from 1; 0 where there is none
- *
- * Refused: by 15 where a line is not as printed, at the first column that differs from the line of what it names; by 8 at the line of a
- * 257th constant, or of a record behind 65,536 bytes; page and line are those on which the row is printed. By 7, tested last and with no
- * page, where there is too little room. Then nothing is written, and bytes and constants are 0. Where the answer is not 48 bytes all is as
- * lent, and the number 8. Whether the listing can be played, playing says. */
-uint32_t tulipcricket_unprint(const uint8_t *pages, size_t pages_len, uint8_t *listing, size_t listing_len, uint8_t *constants,
-                              size_t constants_len, uint8_t *answer, size_t answer_len);
 
 #ifdef __cplusplus
 }

@@ -51,10 +51,6 @@ uint32_t tulipcricket_pages_unguarded(const uint8_t *listing, size_t listing_len
                                       size_t constants_len, uint8_t *pages, size_t pages_len, uint8_t *answer,
                                       size_t answer_len);
 
-TULIPCRICKET_NONNULL
-uint32_t tulipcricket_unprint_unguarded(const uint8_t *pages, size_t pages_len, uint8_t *listing, size_t listing_len,
-                                        uint8_t *constants, size_t constants_len, uint8_t *answer, size_t answer_len);
-
 #ifdef __cplusplus
 }
 #endif

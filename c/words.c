@@ -6,7 +6,7 @@ static const char *const words[] = {
     "accepted", "torn record", "unknown work", "bad register",
     "bad place", "missing constant", "barred operand", "listing full",
     "wrong setup", "stray jump", "misplaced label", "unequal records",
-    "wrong window", "wrong points", "sheet too long", "not as printed",
+    "wrong window", "wrong points", "sheet too long",
 };
 
 const char *tulipcricket_version(void) { return TULIPCRICKET_VERSION; }

@@ -439,40 +439,6 @@ static void are_pages(const Lent *pages, size_t constants, size_t records, size_
     HOLDS(filled(pages->at + written, pages->length - written, 0xa5));
 }
 
-/* Any bytes as pages, in the room of so many bytes and so many constants and a byte more each; the answer's first three numbers. */
-static uint32_t unprint(const uint8_t *text, size_t length, size_t bytes, size_t words, Lent *listing, Lent *constants, uint64_t counts[2]) {
-    static Lent pages, answer;
-    lend_copy(&pages, text, length, 0xa5);
-    lend(listing, bytes + 1, 0xa5);
-    lend(constants, 8 * words + 1, 0xa5);
-    lend(&answer, TULIPCRICKET_UNPRINT_ANSWER, 0xa5);
-    uint32_t number = tulipcricket_unprint(pages.at, pages.length, listing->at, listing->length, constants->at, constants->length,
-                                           answer.at, answer.length);
-    take_back(&pages, 0xa5);
-    take_back(listing, 0xa5);
-    take_back(constants, 0xa5);
-    take_back(&answer, 0xa5);
-    HOLDS(same(&pages, text) && word_at(answer.at) == number);
-    HOLDS(number == 0 || number == 7 || number == 8 || number == 15);
-    counts[0] = word_at(answer.at + 8);
-    counts[1] = word_at(answer.at + 16);
-    HOLDS(number == 0 || (counts[0] == 0 && counts[1] == 0 && filled(listing->at, listing->length, 0xa5) &&
-                          filled(constants->at, constants->length, 0xa5)));
-    HOLDS((number == 8 || number == 15) == (word_at(answer.at + 24) > 0) && word_at(answer.at + 32) <= 60);
-    return number;
-}
-
-/* Pages of a listing and its constants, read back. */
-static void read_back(const Lent *pages, size_t written, const Lent *listed, const Lent *table) {
-    static Lent listing, constants;
-    uint64_t counts[2];
-    size_t words = table->length / 8;
-    HOLDS(unprint(pages->at, written, listed->length, words, &listing, &constants, counts) == 0);
-    HOLDS(counts[0] == listed->length && counts[1] == words);
-    HOLDS(memcmp(listing.at, listed->at, listed->length) == 0 && listing.at[listed->length] == 0xa5);
-    HOLDS(memcmp(constants.at, table->at, 8 * words) == 0 && constants.at[8 * words] == 0xa5);
-}
-
 /* The slices of a play, which from record 0 has the same number and index unless it is 7; `less`: how much the room is short of what is needed,
  * from -1 on. */
 static void check_pages(const uint8_t *slices[3], const size_t lengths[4], int less, size_t answer_length) {
@@ -508,7 +474,6 @@ static void check_pages(const uint8_t *slices[3], const size_t lengths[4], int l
     if (number == 0) {
         HOLDS(word_at(answer.at + 16) * TULIPCRICKET_PAGE == needed);
         are_pages(&pages, words, records, needed);
-        read_back(&pages, needed, &listing, &constants);
     }
 }
 

@@ -5,7 +5,6 @@ import unittest
 from pathlib import Path
 
 from tulipcricket import Listing, Refused, Sheet, Store, double_of, library, lost, nearest, peak, word_of
-from tulipcricket.errors import Misprinted
 
 ROOT = Path(__file__).resolve().parent.parent.parent
 HEADER = ROOT / "c" / "tulipcricket.h"
@@ -121,17 +120,6 @@ class Functions(unittest.TestCase):
             listing.look(store, 6)
         self.assertEqual((caught.exception.number, caught.exception.index), (9, 6))
         self.assertEqual(store.data, before)
-
-    def test_unprint(self) -> None:
-        """A page read back as printed and as typed; where it is not as printed."""
-        lowered = library.lower(SHEET)
-        page = library.pages(lowered.listing, lowered.constants)
-        typed = "\f" + "\r\n".join(line.rstrip() for line in page.split("\n"))
-        for text in (page, typed):
-            self.assertEqual(library.unprint(text.encode("ascii")), (lowered.listing, lowered.constants))
-        with self.assertRaises(Misprinted) as caught:
-            library.unprint(page.replace("G5 G4 G7", "G5 G4 GT").encode("ascii"))
-        self.assertEqual(str(caught.exception), "page 1, line 4, column 31")
 
     def test_pages(self) -> None:
         """One page of the C example; no page of nothing; the most that a listing can have; refused as playing is."""

@@ -563,7 +563,7 @@ class Words(unittest.TestCase):
     def test_words(self) -> None:
         """The library's words are the package's, and its version the package's."""
         self.assertEqual({number: library.word(number) for number in WORDS}, WORDS)
-        self.assertEqual((library.word(16), library.word(2**32 - 1)), ("unknown number", "unknown number"))
+        self.assertEqual((library.word(15), library.word(2**32 - 1)), ("unknown number", "unknown number"))
         self.assertEqual(library.version(), kept.provenance.release())
 
     def test_places(self) -> None:

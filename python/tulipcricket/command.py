@@ -11,7 +11,7 @@ import argparse
 import sys
 from typing import Any, Dict, List, Mapping, NoReturn, Optional, Sequence, Tuple
 
-from . import plots, provenance, readings, report, shelf, stepping, unequal
+from . import plots, provenance, readings, report, shelf, stepping
 from . import table as tables
 from .circuits import formula_text
 from .errors import FormulaError, LibraryMissing, TulipcricketError
@@ -45,7 +45,6 @@ def parser() -> argparse.ArgumentParser:
     readings.add(commands)
     stepping.add(commands)
     shelf.add(commands)
-    unequal.add(commands)
     return top
 
 

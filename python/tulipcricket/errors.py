@@ -20,7 +20,6 @@ WORDS = {
     12: "wrong window",
     13: "wrong points",
     14: "sheet too long",
-    15: "not as printed",
 }
 
 
@@ -30,19 +29,6 @@ class TulipcricketError(Exception):
 
 class LibraryMissing(TulipcricketError):
     """The shared library is not where it is looked for."""
-
-
-class Misprinted(TulipcricketError):
-    """Typed pages that are not as printed: page, line and column of the first thing that is not, each counted from 1."""
-
-    def __init__(self, page: int, line: int, column: int) -> None:
-        super().__init__(page, line, column)
-        self.page = page
-        self.line = line
-        self.column = column
-
-    def __str__(self) -> str:
-        return f"page {self.page}, line {self.line}, column {self.column}"
 
 
 class FormulaError(TulipcricketError):

@@ -10,7 +10,7 @@ from functools import lru_cache
 from pathlib import Path
 from typing import List, NamedTuple, Optional, Sequence, Tuple
 
-from .errors import LibraryMissing, Misprinted, Refused
+from .errors import LibraryMissing, Refused
 
 INSTRUCTIONS_LIMIT = 612
 LONGEST_SHEET = 9201
@@ -28,7 +28,6 @@ LOOK_ANSWER = 64
 PAGE = 4380
 PAGES_LIMIT = 976740
 PAGES_ANSWER = 24
-UNPRINT_ANSWER = 48
 
 NAME = "libtulipcricket.so"
 VARIABLE = "TULIPCRICKET_LIBRARY"
@@ -49,7 +48,6 @@ _ARGUMENTS = {
     "shelf": _SLICE * 2,
     "look": _SLICE * 3 + _WORD + _SLICE,
     "pages": _SLICE * 4,
-    "unprint": _SLICE * 4,
 }
 
 
@@ -222,18 +220,3 @@ def pages(listing: bytes, constants: bytes) -> str:
     if number != 0:
         raise Refused(number, index)
     return text.raw[: PAGE * count].decode("ascii")
-
-
-def unprint(pages: bytes) -> Tuple[bytes, bytes]:
-    """tulipcricket_unprint: the listing and the constants that stand on pages, also typed ones. Raises Misprinted with page, line and
-    column."""
-    listing = ctypes.create_string_buffer(LISTING_LIMIT)
-    constants = ctypes.create_string_buffer(CONSTANTS)
-    answer = ctypes.create_string_buffer(UNPRINT_ANSWER)
-    number = library().tulipcricket_unprint(
-        pages, len(pages), listing, LISTING_LIMIT, constants, CONSTANTS, answer, UNPRINT_ANSWER
-    )
-    _, size, count, page, line, column = struct.unpack("<6Q", answer.raw)
-    if number != 0:
-        raise Misprinted(page, line, column)
-    return listing.raw[:size], constants.raw[: 8 * count]

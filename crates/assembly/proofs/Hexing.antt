@@ -38,10 +38,10 @@ hex-digit n h =
     }
 
 -- the digits of bytes, the highest first
-abbrev pub two : ℕ → List ℕ
+abbrev two : ℕ → List ℕ
 two b = hex_digit (b / 16) ∷ hex_digit (b % 16) ∷ []
 
-abbrev pub digits : List ℕ → List ℕ
+abbrev digits : List ℕ → List ℕ
 digits [] = []
 digits (b ∷ bs) = digits bs ++ two b
 
@@ -49,11 +49,11 @@ abbrev twice : ℕ → ℕ
 twice zero = zero
 twice (suc n) = suc (suc (twice n))
 
-abbrev pub Low : List ℕ → Type 0
+abbrev Low : List ℕ → Type 0
 Low [] = Unit {0}
 Low (b ∷ bs) = (b < 256) × Low bs
 
-pub hexes : (bs : List ℕ) → Low bs → hex_in (twice (length bs)) (number bs) ≡ digits bs
+hexes : (bs : List ℕ) → Low bs → hex_in (twice (length bs)) (number bs) ≡ digits bs
 unfolding hex_in number
 hexes [] h = refl
 hexes (b ∷ bs) h =
@@ -99,7 +99,7 @@ all_digits : (bs : List ℕ) → Low bs → T (are_digits (digits bs))
 all_digits [] h = tt
 all_digits (b ∷ bs) h = are_both (digits bs) (two b) (all_digits bs h.1) (two_digits b h.0)
 
-pub all_over : (bs : List ℕ) → Low bs → T (over 35 (digits bs))
+all_over : (bs : List ℕ) → Low bs → T (over 35 (digits bs))
 all_over [] h = tt
 all_over (b ∷ bs) h = over_two (digits bs) (two b) (all_over bs h.1) (two_over b h.0)
 
@@ -116,7 +116,7 @@ module _ (a b c d e f g h : ℕ) where
   abbrev pub eight : List ℕ
   eight = a ∷ b ∷ c ∷ d ∷ e ∷ f ∷ g ∷ h ∷ []
 
-  pub bits_back : Low eight → bits_of (digits eight) ≡ got eight
+  bits_back : Low eight → bits_of (digits eight) ≡ got eight
   unfolding bits_of
   bits_back l =
       ap (λ t. refuse (not t) 3 (got (pair (digits eight) 14 ∷ pair (digits eight) 12 ∷ pair (digits eight) 10 ∷ pair (digits eight) 8 ∷ pair (digits eight) 6 ∷ pair (digits eight) 4 ∷ pair (digits eight) 2 ∷ pair (digits eight) 0 ∷ [])))

@@ -1,15 +1,12 @@
 mod Short
 mod Chains
 mod Runs
-pub mod Pieces
-pub mod Cutting
+mod Pieces
+mod Cutting
 mod Digits
-pub mod Sorting
+mod Sorting
 mod Wording
-mod Faulting
-mod Faulted
-pub mod Naming
-pub mod Words
+mod Words
 mod Table
 mod Every
 mod Heard
@@ -20,10 +17,10 @@ mod Writing
 mod LineRead
 mod Saying
 mod Rows
-pub mod Outcomes
+mod Outcomes
 mod Spelling
 mod Instructing
-pub mod Hexing
+mod Hexing
 mod Constants
 mod Reals
 pub mod Theorem

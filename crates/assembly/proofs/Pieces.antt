@@ -52,11 +52,11 @@ above : (b : ℕ) → T (ltb 35 b) → 35 < b
 above b t = ltb-true 35 b (t_true (ltb 35 b) t)
 
 -- no byte is c
-abbrev pub lacks : ℕ → List ℕ → Bool
+abbrev lacks : ℕ → List ℕ → Bool
 lacks c [] = true
 lacks c (b ∷ w) = not (eqb b c) && lacks c w
 
-pub lacks_both : (c : ℕ) (v w : List ℕ) → T (lacks c v) → T (lacks c w) → T (lacks c (v ++ w))
+lacks_both : (c : ℕ) (v w : List ℕ) → T (lacks c v) → T (lacks c w) → T (lacks c (v ++ w))
 lacks_both c [] w s t = t
 lacks_both c (b ∷ v) w s t =
     both (not (eqb b c)) (lacks c (v ++ w)) (and_left (not (eqb b c)) (lacks c v) s) (lacks_both c v w (and_right (not (eqb b c)) (lacks c v) s) t)
@@ -92,7 +92,7 @@ other : (c b : ℕ) (w : List ℕ) → T (lacks c (b ∷ w)) → eqb b c ≡ fal
 other c b w t = not-true (eqb b c) (t_true (not (eqb b c)) (and_left (not (eqb b c)) (lacks c w) t))
 
 -- bytes before a separator
-pub cut : (c : ℕ) (w s : List ℕ) → T (lacks c w) → pieces c (w ++ c ∷ s) ≡ w ∷ pieces c s
+cut : (c : ℕ) (w s : List ℕ) → T (lacks c w) → pieces c (w ++ c ∷ s) ≡ w ∷ pieces c s
 unfolding pieces
 cut c [] s t = simp (eq-eqb c c refl)
 cut c (b ∷ w) s t = simp (other c b w t) (ap (joined b) (cut c w s (and_right (not (eqb b c)) (lacks c w) t)))

@@ -102,10 +102,10 @@ by_line {a} {b} {text} {bytes} {part} p h e =
       goes = λ n rest.
           let k : suc n ≡ 1 + n = omega arith in
           ap (assembled_from n a) (p.cuts rest)
-          ∙ ap (λ ws. after_line n a p.content (with_words a ws) (λ s. assembled_from (suc n) s (pieces 10 rest))) p.words
-          ∙ ap (λ t. after_line n a p.content (cond t (first_line (line_of (p.first ∷ p.others))) (and_then (line_of (p.first ∷ p.others)) (λ r. with_line a r.part r.bytes))) (λ s. assembled_from (suc n) s (pieces 10 rest))) z
-          ∙ ap (λ x. after_line n a p.content (and_then x (λ r. with_line a r.part r.bytes)) (λ s. assembled_from (suc n) s (pieces 10 rest))) p.said
-          ∙ ap (λ x. after_line n a p.content x (λ s. assembled_from (suc n) s (pieces 10 rest))) e
+          ∙ ap (λ ws. after_line n (with_words a ws) (λ s. assembled_from (suc n) s (pieces 10 rest))) p.words
+          ∙ ap (λ t. after_line n (cond t (first_line (line_of (p.first ∷ p.others))) (and_then (line_of (p.first ∷ p.others)) (λ r. with_line a r.part r.bytes))) (λ s. assembled_from (suc n) s (pieces 10 rest))) z
+          ∙ ap (λ x. after_line n (and_then x (λ r. with_line a r.part r.bytes)) (λ s. assembled_from (suc n) s (pieces 10 rest))) p.said
+          ∙ ap (λ x. after_line n x (λ s. assembled_from (suc n) s (pieces 10 rest))) e
           ∙ ap (λ n. assembled_from n b (pieces 10 rest)) k;
     }
 
@@ -120,9 +120,9 @@ by_first {a} {b} {text} {bytes} {part} p h e =
       goes = λ n rest.
           let k : suc n ≡ 1 + n = omega arith in
           ap (assembled_from n a) (p.cuts rest)
-          ∙ ap (λ ws. after_line n a p.content (with_words a ws) (λ s. assembled_from (suc n) s (pieces 10 rest))) p.words
-          ∙ ap (λ t. after_line n a p.content (cond (eqb t 0) (first_line (line_of (p.first ∷ p.others))) (and_then (line_of (p.first ∷ p.others)) (λ r. with_line a r.part r.bytes))) (λ s. assembled_from (suc n) s (pieces 10 rest))) h
-          ∙ ap (λ x. after_line n a p.content (first_line x) (λ s. assembled_from (suc n) s (pieces 10 rest))) p.said
-          ∙ ap (λ x. after_line n a p.content x (λ s. assembled_from (suc n) s (pieces 10 rest))) e
+          ∙ ap (λ ws. after_line n (with_words a ws) (λ s. assembled_from (suc n) s (pieces 10 rest))) p.words
+          ∙ ap (λ t. after_line n (cond (eqb t 0) (first_line (line_of (p.first ∷ p.others))) (and_then (line_of (p.first ∷ p.others)) (λ r. with_line a r.part r.bytes))) (λ s. assembled_from (suc n) s (pieces 10 rest))) h
+          ∙ ap (λ x. after_line n (first_line x) (λ s. assembled_from (suc n) s (pieces 10 rest))) p.said
+          ∙ ap (λ x. after_line n x (λ s. assembled_from (suc n) s (pieces 10 rest))) e
           ∙ ap (λ n. assembled_from n b (pieces 10 rest)) k;
     }

@@ -1,8 +1,8 @@
 -- The lines of a text, one after the other.
-use Prim.Native.Nat.{ℕ, suc, ◌+◌, ◌-◌, ◌≤◌, ◌<◌}
+use Prim.Native.Nat.{ℕ, zero, suc, ◌+◌, ◌-◌, ◌≤◌, ◌<◌}
 use mathlib.Core.Path.{◌≡◌, refl, sym, ap, ◌∙◌, subst}
-use mathlib.Core.Bool.{Bool, cond, ◌&&◌}
-use mathlib.Core.List.{List, [], ◌∷◌}
+use mathlib.Core.Bool.{Bool, true, false, cond, ◌&&◌}
+use mathlib.Core.List.{List, [], ◌∷◌, ◌++◌}
 use native.Mathlib.Omega.{arith}
 use native.Mathlib.Numerals.{add-one}
 use borrow.Author.Tests.{eq-eqb, ne_eqb}
@@ -16,6 +16,7 @@ use Rattle.assembly.specs.Assembled.{Assembled, accepted, refused_at, after_line
 use Rattle.assembly.specs.Reading.{before}
 use Rattle.assembly.specs.declared.reading.LineRead.{LineRead}
 use Rattle.assembly.specs.declared.making.Made.{Made}
+use Rattle.assembly.specs.declared.making.MakeAnswer.{MakeAnswer}
 use Rattle.assembly.specs.Making.{part_of, sheet_of, as_sheet, refusal, Low, Room, Makes, with_read, as_assembled}
 use Rattle.assembly.proofs.Cutting.{cutting, ends_within}
 use Rattle.assembly.proofs.Growing.{makes_as}
@@ -95,35 +96,34 @@ further t at e n h g d =
     omega (arith, x, h, g)
 
 module _ (t : List ℕ) (s : Made) (out : List ℕ) (at k e : ℕ) (kept : MadeSoFar t s out at k) where
-  pub ended : length t ≤ at → cond (eqb s.stage 0) (refused_at (suc k) 1 0 0 []) (accepted (take s.len out)) ≡ assembled t
+  pub ended : length t ≤ at → cond (eqb s.stage 0) (refused_at (suc k) 1) (accepted (take s.len out)) ≡ assembled t
   unfolding assembled_from pieces
   ended h = sym (ap (λ x. assembled_from (suc k) (sheet_of s out) (pieces 10 x)) (drop_of_length-le t h)) ∙ kept.same
 
-  pub no_line : length t ≤ at → s.stage ≡ 0 → refused_at (k + 1) 1 0 0 [] ≡ assembled t
+  pub no_line : length t ≤ at → s.stage ≡ 0 → refused_at (k + 1) 1 ≡ assembled t
   no_line h z =
-      ap (λ n. refused_at n 1 0 0 []) (add-one k)
-      ∙ sym (ap (λ b. cond b (refused_at (suc k) 1 0 0 []) (accepted (take s.len out))) (eq-eqb s.stage 0 z))
+      ap (λ n. refused_at n 1) (add-one k)
+      ∙ sym (ap (λ b. cond b (refused_at (suc k) 1) (accepted (take s.len out))) (eq-eqb s.stage 0 z))
       ∙ ended h
 
   pub all_lines : length t ≤ at → (s.stage ≡ 0 → ⊥) → accepted (take s.len out) ≡ assembled t
   all_lines h z =
-      sym (ap (λ b. cond b (refused_at (suc k) 1 0 0 []) (accepted (take s.len out))) (ne_eqb s.stage 0 z)) ∙ ended h
+      sym (ap (λ b. cond b (refused_at (suc k) 1) (accepted (take s.len out))) (ne_eqb s.stage 0 z)) ∙ ended h
 
   module _ {m : Made} {o : List ℕ} (h : at < length t) (q : e ≡ at + before 10 (drop at t))
       (made : Makes (stepped (sheet_of s out) (take (e - at) (drop at t))) m o) where
     abbrev onward : Read Draft → Assembled
-    onward x = after_line (suc k) (sheet_of s out) (take (e - at) (drop at t)) x (λ s. assembled_from (suc (suc k)) s (pieces 10 (drop (e + 1) t)))
+    onward x = after_line (suc k) x (λ s. assembled_from (suc (suc k)) s (pieces 10 (drop (e + 1) t)))
 
     turned : onward (as_sheet m o) ≡ assembled t
     unfolding assembled_from
     turned = ap onward made.same ∙ sym (ap (assembled_from (suc k) (sheet_of s out)) (cutting 10 t at e h q)) ∙ kept.same
 
-    pub refused-here : (m.why ≡ 0 → ⊥)
-        → as_assembled (record { len = 0; line = k + 1; why = m.why; stage = s.stage; count = s.count; from = at; to = e }) o t ≡ assembled t
+    pub refused-here : (m.why ≡ 0 → ⊥) → as_assembled (record { len = 0; line = k + 1; why = m.why }) o ≡ assembled t
     refused-here z =
         let w = ne_eqb m.why 0 z in
-        ap (λ b. cond b (accepted (take 0 o)) (refused_at (k + 1) m.why s.stage s.count (take (e - at) (drop at t)))) w
-        ∙ ap (λ n. refused_at n m.why s.stage s.count (take (e - at) (drop at t))) (add-one k)
+        ap (λ b. cond b (accepted (take 0 o)) (refused_at (k + 1) m.why)) w
+        ∙ ap (λ n. refused_at n m.why) (add-one k)
         ∙ sym (ap (λ b. onward (cond b (got (sheet_of m o)) (refused m.why))) w)
         ∙ turned
 

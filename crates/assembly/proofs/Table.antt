@@ -1,5 +1,5 @@
 -- The tables of first words are those of the definition.
-use Prim.Native.Nat.{ℕ, ◌+◌, ◌-◌, ◌*◌, ◌≤◌, ◌<◌}
+use Prim.Native.Nat.{ℕ, zero, suc, ◌+◌, ◌-◌, ◌*◌, ◌≤◌, ◌<◌}
 use mathlib.Core.Path.{◌≡◌, refl, sym, ap, ◌∙◌}
 use mathlib.Core.List.{List, [], ◌∷◌, ◌++◌, map}
 use native.Mathlib.Omega.{arith}
@@ -95,10 +95,8 @@ count : length heads ≡ 59
 unfolding heads
 count = refl
 
-pub no_head : (n : ℕ) → 59 ≤ n → get_or heads n nothing ≡ nothing
-no_head n h = let l : length heads ≤ n = omega (arith, count, h) in get_or-eq_default heads nothing l
-
 pub no_row : (n : ℕ) (ws : List (List ℕ)) {e : Line} → 59 ≤ n → e ≡ empty_line
     → words_put [] e ws ≡ words_put (get_or heads n nothing).sorts (add_all empty_line (get_or heads n nothing).start) ws
 no_row n ws {e} h empty =
-    ap (λ e. words_put [] e ws) empty ∙ ap (λ x. words_put x.sorts (add_all empty_line x.start) ws) (sym (no_head n h))
+    let l : length heads ≤ n = omega (arith, count, h) in
+    ap (λ e. words_put [] e ws) empty ∙ ap (λ x. words_put x.sorts (add_all empty_line x.start) ws) (sym (get_or-eq_default heads nothing l))

@@ -162,4 +162,4 @@ round_trip s bytes r =
         ∙ ap (λ l. assembled_from 1 no_sheet (pieces 10 l)) (no-mark k.mode (real_lines (take 64 (drop 5 s)) 512 0) (constant_lines (constants_of s n)) (instruction_lines (of_setup s (record { number = 0; mode = k.mode; places = take 64 (drop 5 s); count = n; start = 69 + 12 * n })).items))
         ∙ ap (λ l. assembled_from 1 no_sheet (pieces 10 l)) (sym (append-nil (lines_of s (record { number = 0; mode = k.mode; places = take 64 (drop 5 s); count = n; start = 69 + 12 * n }))))
         ∙ way.goes 1 []
-        ∙ ap (λ t. cond t (refused_at (way.lines + 1) 1 0 0 []) (accepted s)) e
+        ∙ ap (λ t. cond t (refused_at (way.lines + 1) 1) (accepted s)) e

@@ -19,12 +19,12 @@ use Rattle.mir.specs.Place.{class, index}
 use Rattle.assembly.specs.Assembled.{number_from, counting, register_words, class_words, index_words, mode_words, FirstWord, nothing, heads}
 use Rattle.assembly.proofs.Pieces.{t_true, passing, passes, is_word}
 
-abbrev pub is_at : ℕ → Read ℕ → Bool
+abbrev is_at : ℕ → Read ℕ → Bool
 is_at i (got n) = eqb n i
 is_at i (refused n) = false
 
 -- a table whose word at i is a word and has number i
-abbrev pub right : List (List ℕ) → ℕ → Bool
+abbrev right : List (List ℕ) → ℕ → Bool
 right table i = is_at i (number_from 0 table (get_or table i [])) && is_word (get_or table i [])
 
 -- what is known of a table's word
@@ -36,7 +36,7 @@ at : (i : ℕ) (r : Read ℕ) → T (is_at i r) → r ≡ got i
 at i (got n) t = ap got (eqb-true n i (t_true (eqb n i) t))
 at i (refused n) t = absurd t
 
-pub stands : (table : List (List ℕ)) (n k : ℕ) → T (passing (right table) n 0) → k < n → Stands table k (get_or table k [])
+stands : (table : List (List ℕ)) (n k : ℕ) → T (passing (right table) n 0) → k < n → Stands table k (get_or table k [])
 stands table n k t h =
     let r = passes (right table) n k t h in
     record {

@@ -1,21 +1,19 @@
 -- What is written: the sheet, or the line of its refusal.
-use Prim.Native.Nat.{ℕ, ◌+◌, ◌-◌, ◌≤◌, ◌<◌}
+use Prim.Native.Nat.{ℕ, ◌+◌, ◌≤◌, ◌<◌}
 use mathlib.Core.Path.{◌≡◌, refl, sym, ap, ◌∙◌}
 use mathlib.Core.Bool.{Bool, cond}
-use mathlib.Core.List.{List, [], ◌++◌}
+use mathlib.Core.List.{List, [], ◌∷◌, ◌++◌}
 use native.Mathlib.Omega.{arith}
 use borrow.Author.Tests.{eq-eqb, ne_eqb, lt-ltb, le-ltb}
-use lib.ListN.{length, take, drop}
-use lib.Seq.{length-sets, take-take, length-take-le}
+use lib.Dec.{eqb}
+use lib.ListN.{length, take}
+use lib.Seq.{take-take, length-take-le}
 use Rattle.words.specs.Bytes.{stored}
 use Rattle.words.proofs.Stored.{stored_front}
-use Rattle.words.proofs.Lengths.{sets_front}
 use Rattle.text.specs.declared.line.Line.{Line}
 use Rattle.text.specs.Line.{Prints}
-use Rattle.text.specs.Puts.{Puts}
 use Rattle.assembly.specs.Lines.{refused_text, long_text}
-use Rattle.assembly.specs.Assembled.{Assembled, accepted, refused_at, uncommented, words_of, assembled}
-use Rattle.assembly.specs.Faults.{fault_of, fault_text, outcome, written}
+use Rattle.assembly.specs.Assembled.{Assembled, accepted, refused_at, outcome, assembled, written}
 use Rattle.assembly.specs.declared.making.MakeAnswer.{MakeAnswer}
 use Rattle.assembly.specs.Making.{as_assembled}
 
@@ -34,35 +32,24 @@ line_first out {text} {l} {o} p h f =
     in
     (bytes, p.whole.count)
 
--- text that is put at the front
-pub text_first : {out text o : List ℕ} {n : ℕ} → Puts out 0 text o n → (take n o ≡ text) × (n ≡ length text)
-text_first {out} {text} {o} {n} p =
-    let k = ap length p.same ∙ length-sets out 0 text in
-    let z : n ≡ length text = omega (arith, p.ends) in
-    (ap (λ n. take n o) z ∙ ap (take (length text)) p.same ∙ sets_front out text (length text) refl (omega (arith, p.fits, z, k)), z)
-
-module _ (e : MakeAnswer) (out t : List ℕ) {a : Assembled} (same : as_assembled e out t ≡ a) where
+module _ (e : MakeAnswer) (out : List ℕ) {a : Assembled} (same : as_assembled e out ≡ a) where
   -- bytes at the front, and their count
   abbrev Written : ℕ → List ℕ → Type 0
   Written n o = (take n o ≡ outcome a) × (n ≡ length (outcome a))
 
-  abbrev refused_line : List ℕ
-  refused_line = take (e.to - e.from) (drop e.from t)
-
   abbrev by-reason : Bool → List ℕ
-  by-reason b = outcome (cond b (accepted (take e.len out)) (refused_at e.line e.why e.stage e.count refused_line))
+  by-reason b = outcome (cond b (accepted (take e.len out)) (refused_at e.line e.why))
 
   pub sheet-written : e.why ≡ 0 → e.len ≤ length out → Written e.len out
   sheet-written z h =
       let p : take e.len out ≡ outcome a = sym (ap by-reason (eq-eqb e.why 0 z)) ∙ ap outcome same in
       (p, sym (length-take-le e.len out h) ∙ ap length p)
 
-  pub refusal-written : {o : List ℕ} {n : ℕ} → (e.why ≡ 0 → ⊥)
-      → Puts out 0 (refused_text e.line e.why ++ fault_text (uncommented refused_line) (fault_of e.why e.stage e.count (words_of (uncommented refused_line)))) o n
-      → Written n o
-  refusal-written z p =
+  pub line-written : {l : Line} {o : List ℕ} → (e.why ≡ 0 → ⊥) → Prints (refused_text e.line e.why) l → 80 ≤ length out
+      → o ≡ stored out 0 l.bytes → Written l.len o
+  line-written {l} {o} z p h f =
       let text = sym (ap by-reason (ne_eqb e.why 0 z)) ∙ ap outcome same in
-      let first = text_first p in
+      let first = line_first out p h f in
       (first.0 ∙ text, first.1 ∙ ap length text)
 
 -- a text that is too long, and one that is not

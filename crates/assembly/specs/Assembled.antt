@@ -8,10 +8,11 @@ use Rattle.mir.specs.Encode.{record_of}
 use Rattle.mir.specs.Read.{Read, got, refused, refuse, and_then}
 use Rattle.mir.specs.Field.{byte_at, place_at}
 use Rattle.sheet.specs.Instruction.{instruction_from}
+use Rattle.lowering.specs.Realness.{bit_at, byte_of}
 use Rattle.replay.specs.Same.{same}
 use Rattle.text.specs.Text.{ascii, decimal, uni_names, bin_names, fused_names}
 use Rattle.text.specs.Text as Text
-use Rattle.assembly.specs.Lines.{named}
+use Rattle.assembly.specs.Lines.{named, refused_text, long_text}
 
 -- the pieces of a text between the bytes c; one at its end closes the last piece
 abbrev pub joined : ℕ → List (List ℕ) → List (List ℕ)
@@ -265,24 +266,24 @@ unfoldable pub stepped : Draft → List ℕ → Read Draft
 unfolding uncommented words_of with_words
 stepped s l = with_words s (words_of (uncommented l))
 
--- a sheet's bytes; or of the first line that is refused its number, why (1: no mode, 2: sheet full, with 251 constants, 3: no such line,
--- 4: sheet too long), how far the sheet was before it, how many constants it had, and the line
+-- a sheet's bytes, or the number of the first line that is refused, and why (1: no mode, 2: sheet full, with 251 constants, 3: no
+-- such line, 4: sheet too long)
 pub data Assembled : Type 0 where
   accepted : List ℕ → Assembled
-  refused_at : ℕ → ℕ → ℕ → ℕ → List ℕ → Assembled
+  refused_at : ℕ → ℕ → Assembled
 
 -- line after line, of which the first has number n; where no mode was found, it is missed behind the last line
 abbrev pub ended : ℕ → Draft → Assembled
-ended n s = cond (eqb s.stage 0) (refused_at n 1 0 0 []) (accepted s.bytes)
+ended n s = cond (eqb s.stage 0) (refused_at n 1) (accepted s.bytes)
 
-abbrev pub after_line : ℕ → Draft → List ℕ → Read Draft → (Draft → Assembled) → Assembled
-after_line n s l (got s') f = f s'
-after_line n s l (refused why) f = refused_at n why s.stage s.count l
+abbrev pub after_line : ℕ → Read Draft → (Draft → Assembled) → Assembled
+after_line n (got s) f = f s
+after_line n (refused why) f = refused_at n why
 
 unfoldable pub assembled_from : ℕ → Draft → List (List ℕ) → Assembled
 unfolding stepped
 assembled_from n s [] = ended n s
-assembled_from n s (l ∷ ls) = after_line n s l (stepped s l) (λ s. assembled_from (suc n) s ls)
+assembled_from n s (l ∷ ls) = after_line n (stepped s l) (λ s. assembled_from (suc n) s ls)
 
 abbrev pub no_sheet : Draft
 no_sheet = record { bytes = []; count = 0; instructions = 0; stage = 0 }
@@ -290,3 +291,13 @@ no_sheet = record { bytes = []; count = 0; instructions = 0; stage = 0 }
 unfoldable pub assembled : List ℕ → Assembled
 unfolding pieces unmarked assembled_from
 assembled text = assembled_from 1 no_sheet (pieces 10 (unmarked text))
+
+-- the sheet, or the line of its refusal
+abbrev pub outcome : Assembled → List ℕ
+outcome (accepted sheet) = sheet
+outcome (refused_at n why) = refused_text n why
+
+-- what the program `assemble` writes for a text, of which it takes at most 500,000 bytes
+unfoldable pub written : List ℕ → List ℕ
+unfolding assembled
+written text = cond (ltb 500000 (length text)) long_text (outcome (assembled text))

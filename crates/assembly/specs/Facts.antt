@@ -2,10 +2,8 @@
 use Rattle.std.specs.Prelude.{ℕ, ◌≡◌, refl, List, [], ◌∷◌, ◌++◌, replicate}
 use Rattle.mir.specs.Field.{u16_at, takes_kind, place_at, save_place}
 use Rattle.sheet.specs.Instruction.{instruction_from}
-use Rattle.text.specs.Text.{ascii, decimal_in}
+use Rattle.text.specs.Text.{ascii}
 use Rattle.text.specs.Text as Text
-use Rattle.assembly.specs.Lines.{refused_text}
-use Rattle.assembly.specs.Faults.{fault_of, fault_text, written}
 use Rattle.assembly.specs.Assembled.{register_words, class_words, index_words, mode_words, accepted, refused_at, assembled}
 
 -- a sheet of two instructions
@@ -32,39 +30,21 @@ unfolding assembled ascii mode_words register_words class_words index_words Text
 written_by_hand = refl
 
 -- a byte order mark counts for nothing at the text's begin alone
-pub second_mark : assembled (239 ∷ 187 ∷ 191 ∷ 239 ∷ 187 ∷ 191 ∷ ascii "mode plain\n")
-    ≡ refused_at 1 1 0 0 (239 ∷ 187 ∷ 191 ∷ ascii "mode plain")
+pub second_mark : assembled (239 ∷ 187 ∷ 191 ∷ 239 ∷ 187 ∷ 191 ∷ ascii "mode plain\n") ≡ refused_at 1 1
 unfolding assembled ascii
 second_mark = refl
 
 -- a line without words has its number
-pub third_line : assembled (ascii "# first\n\nLoad G0 Mem 3\n") ≡ refused_at 3 1 0 0 (ascii "Load G0 Mem 3")
+pub third_line : assembled (ascii "# first\n\nLoad G0 Mem 3\n") ≡ refused_at 3 1
 unfolding assembled ascii register_words class_words index_words Text.register
 third_line = refl
 
 -- a text without words
-pub no_words : assembled (ascii "# first\n\n") ≡ refused_at 3 1 0 0 []
+pub no_words : assembled (ascii "# first\n\n") ≡ refused_at 3 1
 unfolding assembled ascii
 no_words = refl
 
 -- a word more
-pub word_more : assembled (ascii "mode plain\nNop # Nop\nNop Nop\n") ≡ refused_at 3 3 3 0 (ascii "Nop Nop")
+pub word_more : assembled (ascii "mode plain\nNop # Nop\nNop Nop\n") ≡ refused_at 3 3
 unfolding assembled ascii mode_words instruction_from u16_at takes_kind
 word_more = refl
-
--- what is written for it: the line and why, then the column of the word that is one too many
-pub word_more_told : written (ascii "mode plain\nNop # Nop\nNop Nop\n") ≡ ascii "refused line 3 no such line\ncolumn 5: Nop: expected the end of the line\n"
-unfolding written assembled ascii decimal_in refused_text mode_words instruction_from u16_at takes_kind fault_text fault_of
-word_more_told = refl
-
--- the first of two words that are no registers, behind a tab and two spaces
-pub first_told :
-    written (ascii "mode plain\n" ++ 9 ∷ ascii "Plus G0  G30 G31\n")
-    ≡ ascii "refused line 2 no such line\ncolumn 11: G30: expected a register (G0 to G29, Ret or Temp)\n"
-unfolding written assembled ascii decimal_in refused_text mode_words register_words Text.register instruction_from u16_at takes_kind fault_text fault_of
-first_told = refl
-
--- a word that lacks
-pub lacking_told : written (ascii "mode\n") ≡ ascii "refused line 1 no mode\ncolumn 5: end of line: expected a mode (plain, stable or minding)\n"
-unfolding written assembled ascii decimal_in refused_text mode_words fault_text fault_of
-lacking_told = refl

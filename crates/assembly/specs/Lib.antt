@@ -5,5 +5,3 @@ pub mod Facts
 pub mod RoundTrip
 pub mod Reading
 pub mod Making
-pub mod Faults
-pub mod Naming

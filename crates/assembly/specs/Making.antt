@@ -1,5 +1,5 @@
 -- How the program makes a sheet: in lent bytes, at whose front the sheet's stand. What the code keeps, as the definitions' own.
-use Rattle.std.specs.Prelude.{ℕ, ◌+◌, ◌-◌, ◌*◌, ◌/◌, ◌%◌, ◌≤◌, ◌≡◌, cond, List, eqb, length, take, drop}
+use Rattle.std.specs.Prelude.{ℕ, ◌+◌, ◌*◌, ◌/◌, ◌%◌, ◌≤◌, ◌≡◌, cond, List, eqb, length, take}
 use Rattle.mir.specs.declared.records.Loc.{Loc}
 use Rattle.mir.specs.Read.{Read, got, refused}
 use Rattle.text.specs.declared.line.Line.{Line}
@@ -76,8 +76,6 @@ pub record Makes (answer : Read Draft) (m : Made) (out : List ℕ) : Type 0 wher
 abbrev pub with_read : Draft → LineKind → List ℕ → Read Draft
 with_read s p b = cond (eqb s.stage 0) (opened p b) (with_line s p b)
 
--- the sheet, or its refusal, with the line from the text
-abbrev pub as_assembled : MakeAnswer → List ℕ → List ℕ → Assembled
-as_assembled e out t =
-    cond (eqb e.why 0) (accepted (take e.len out))
-    (refused_at e.line e.why e.stage e.count (take (e.to - e.from) (drop e.from t)))
+-- the sheet, or its refusal
+abbrev pub as_assembled : MakeAnswer → List ℕ → Assembled
+as_assembled e out = cond (eqb e.why 0) (accepted (take e.len out)) (refused_at e.line e.why)

@@ -1,5 +1,4 @@
 // A sheet as text: its lines, a line read, and the sheet that a text makes.
-mod faults;
 pub mod lines;
 pub mod making;
 pub mod reading;

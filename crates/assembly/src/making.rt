@@ -1,20 +1,18 @@
 // A sheet made of its text, line after line, in lent bytes.
-ghost use Rattle.std.specs.Prelude.{◌^◌, ◌%◌, ◌≤◌, ◌≡◌, length, take, drop, ◌++◌};
-ghost use Rattle.text.specs.Puts.{Puts};
+ghost use Rattle.std.specs.Prelude.{◌^◌, ◌%◌, ◌≤◌, ◌≡◌, length, take, drop};
 ghost use Rattle.mir.specs.Read.{got};
+ghost use Rattle.mir.specs.Field.{place_at};
 ghost use Rattle.assembly.specs.Assembled.{real, constant_line, instruction, marked, grown, with_line, opened, words_of};
-ghost use Rattle.assembly.specs.Assembled.{unmarked, uncommented, with_words, stepped, assembled};
-ghost use Rattle.assembly.specs.Faults.{outcome, written, fault_of, fault_text};
-ghost use Rattle.assembly.specs.Lines.{refused_text, long_text};
-ghost use Rattle.assembly.specs.Making.{part_of, with_bit, sheet_of, refusal, Room, Grows, Makes, with_read, as_assembled};
+ghost use Rattle.assembly.specs.Assembled.{unmarked, with_words, stepped, assembled, outcome, written};
+ghost use Rattle.assembly.specs.Lines.{long_text};
+ghost use Rattle.assembly.specs.Reading.{as_number};
+ghost use Rattle.assembly.specs.Making.{part_of, place_bit, with_bit, sheet_of, refusal, Room, Grows, Makes, with_read, as_assembled};
 
-use super::faults::{fault_of, put_fault};
 use super::lines::{long_line, refused_line};
-use super::reading::{Number, behind, piece_end, read_line, real_bit, run_end};
+use super::reading::{Number, behind, piece_end, read_line, run_end};
 use lowering::realness::power_of;
-use mir::fields::byte;
+use mir::fields::{byte, u16_at};
 use sheet::reader::{LONGEST, NextInstruction, read_instruction};
-use text::put::put_line;
 use words::put_bytes;
 
 // A sheet that is being made: its bytes, its constants, its instructions, how far it is, and why its last line is refused (0: it is not).
@@ -60,6 +58,24 @@ fn mark(out: &mut [u8], i: usize)
     }
     let b = out[at];
     out[at] = with_bit(b, i);
+}
+
+// The bit of a real place, from the place's bytes.
+fn real_bit(b: &[u8]) -> Number
+    ensures { as_number result ≡ place_bit (place_at b.now 0) }
+{
+    let class = byte(b, 0);
+    let i = u16_at(b, 1) as usize;
+    if 255 < i {
+        return Number::None;
+    }
+    if class == 0 {
+        return Number::At(i);
+    }
+    if class == 2 {
+        return Number::At(256 + i);
+    }
+    Number::None
 }
 
 // A real place more.
@@ -238,42 +254,30 @@ fn text_start(t: &[u8]) -> usize
     if byte(t, 2) == 0xbf { 3 } else { 0 }
 }
 
-// A sheet that is made, its bytes; or the line that is refused, why (0: none is), how far the sheet was before it, how many constants it
-// had, and where the line begins and ends.
+// A sheet that is made, its bytes; or the line that is refused, and why (0: none is).
 #[derive(Drop)]
 pub(crate) struct MakeAnswer {
     pub(crate) len: usize,
     pub(crate) line: u64,
     pub(crate) why: u8,
-    pub(crate) stage: u8,
-    pub(crate) count: usize,
-    pub(crate) from: usize,
-    pub(crate) to: usize,
 }
 
 // The lines of a text, one after the other.
 fn make(out: &mut [u8], t: &[u8]) -> MakeAnswer
     requires { 69184 ≤ length out.old }
-    ensures t_after { (as_assembled result out.new t.now ≡ assembled t.now) × (result.len ≤ 69184) }
-    ensures from_le_to { (result.from ≤ result.to) × (result.to ≤ length t.now) }
+    ensures { (as_assembled result out.new ≡ assembled t.now) × (result.len ≤ 69184) }
 {
     let mut s = refuse(0);
     let mut at = text_start(t);
     let mut k: u64 = 0;
     while at < t.len() {
         let end = piece_end(t, at, b'\n');
-        let stage = s.stage;
-        let count = s.count;
         s = step(out, s, &t[at..end]);
         if s.why != 0 {
             return MakeAnswer {
                 len: 0,
                 line: k + 1,
                 why: s.why,
-                stage: stage,
-                count: count,
-                from: at,
-                to: end,
             };
         }
         at = behind(t, end);
@@ -284,20 +288,12 @@ fn make(out: &mut [u8], t: &[u8]) -> MakeAnswer
             len: 0,
             line: k + 1,
             why: 1,
-            stage: 0,
-            count: 0,
-            from: 0,
-            to: 0,
         };
     }
     MakeAnswer {
         len: s.len,
         line: 0,
         why: 0,
-        stage: 0,
-        count: 0,
-        from: 0,
-        to: 0,
     }
 }
 
@@ -306,17 +302,6 @@ fn make(out: &mut [u8], t: &[u8]) -> MakeAnswer
 pub struct Written {
     pub bytes: [u8; 69184],
     pub len: usize,
-}
-
-// The refusal of a line put as text, and its length.
-fn put_refusal(out: &mut [u8], l: &[u8], e: MakeAnswer) -> usize
-    requires { 240 ≤ length out.old }
-    ensures { Puts out.old 0 (refused_text e.line e.why ++ fault_text (uncommented l.now) (fault_of e.why e.stage e.count (words_of (uncommented l.now)))) out.new result }
-{
-    let long = piece_end(l, 0, b'#');
-    let f = fault_of(e.why, e.stage, e.count, &l[0..long]);
-    let at = put_line(out, 0, refused_line(e.line, e.why));
-    put_fault(out, at, &l[0..long], f)
 }
 
 // The sheet of a text that is not too long, or its refusal.
@@ -332,12 +317,12 @@ fn sheet_or_refusal(t: &[u8]) -> Written
             len: e.len,
         };
     }
-    let from = e.from;
-    let to = e.to;
-    let len = put_refusal(&mut out, &t[from..to], e);
+    let line = refused_line(e.line, e.why);
+    let bytes = line.bytes;
+    put_bytes(&mut out, 0, &bytes);
     Written {
         bytes: out,
-        len: len,
+        len: line.len,
     }
 }
 

@@ -3,12 +3,11 @@ ghost use Rattle.std.specs.Prelude.{◌≡◌, ◌+◌, ◌%◌, drop, get_or, [
 ghost use Rattle.assembly.specs.Assembled.{pieces, words_of, number_from, register_words, class_words, index_words, mode_words};
 ghost use Rattle.assembly.specs.Assembled.{heads, nothing, line_of, digit, pair, are_digits, bits_of, word_bytes};
 ghost use Rattle.assembly.specs.Reading.{before, blankness, run, as_number, as_word_taken, sort_of, words_put, head_put};
-ghost use Rattle.assembly.specs.Making.{part_of, tagged, as_line, told, place_bit};
+ghost use Rattle.assembly.specs.Making.{part_of, tagged, as_line, told};
 ghost use Rattle.text.specs.Line.{empty_line, add_all};
 ghost use Rattle.mir.specs.Read.{got, refused, and_then};
-ghost use Rattle.mir.specs.Field.{place_at};
 
-use mir::fields::{byte, u16_at};
+use mir::fields::byte;
 use replay::same::same_bytes;
 use text::line::{Line, empty_line};
 
@@ -315,11 +314,11 @@ const STARTS: [u8; 295] = *b"\
     \x0a\x00\x09\x00\x00\x0a\x00\x09\x00\x01\x0a\x00\x09\x00\x02\x0a\x00\x09\x00\x03\x09\x00\x0a\x00\x00\x09\x00\x0a\x00\x01\
     \x09\x00\x0a\x00\x02\x09\x00\x0a\x00\x03\x05\x00\x0e\x00\x00\x05\x00\x0f\x00\x00\x07\x00\x11\x00\x00";
 
-pub(crate) const SORT_COUNTS: [u8; 59] = *b"\
+const SORT_COUNTS: [u8; 59] = *b"\
     \x01\x02\x01\x00\x02\x02\x02\x02\x02\x02\x02\x02\x02\x02\x02\x02\x02\x02\x02\x02\x02\x02\x02\x02\x03\x03\x03\x03\x03\x03\
     \x03\x03\x03\x03\x03\x03\x03\x03\x03\x02\x03\x03\x02\x04\x04\x04\x04\x05\x04\x04\x04\x04\x03\x03\x03\x03\x01\x01\x03";
 
-pub(crate) const SORTS: [u8; 295] = *b"\
+const SORTS: [u8; 295] = *b"\
     m....ci...b.........rr...rr...rr...rr...rr...rr...rr...rr...rr...rr...rr...rr...rr...rr...rr...rr...rr...rr...rr...rr...rrr..\
     rrr..rrr..rrr..rrr..rrr..rrr..rrr..rrr..rrr..rrr..rrr..rrr..rrr..rrr..rr...rci..rci..ri...rrrr.rrrr.rrrr.rrrr.rrrcirrci.rrci.\
     rrci.rrci.rri..rri..rri..rri..n....n....rnn..";
@@ -366,24 +365,6 @@ fn no_line() -> LineRead
         head: 0,
         line: empty_line(),
     }
-}
-
-// The bit of a real place, from the place's bytes.
-pub(crate) fn real_bit(b: &[u8]) -> Number
-    ensures { as_number result ≡ place_bit (place_at b.now 0) }
-{
-    let class = byte(b, 0);
-    let i = u16_at(b, 1) as usize;
-    if 255 < i {
-        return Number::None;
-    }
-    if class == 0 {
-        return Number::At(i);
-    }
-    if class == 2 {
-        return Number::At(256 + i);
-    }
-    Number::None
 }
 
 // What a line is, and its bytes.

@@ -1,52 +1,237 @@
-// Tries the cases of standard input: records and setups at the edges of the rules, sheets at the limits, and the sheets of the misreadings
-// that the rules name. A case is a line: a letter for what is tried, a space, the case's name, a colon, a space, then bytes, each of two
-// hexadecimal digits, with spaces between them as one likes. Writes the name of each case, and what came out.
-mod cases;
-mod edges;
-mod limits;
+// Lowers sheets at the limits of the rules, and the sheets of the misreadings that the rules name. Writes for each the answer, the
+// constants that lowering added, the registers recorded as real, the listing's registers filled and those drawn on before, and the listing;
+// for a misreading also registers after a play.
+
 mod print;
+mod sheets;
 
-use cases::{bytes_of, find};
-use libc::STDIN_FILENO;
-use print::write;
+use complexify::entry::{LowerAnswer, lower};
+use player::play;
+use sheets::{SheetBytes, header};
 
-// Tries a case's bytes, by its letter.
-fn try_bytes(letter: u8, bytes: &[u8]) {
-    match letter {
-        b's' => edges::in_sheet(bytes),
-        b'l' => edges::in_listing(bytes),
-        b'h' => edges::header(bytes),
-        b'c' => edges::constant(bytes),
-        b'a' => limits::limit(bytes),
-        b'p' => limits::misreading(bytes),
-        _ => write(b"no such letter\n"),
+// Lowers the first len of bytes, a sheet that has so many constants of its own.
+fn lowered(
+    name: &[u8],
+    bytes: &[u8],
+    len: usize,
+    own: usize,
+    listing: &mut [u8],
+    constants: &mut [u64],
+) -> LowerAnswer {
+    let n = sheets::within(bytes.len(), len);
+    let mut origins = [0u16; 256];
+    let a = lower(&bytes[0..n], listing, constants, &mut origins);
+    print::answer(name, a);
+    print::constants(constants, own, a.count);
+    print::real(a.real);
+    let filled = a.filled;
+    print::marks(b"  filled", filled);
+    let drawn = a.drawn;
+    print::marks(b"  drawn on", drawn);
+    print::listing(listing, a.written, a.count);
+    a
+}
+
+fn limit(name: &[u8], sheet: SheetBytes, own: usize) {
+    let bytes = sheet.bytes;
+    let mut listing = [0u8; 1024];
+    let mut constants = [0u64; 256];
+    lowered(name, &bytes, sheet.len, own, &mut listing, &mut constants);
+}
+
+// A store whose first ten registers hold these words, and all else zeros.
+fn store_of(first: &[u64; 10]) -> [u64; 1602] {
+    let mut store = [0u64; 1602];
+    words::put_words(&mut store, 0, first);
+    store
+}
+
+// Lowers the sheet, plays its listing, and shows the registers from one to another.
+fn misreading(
+    name: &[u8],
+    sheet: SheetBytes,
+    own: usize,
+    first: &[u64; 10],
+    from: usize,
+    to: usize,
+) {
+    let bytes = sheet.bytes;
+    let mut listing = [0u8; 1024];
+    let mut constants = [0u64; 256];
+    let a = lowered(name, &bytes, sheet.len, own, &mut listing, &mut constants);
+    let mut store = store_of(first);
+    let written = a.written;
+    let count = a.count;
+    if written <= 1024 {
+        if count <= 256 {
+            print::played(play(&listing[0..written], &constants[0..count], &mut store, 0));
+            print::registers(&store, from, to);
+        }
     }
 }
 
-// The name stands between the letter, with its space, and the first colon.
-fn try_case(line: &[u8]) {
-    let colon = find(line, 0, b':');
-    if 2 <= colon {
-        write(&line[2..colon]);
-        write(b": ");
-        let mut bytes = [0u8; 16448];
-        let n = bytes_of(&line[colon..], &mut bytes);
-        try_bytes(line[0], &bytes[0..n]);
-    }
+// The modes' bytes.
+const PLAIN: u8 = 0;
+
+const STABLE: u8 = 1;
+
+const MINDING: u8 = 2;
+
+// A Mov of 0 to 1, then the instruction that stands at a limit.
+fn moved(mode: u8, constants: usize, instruction: &[u8]) -> SheetBytes {
+    header(mode)
+        .constants(constants)
+        .records(b"\x06\x00\x03\x00\x01\x00")
+        .records(instruction)
 }
 
-fn try_all(list: &[u8]) {
-    let mut at: usize = 0;
-    while at < list.len() {
-        let end = find(list, at, b'\n');
-        try_case(&list[at..end]);
-        at = end + 1;
-    }
+fn plain(name: &[u8], instruction: &[u8]) {
+    limit(name, moved(PLAIN, 0, instruction), 0);
 }
 
-// Reads the cases, of at most 262,144 bytes.
+fn registers() {
+    plain(b"Mov to register 31", b"\x06\x00\x03\x00\x1f\x02");
+    plain(b"Mov to register 32", b"\x06\x00\x03\x00\x20\x02");
+    plain(b"Mov of register 31", b"\x06\x00\x03\x00\x02\x1f");
+    plain(b"Mov of register 32", b"\x06\x00\x03\x00\x02\x20");
+}
+
+fn places() {
+    plain(b"Load of Stack 255", b"\x08\x00\x04\x00\x02\x00\xff\x00");
+    plain(b"Load of Stack 256", b"\x08\x00\x04\x00\x02\x00\x00\x01");
+    plain(b"Load of Mem 255", b"\x08\x00\x04\x00\x02\x01\xff\x00");
+    plain(b"Load of Mem 256", b"\x08\x00\x04\x00\x02\x01\x00\x01");
+    plain(b"Load of Param 255", b"\x08\x00\x04\x00\x02\x02\xff\x00");
+    plain(b"Load of Param 256", b"\x08\x00\x04\x00\x02\x02\x00\x01");
+    plain(b"Save to Stack 255", b"\x08\x00\x05\x00\x02\x00\xff\x00");
+    plain(b"Save to Stack 256", b"\x08\x00\x05\x00\x02\x00\x00\x01");
+}
+
+fn constants() {
+    limit(
+        b"251 constants, the last loaded",
+        moved(PLAIN, 251, b"\x07\x00\x06\x00\x02\xfa\x00"),
+        251,
+    );
+    limit(
+        b"251 constants, one past the last loaded",
+        moved(PLAIN, 251, b"\x07\x00\x06\x00\x02\xfb\x00"),
+        251,
+    );
+    limit(
+        b"252 constants",
+        moved(PLAIN, 252, b"\x07\x00\x06\x00\x02\xfa\x00"),
+        252,
+    );
+    limit(
+        b"251 constants, stable Abs",
+        moved(STABLE, 251, b"\x07\x00\x01\x00\x02\x02\x03"),
+        251,
+    );
+    limit(
+        b"252 constants, stable Abs",
+        moved(STABLE, 252, b"\x07\x00\x01\x00\x02\x02\x03"),
+        252,
+    );
+}
+
+fn barred() {
+    limit(
+        b"stable Divide by Temp",
+        moved(STABLE, 0, b"\x08\x00\x02\x00\x03\x02\x03\x1f"),
+        0,
+    );
+    limit(
+        b"plain Divide by Temp",
+        moved(PLAIN, 0, b"\x08\x00\x02\x00\x03\x02\x03\x1f"),
+        0,
+    );
+}
+
+// Root of 0 to 1, then of 1 to 2, from 16.
+fn second_root(name: &[u8], mode: u8) {
+    let sheet = header(mode).records(b"\x07\x00\x01\x00\x03\x01\x00\x07\x00\x01\x00\x03\x02\x01");
+    let first = [0, 0, 0, 0, 0x4030_0000_0000_0000, 0, 0, 0, 0, 0];
+    misreading(name, sheet, 0, &first, 6, 10);
+}
+
+// Divide of 0 by 1 to Temp, 6 over 2.
+fn divide_to_temp(name: &[u8], mode: u8) {
+    let sheet = header(mode).records(b"\x08\x00\x02\x00\x03\x1f\x00\x01");
+    let first = [
+        0,
+        0,
+        0,
+        0,
+        0x4018_0000_0000_0000,
+        0,
+        0x4000_0000_0000_0000,
+        0,
+        0,
+        0,
+    ];
+    misreading(name, sheet, 0, &first, 0, 2);
+}
+
+// LoadConst of 6 to Temp, then Divide of Temp by 1 to 2, where 1 is 2.
+fn plain_divide_of_temp() {
+    let sheet = header(PLAIN)
+        .records(b"\x0c\x00\x21\x00\x00\x00\x00\x00\x00\x00\x18\x40")
+        .records(b"\x07\x00\x06\x00\x1f\x00\x00")
+        .records(b"\x08\x00\x02\x00\x03\x02\x1f\x01");
+    let first = [0, 0, 0, 0, 0, 0, 0x4000_0000_0000_0000, 0, 0, 0];
+    misreading(b"plain Divide of a real Temp", sheet, 1, &first, 8, 9);
+}
+
+// LoadConst of 2 to 0, then Half of 0 to 1 and of 1 to 0; the imaginary half of 0 is a leftover 4.
+fn half(name: &[u8], mode: u8) {
+    let sheet = header(mode)
+        .constants(1)
+        .records(b"\x07\x00\x06\x00\x00\x00\x00")
+        .records(b"\x07\x00\x01\x00\x0d\x01\x00\x07\x00\x01\x00\x0d\x00\x01");
+    let first = [0, 0, 0, 0, 0, 0x4010_0000_0000_0000, 0, 0, 0, 0];
+    misreading(name, sheet, 1, &first, 4, 8);
+}
+
+// Divide of Temp by 1 to 0: 6 and 8 over 1 and 2.
+fn complex_divide() {
+    let sheet = header(PLAIN).records(b"\x08\x00\x02\x00\x03\x00\x1f\x01");
+    let first = [
+        0x4018_0000_0000_0000,
+        0x4020_0000_0000_0000,
+        0,
+        0,
+        0,
+        0,
+        0x3ff0_0000_0000_0000,
+        0x4000_0000_0000_0000,
+        0,
+        0,
+    ];
+    misreading(b"plain Divide of a complex Temp", sheet, 0, &first, 0, 8);
+}
+
+// Branch 3, Save of 0 to Mem 1, Label 3: the record after a Branch is taken as reached.
+fn behind_a_branch() {
+    let sheet = header(PLAIN)
+        .records(b"\x05\x00\x0f\x00\x03")
+        .records(b"\x08\x00\x05\x00\x00\x01\x01\x00")
+        .records(b"\x05\x00\x0e\x00\x03");
+    limit(b"a Save behind a Branch", sheet, 0);
+}
+
 fn main() {
-    let mut list = [0u8; 262144];
-    let n = io::read_full(STDIN_FILENO, &mut list);
-    try_all(&list[..n]);
+    registers();
+    places();
+    constants();
+    barred();
+    behind_a_branch();
+    second_root(b"a second Root, plain", PLAIN);
+    second_root(b"a second Root, stable", STABLE);
+    divide_to_temp(b"stable Divide to Temp", STABLE);
+    divide_to_temp(b"Divide to Temp in mode 2", MINDING);
+    plain_divide_of_temp();
+    half(b"Half of a real register to a complex one, and back", PLAIN);
+    half(b"the same in mode 2", MINDING);
+    complex_divide();
 }

@@ -7,11 +7,11 @@ use records::reader::{NextRecord, read_record};
 use text::line::{Line, empty_line};
 use text::lines::{constant_line, record_line};
 
-pub(crate) fn write(s: &[u8]) {
+fn write(s: &[u8]) {
     io::write_all(STDOUT_FILENO, s);
 }
 
-pub(crate) fn number(before: &[u8], n: usize) {
+fn number(before: &[u8], n: usize) {
     write(before);
     io::print_decimal(STDOUT_FILENO, n as u64);
 }
@@ -28,8 +28,9 @@ fn line(line: Line) {
     first(&bytes, line.len);
 }
 
-pub(crate) fn answer(a: LowerAnswer) {
-    number(b"number ", a.number as usize);
+pub(crate) fn answer(name: &[u8], a: LowerAnswer) {
+    write(name);
+    number(b": number ", a.number as usize);
     number(b", index ", a.index);
     number(b", bytes ", a.written);
     number(b", constants ", a.count);

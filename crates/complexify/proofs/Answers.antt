@@ -21,7 +21,7 @@ use Rattle.complexifier.specs.declared.state.Complexifier.{Complexifier}
 use Rattle.complexifier.specs.Does.{state}
 use Rattle.complexify.specs.declared.entry.LowerAnswer.{LowerAnswer}
 use Rattle.complexify.specs.declared.turn.Cursor.{Cursor}
-use Rattle.complexify.specs.declared.entry.Stop.{Stop}
+use Rattle.complexify.specs.declared.turn.Stop.{Stop}
 use Rattle.complexify.specs.Entry.{wrong_setup, refused_setup, answer_of, answer, listing_after, constants_after, origins_after}
 use Rattle.complexify.specs.Taken.{Ready, Appended, left, comes, with_marks, Ran, Dated}
 use Rattle.complexify.proofs.Copies.{kept_first, taken_first, kept_then, kept_sets}
@@ -66,7 +66,7 @@ module _ (sheet listing constants origins : List ℕ) (x : Setup) (e : x ≡ set
     rightly = simp (← e, eq-eqb _ _ n, le-ltb _ _ l, eq-eqb _ _ c, eq-eqb _ _ o)
 
     abbrev pub beginning : Complexifier → Cursor
-    beginning low = record { at = x.start; index = 0; count = x.count; low = low }
+    beginning low = record { at = x.start; index = 0; written = 0; count = x.count; low = low }
 
     own-length : length (constants_of sheet x.count) ≡ x.count
     own-length = length_constants sheet x.count 0
@@ -88,18 +88,19 @@ module _ (sheet listing constants origins : List ℕ) (x : Setup) (e : x ≡ set
     begin-origins k = ap length k ∙ length-sets origins 0 (replicate (x.count - 0) from_sheet) ∙ o
 
     pub begin-ready : {stage constants₁ : List ℕ} {low : Complexifier} → length stage ≡ 704 → constants₁ ≡ sets constants 0 (constants_of sheet x.count)
-        → Ready stage constants₁ (beginning low)
+        → Ready stage listing constants₁ (beginning low)
     begin-ready {stage} {constants₁} g k =
         record {
           stage = g;
+          room = l;
+          written = omega arith;
           words = ap length k ∙ length-sets constants 0 (constants_of sheet x.count) ∙ c;
           count = omega (arith, own-few);
           space = space_start (take x.count constants₁) (let z = ap length (first k) ∙ own-length in omega (arith, own-few, z));
-          index = omega arith;
         }
 
     abbrev ran : List ℕ → Complexifier → Ended
-    ran constants₁ low = left x.mode (length listing) x.count sheet constants₁ (beginning low)
+    ran constants₁ low = left x.mode (length listing) x.count sheet none_standing listing constants₁ (beginning low)
 
     -- the loop from the sheet's own constants on
     module _ {constants₁ : List ℕ} {low : Complexifier} (k : constants₁ ≡ sets constants 0 (constants_of sheet x.count))

@@ -1,5 +1,5 @@
 // The lowering entry.
-ghost use Rattle.std.specs.Prelude.{◌≡◌, ◌≤◌, List, length, take, drop, replicate};
+ghost use Rattle.std.specs.Prelude.{◌≡◌, ◌<◌, ◌≤◌, List, length, take, drop, replicate};
 ghost use Rattle.mir.specs.declared.records.Record.{Record};
 ghost use Rattle.mir.specs.Encode.{encode_all};
 ghost use Rattle.lowering.specs.Labels.{none_standing};
@@ -7,8 +7,8 @@ ghost use Rattle.complexify.specs.Entry as Spec;
 ghost use Rattle.refusals.specs.Noted.{Noted};
 ghost use Rattle.complexify.specs.Taken.{Ready, Ran, Dated, left, stopped_at, with_marks};
 
-use super::copying::{copy_bytes, copy_constants, put_origins};
-use super::turn::{Cursor, one};
+use super::copying::{copy_constants, put_origins};
+use super::turn::{Cursor, Stop, one};
 use complexifier::state::Complexifier;
 use lowering::realness::Realness;
 use marks_pass::marks_of;
@@ -32,26 +32,15 @@ pub struct LowerAnswer {
     pub drawn: [bool; 66],
 }
 
-// Where lowering ends: the number (0: at the sheet's end), the index of the instruction there, the bytes and the constants before it, and
-// the realness held there.
-#[derive(Drop)]
-pub struct Stop {
-    pub number: u8,
-    pub index: usize,
-    pub written: usize,
-    pub count: usize,
-    pub real: Realness,
-}
-
-fn stop_at(number: u8, written: usize, p: Cursor) -> Stop
-    ensures { result ≡ stopped_at number written p }
+fn stop_at(number: u8, p: Cursor) -> Stop
+    ensures { result ≡ stopped_at number p }
 {
     let low = p.low;
     let real = low.real;
     Stop {
         number: number,
         index: p.index,
-        written: written,
+        written: p.written,
         count: p.count,
         real: real,
     }
@@ -85,47 +74,34 @@ fn run(
     constants: &mut [u64],
     origins: &mut [u16],
 ) -> Stop
-    requires ready { Ready (replicate 704 0) constants.old start }
-    requires listing_len_bound { length listing.old ≤ 65536 }
+    requires ready { Ready (replicate 704 0) listing.old constants.old start }
+    requires index_bound { start.index ≤ 612 }
     requires origins_len { length origins.old ≡ 256 }
     requires noted { Noted none_standing (drop start.at sheet.now) marks.old rows.old }
-    ensures { (Ran (left mode (length listing.old) own sheet.now constants.old start) listing.old constants.old start listing.new constants.new result)
-        × (Dated (left mode (length listing.old) own sheet.now constants.old start) mode own sheet.now constants.old start origins.old origins.new result) }
+    ensures { (Ran (left mode (length listing.old) own sheet.now none_standing listing.old constants.old start) listing.old constants.old start listing.new constants.new result)
+        × (Dated (left mode (length listing.old) own sheet.now none_standing listing.old constants.old start) mode own sheet.now constants.old start origins.old origins.new result) }
 {
     let mut stage = [0u8; 704];
-    let mut written: usize = 0;
     let mut p = start;
     while p.at < sheet.len() {
         if p.index == LONGEST {
-            return stop_at(14, written, p);
+            return stop_at(14, p);
         }
         let low = p.low;
         let real = low.real;
         let number = pass_at(sheet, p.at, real, marks, rows);
         if number != 0 {
-            return stop_at(number, written, p);
+            return stop_at(number, p);
         }
-        let room = listing.len() - written;
-        let t = one(
-            sheet, own, mode, room, p.at, p.count, low, &mut stage, constants,
-        );
+        let t = one(sheet, own, mode, p, &mut stage, listing, constants);
+        let next = t.stand;
         if t.done {
-            return stop_at(t.number, written, p);
+            return stop_at(t.number, next);
         }
-        let n = t.size;
-        copy_bytes(&stage[..n], listing, written);
-        let count = p.count + t.more;
-        put_origins(origins, p.count, count, p.index as u16);
-        written += n;
-        let after = t.low;
-        p = Cursor {
-            at: t.at,
-            index: p.index + 1,
-            count: count,
-            low: after,
-        };
+        put_origins(origins, p.count, next.count, p.index as u16);
+        p = next;
     }
-    stop_at(0, written, p)
+    stop_at(0, p)
 }
 
 // The same, from marks made by looking ahead: a sheet with labels needs a row for each, one without none.
@@ -138,11 +114,11 @@ fn run_marked(
     constants: &mut [u64],
     origins: &mut [u16],
 ) -> Stop
-    requires ready { Ready (replicate 704 0) constants.old start }
-    requires listing_len_bound { length listing.old ≤ 65536 }
+    requires ready { Ready (replicate 704 0) listing.old constants.old start }
+    requires index_bound { start.index ≤ 612 }
     requires origins_len { length origins.old ≡ 256 }
-    ensures { (Ran (left mode (length listing.old) own sheet.now constants.old start) listing.old constants.old start listing.new constants.new result)
-        × (Dated (left mode (length listing.old) own sheet.now constants.old start) mode own sheet.now constants.old start origins.old origins.new result) }
+    ensures { (Ran (left mode (length listing.old) own sheet.now none_standing listing.old constants.old start) listing.old constants.old start listing.new constants.new result)
+        × (Dated (left mode (length listing.old) own sheet.now none_standing listing.old constants.old start) mode own sheet.now constants.old start origins.old origins.new result) }
 {
     let mut marks = [0u8; 256];
     if find_labels(sheet, start.at, &mut marks) {
@@ -213,6 +189,7 @@ pub fn lower(
     let start = Cursor {
         at: setup.start,
         index: 0,
+        written: 0,
         count: own,
         low: low,
     };

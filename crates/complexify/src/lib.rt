@@ -1,4 +1,4 @@
 // complexify.rs: a sheet lowered to a listing. `entry::lower` is the whole of it.
 pub mod copying;
 pub mod entry;
-pub mod turn;
+mod turn;

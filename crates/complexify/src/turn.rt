@@ -1,96 +1,94 @@
-// One turn of a pass over a sheet: the instruction at a position is read and lowered into the stage, and its constants are put behind those
-// of the finished ones. What is refused has changed no constant. Lowering copies what is staged, the shelf figures count it, and `tidy`
-// looks at the instruction.
-ghost use Rattle.std.specs.Prelude.{◌≡◌, ◌≤◌, cond, ltb, length};
+// One instruction of a sheet: read, lowered into the stage, and copied to the lent slices. What is refused has changed neither.
+ghost use Rattle.std.specs.Prelude.{◌≡◌, ◌<◌};
 ghost use Rattle.sheet.specs.Instruction.{instruction_at};
-ghost use Rattle.complexify.specs.Taken.{Finished, Staged, Taken, refusal};
+ghost use Rattle.complexify.specs.Taken.{Ready, Fits, Finished, LoweredOne, Taken, refusal};
 
+use super::copying::{copy_bytes, copy_words};
 use complexifier::state::Complexifier;
+use lowering::realness::Realness;
 use mir::records::Instruction;
 use refusals::barred::barred;
 use rerun::instruction::rerun;
 use rerun::output::Output;
 use sheet::reader::{NextInstruction, read_instruction};
 use sheet::setup::{Mode, is_stable};
-use words::put_words;
 
-// Where a pass stands: before the instruction at a position of the sheet, with this index, after so many constants.
+// Where lowering stands: before the instruction at a position of the sheet, with this index, after so many bytes of the listing and so
+// many constants.
 #[derive(Drop)]
 pub struct Cursor {
     pub at: usize,
     pub index: usize,
+    pub written: usize,
     pub count: usize,
     pub low: Complexifier,
 }
 
-// What a turn gives: the bytes of the stage that the instruction's records take, how many constants it added, the position behind it, the
-// instruction, and the state after it; done: the number refuses it.
+// Where it stands next; done: the number refuses the instruction.
 #[derive(Drop)]
 pub struct Next {
     pub done: bool,
     pub number: u8,
-    pub size: usize,
-    pub more: usize,
-    pub at: usize,
-    pub instruction: Instruction,
-    pub low: Complexifier,
+    pub stand: Cursor,
 }
 
-fn refused(number: u8, low: Complexifier) -> Next
-    ensures { result ≡ refusal number low }
+// Where it ends: the number (0: at the sheet's end), the index of the instruction there, the bytes and the constants before it, and the
+// realness held there.
+#[derive(Drop)]
+pub struct Stop {
+    pub number: u8,
+    pub index: usize,
+    pub written: usize,
+    pub count: usize,
+    pub real: Realness,
+}
+
+fn refused(number: u8, stand: Cursor) -> Next
+    ensures { result ≡ refusal number stand }
 {
     Next {
         done: true,
         number: number,
-        size: 0,
-        more: 0,
-        at: 0,
-        instruction: Instruction::Nop,
-        low: low,
+        stand: stand,
     }
 }
 
-// An instruction's constants, put behind the finished ones; 7 where its bytes exceed the room.
+// An instruction's bytes and constants, copied behind the finished ones; 7 where the bytes exceed those left.
 fn finish(
     t: Output,
-    room: usize,
-    instruction: Instruction,
+    bytes: &[u8],
     next: usize,
-    count: usize,
-    low: Complexifier,
+    p: Cursor,
+    listing: &mut [u8],
     constants: &mut [u64],
 ) -> Next
-    requires count_bound { t.added.count ≤ 3 }
-    requires words_len { length t.added.words ≡ 3 }
-    ensures { Finished t room instruction next constants.old count low constants.new result }
+    requires { Fits t bytes.now listing.old constants.old p }
+    ensures { Finished t bytes.now next listing.old constants.old p listing.new constants.new result }
 {
-    if room < t.at {
-        return refused(7, low);
-    }
+    let n = bytes.len();
+    let written = p.written;
+    let count = p.count;
     let added = t.added;
     let more = added.count;
-    let after = t.low;
+    let low = t.low;
+    let stand = Cursor {
+        at: next,
+        index: p.index + 1,
+        written: written + n,
+        count: count + more,
+        low: low,
+    };
+    if listing.len() - written < n {
+        return refused(7, p);
+    }
+    copy_bytes(bytes, listing, written);
     let words = added.words;
-    put_words(constants, count, &words[..more]);
+    copy_words(&words[..more], constants, count);
     Next {
         done: false,
         number: 0,
-        size: t.at,
-        more: more,
-        at: next,
-        instruction: instruction,
-        low: after,
+        stand: stand,
     }
-}
-
-// The lesser.
-fn least(a: usize, b: usize) -> usize
-    ensures { result ≡ cond (ltb a b) a b }
-{
-    if a < b {
-        return a;
-    }
-    b
 }
 
 // The instruction that ends at `next`.
@@ -98,48 +96,51 @@ fn lower_one(
     instruction: Instruction,
     next: usize,
     mode: Mode,
-    room: usize,
-    count: usize,
-    low: Complexifier,
+    p: Cursor,
     stage: &mut [u8],
+    listing: &mut [u8],
     constants: &mut [u64],
 ) -> Next
-    ensures { Staged mode room instruction next stage.old constants.old count low stage.new constants.new result }
+    requires ready { Ready stage.old listing.old constants.old p }
+    requires index_bound { p.index < 65536 }
+    ensures { LoweredOne mode instruction next listing.old constants.old p listing.new constants.new result }
 {
+    let low = p.low;
     let real = low.real;
     if barred(is_stable(mode), instruction, real) {
-        return refused(6, low);
+        return refused(6, p);
     }
-    let n = least(count, constants.len());
-    let t = rerun(low, &constants[..n], mode, stage, 0, instruction);
-    finish(t, room, instruction, next, count, low, constants)
+    let count = p.count;
+    let t = rerun(low, &constants[..count], mode, stage, 0, instruction);
+    let n = t.at;
+    finish(t, &stage[..n], next, p, listing, constants)
 }
 
-// One turn, of a sheet with `own` constants, in the room for so many bytes, where neither 10 nor 11 refuses the instruction.
-pub fn one(
+// One turn, of a sheet with `own` constants, where neither 10 nor 11 refuses the instruction.
+pub(crate) fn one(
     sheet: &[u8],
     own: usize,
     mode: Mode,
-    room: usize,
-    at: usize,
-    count: usize,
-    low: Complexifier,
+    p: Cursor,
     stage: &mut [u8],
+    listing: &mut [u8],
     constants: &mut [u64],
 ) -> Next
-    ensures { Taken mode room stage.old constants.old count low stage.new constants.new result (instruction_at own sheet.now at) }
+    requires ready { Ready stage.old listing.old constants.old p }
+    requires index_bound { p.index < 65536 }
+    ensures { Taken mode listing.old constants.old p listing.new constants.new result (instruction_at own sheet.now p.at) }
 {
+    let at = p.at;
     match read_instruction(sheet, at, own) {
         NextInstruction::Got(instruction, next) => lower_one(
             instruction,
             next,
             mode,
-            room,
-            count,
-            low,
+            p,
             stage,
+            listing,
             constants,
         ),
-        NextInstruction::Refused(number) => refused(number, low),
+        NextInstruction::Refused(number) => refused(number, p),
     }
 }

@@ -4,23 +4,16 @@ ghost use Rattle.lowering.specs.Labels.{none_standing};
 ghost use Rattle.refusals.specs.Noted.{Noted};
 ghost use Rattle.figures.specs.Shelf as Spec;
 ghost use Rattle.figures.specs.Walk.{CountWithin};
-ghost use Rattle.complexify.specs.Taken.{Ready};
-ghost use Rattle.figures.specs.Taken.{left, figures_at};
+ghost use Rattle.figures.specs.Taken.{CountReady, left, figures_at};
 
-use super::counting::{Count, branch_of, count_records};
+use super::counting::Count;
+use super::turn::{CountCursor, one};
 use complexifier::state::Complexifier;
 use complexify::copying::put_constants;
-use complexify::turn::{Cursor, one};
 use lowering::realness::Realness;
 use refusals::labels::{find_labels, pass_at};
 use sheet::reader::LONGEST;
 use sheet::setup::{Mode, read_setup};
-
-// The bytes that a listing slice has at most.
-const MOST: usize = 65536;
-
-// Those of a listing before the first instruction.
-const NO_BYTES: usize = 0;
 
 // The number (0: lowering would accept) and index of lowering with 65,536 bytes; the listing's bytes, the count of constants and the
 // records that a play from record 0 would run, or, of a sheet that branches, the most that one could.
@@ -58,32 +51,20 @@ fn records_run(taken: Count) -> usize
 }
 
 // The figures where the work ends with a number.
-fn figures_at(number: u8, taken: Count, p: Cursor) -> Figures
-    requires { CountWithin taken }
-    ensures { result ≡ figures_at number taken p }
+fn figures_at(number: u8, p: CountCursor) -> Figures
+    requires { CountWithin p.taken }
+    ensures { result ≡ figures_at number p }
 {
     if number != 0 {
         return refusal(number, p.index);
     }
+    let taken = p.taken;
     Figures {
         number: 0,
         index: p.index,
         bytes: taken.bytes,
-        constants: p.count,
+        constants: p.constants,
         records: records_run(taken),
-    }
-}
-
-// Before the first instruction nothing is taken.
-fn nothing() -> Count
-    ensures { result ≡ Spec.nothing }
-{
-    Count {
-        bytes: NO_BYTES,
-        records: 0,
-        calls: 0,
-        block: 0,
-        branches: 0,
     }
 }
 
@@ -92,53 +73,49 @@ fn run(
     sheet: &[u8],
     own: usize,
     mode: Mode,
-    start: Cursor,
+    start: CountCursor,
     marks: &mut [u8],
     rows: &mut [u8],
     constants: &mut [u64],
 ) -> Figures
-    requires ready { Ready (replicate 704 0) constants.old start }
+    requires count_ready { CountReady (replicate 704 0) constants.old start }
+    requires index_bound { start.index ≤ 612 }
     requires noted { Noted none_standing (drop start.at sheet.now) marks.old rows.old }
-    ensures { result ≡ left mode own sheet.now constants.old start }
+    ensures { result ≡ left mode own sheet.now none_standing constants.old start }
 {
     let mut stage = [0u8; 704];
-    let mut taken = nothing();
     let mut p = start;
     while p.at < sheet.len() {
         if p.index == LONGEST {
-            return figures_at(14, taken, p);
+            return figures_at(14, p);
         }
         let low = p.low;
         let real = low.real;
         let number = pass_at(sheet, p.at, real, marks, rows);
         if number != 0 {
-            return figures_at(number, taken, p);
+            return figures_at(number, p);
         }
-        let room = MOST - taken.bytes;
-        let t = one(
-            sheet, own, mode, room, p.at, p.count, low, &mut stage, constants,
-        );
+        let t = one(sheet, own, mode, p, &mut stage, constants);
+        let next = t.cursor;
         if t.done {
-            return figures_at(t.number, taken, p);
+            return figures_at(t.number, next);
         }
-        let n = t.size;
-        let instruction = t.instruction;
-        taken = count_records(&stage[..n], branch_of(instruction), taken);
-        let after = t.low;
-        p = Cursor {
-            at: t.at,
-            index: p.index + 1,
-            count: p.count + t.more,
-            low: after,
-        };
+        p = next;
     }
-    figures_at(0, taken, p)
+    figures_at(0, p)
 }
 
 // The same, from marks made by looking ahead: a sheet with labels needs a row for each, one without none.
-fn run_marked(sheet: &[u8], own: usize, mode: Mode, start: Cursor, constants: &mut [u64]) -> Figures
-    requires { Ready (replicate 704 0) constants.old start }
-    ensures { result ≡ left mode own sheet.now constants.old start }
+fn run_marked(
+    sheet: &[u8],
+    own: usize,
+    mode: Mode,
+    start: CountCursor,
+    constants: &mut [u64],
+) -> Figures
+    requires count_ready { CountReady (replicate 704 0) constants.old start }
+    requires index_bound { start.index ≤ 612 }
+    ensures { result ≡ left mode own sheet.now none_standing constants.old start }
 {
     let mut marks = [0u8; 256];
     if find_labels(sheet, start.at, &mut marks) {
@@ -164,11 +141,19 @@ pub fn shelf(sheet: &[u8]) -> Figures
         real: Realness::fresh(places),
         root_defined: false,
     };
-    let start = Cursor {
+    let taken = Count {
+        bytes: 0,
+        records: 0,
+        calls: 0,
+        block: 0,
+        branches: 0,
+    };
+    let start = CountCursor {
         at: setup.start,
         index: 0,
-        count: own,
+        constants: own,
         low: low,
+        taken: taken,
     };
     let mode = setup.mode;
     run_marked(sheet, own, mode, start, &mut constants)

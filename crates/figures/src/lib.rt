@@ -1,3 +1,4 @@
 // How much shelf a sheet will take (document 02, b). `entry::shelf` is the whole of it.
 mod counting;
 pub mod entry;
+mod turn;

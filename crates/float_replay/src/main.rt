@@ -6,7 +6,6 @@ mod case;
 mod tally;
 
 use libc::{STDIN_FILENO, STDOUT_FILENO};
-use text::line::empty_line;
 
 // Reads up to 100 cases, counts them, and answers whether more may follow.
 fn replay_some(t: &mut [u64; 74]) -> bool {
@@ -27,24 +26,46 @@ fn replay_all(t: &mut [u64; 74]) {
     }
 }
 
-// The names of the operations by their numbers, and one for a number that none has. A slash ends each.
-const NAMES: [u8; 363] = *b"\
-    Plus/Minus/Times/Divide/Half/Recip/GreaterThan/LittleThan/Equal/NotEqual/Neg/Abs/Not/And/Or/Xor/Sign/IfElse/\
-    Round/Root/MulAdd/PlusComplex real/PlusComplex imaginary/MinusComplex real/MinusComplex imaginary/\
-    TimesComplex real/TimesComplex imaginary/DivideComplex real/DivideComplex imaginary/Floor/Ceiling/Trunc/\
-    IsZero/GreaterThanEqual/LittleThanEqual/no operation/";
-
-fn print_first(bytes: &[u8], n: usize) {
-    if n <= bytes.len() {
-        io::write_all(STDOUT_FILENO, &bytes[0..n]);
-    }
-}
-
 // The name of operation k.
 fn print_name(k: usize) {
-    let name = empty_line().word_in(&NAMES, k as u64);
-    let bytes = name.bytes;
-    print_first(&bytes, name.len);
+    match k {
+        0 => io::write_all(STDOUT_FILENO, b"Plus"),
+        1 => io::write_all(STDOUT_FILENO, b"Minus"),
+        2 => io::write_all(STDOUT_FILENO, b"Times"),
+        3 => io::write_all(STDOUT_FILENO, b"Divide"),
+        4 => io::write_all(STDOUT_FILENO, b"Half"),
+        5 => io::write_all(STDOUT_FILENO, b"Recip"),
+        6 => io::write_all(STDOUT_FILENO, b"GreaterThan"),
+        7 => io::write_all(STDOUT_FILENO, b"LittleThan"),
+        8 => io::write_all(STDOUT_FILENO, b"Equal"),
+        9 => io::write_all(STDOUT_FILENO, b"NotEqual"),
+        10 => io::write_all(STDOUT_FILENO, b"Neg"),
+        11 => io::write_all(STDOUT_FILENO, b"Abs"),
+        12 => io::write_all(STDOUT_FILENO, b"Not"),
+        13 => io::write_all(STDOUT_FILENO, b"And"),
+        14 => io::write_all(STDOUT_FILENO, b"Or"),
+        15 => io::write_all(STDOUT_FILENO, b"Xor"),
+        16 => io::write_all(STDOUT_FILENO, b"Sign"),
+        17 => io::write_all(STDOUT_FILENO, b"IfElse"),
+        18 => io::write_all(STDOUT_FILENO, b"Round"),
+        19 => io::write_all(STDOUT_FILENO, b"Root"),
+        20 => io::write_all(STDOUT_FILENO, b"MulAdd"),
+        21 => io::write_all(STDOUT_FILENO, b"PlusComplex real"),
+        22 => io::write_all(STDOUT_FILENO, b"PlusComplex imaginary"),
+        23 => io::write_all(STDOUT_FILENO, b"MinusComplex real"),
+        24 => io::write_all(STDOUT_FILENO, b"MinusComplex imaginary"),
+        25 => io::write_all(STDOUT_FILENO, b"TimesComplex real"),
+        26 => io::write_all(STDOUT_FILENO, b"TimesComplex imaginary"),
+        27 => io::write_all(STDOUT_FILENO, b"DivideComplex real"),
+        28 => io::write_all(STDOUT_FILENO, b"DivideComplex imaginary"),
+        29 => io::write_all(STDOUT_FILENO, b"Floor"),
+        30 => io::write_all(STDOUT_FILENO, b"Ceiling"),
+        31 => io::write_all(STDOUT_FILENO, b"Trunc"),
+        32 => io::write_all(STDOUT_FILENO, b"IsZero"),
+        33 => io::write_all(STDOUT_FILENO, b"GreaterThanEqual"),
+        34 => io::write_all(STDOUT_FILENO, b"LittleThanEqual"),
+        _ => io::write_all(STDOUT_FILENO, b"no operation"),
+    };
 }
 
 fn print_counts(before: &[u8], cases: u64, between: &[u8], differ: u64, after: &[u8]) {

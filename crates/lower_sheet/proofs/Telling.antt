@@ -6,17 +6,12 @@ use mathlib.Core.List.{List, [], ◌∷◌, ◌++◌}
 use native.Mathlib.Numerals.{add-one}
 use native.Mathlib.Omega.{arith}
 use borrow.Author.Tests.{eq-eqb, ne_eqb}
-use lib.Dec.{eqb, lit≤}
-use lib.ListN.{length, take, drop, get_or, drop_of_length-le, length-append}
+use lib.Dec.{eqb}
+use lib.ListN.{length, take, drop, get_or, drop_of_length-le}
 use lib.Seq.{drop-cons}
-use Rattle.text.specs.Text.{ascii, decimal, space, register, name_of, line}
+use Rattle.text.specs.Text.{ascii, space, register, line}
 use Rattle.words.specs.Bytes.{word_at}
-use Rattle.text.specs.declared.line.Line.{Line}
-use Rattle.text.specs.Line.{Prints}
-use Rattle.text.specs.Puts.{line_text}
-use Rattle.text.proofs.Short.{name_short}
-use Rattle.reports.proofs.Brief.{number_short}
-use Rattle.lower_sheet.specs.Lowers.{answer_line, marked_names, or_nothing, drawn_line, answer_text, untidy_words}
+use Rattle.lower_sheet.specs.Lowers.{answer_line, marked_names, or_nothing, drawn_line, answer_text}
 
 -- one mark more, and none left
 module _ (marks : List ℕ) (i : ℕ) where
@@ -60,19 +55,3 @@ module _ (answer : List ℕ) {n : ℕ} (e : n ≡ word_at answer 0) where
   pub setup-right : (n ≡ 8 → ⊥) → answer_line answer ++ drawn_line (take 66 (drop 194 answer)) ≡ answer_text answer
   unfolding answer_text
   setup-right h = sym (simp (ne_eqb (word_at answer 0) 8 (λ k. h (e ∙ k))))
-
--- the line that tells whether a sheet is tidy is not cut
-pub tidy_short : length (line (ascii "tidy: each saved word is the formula's value, each operation rounded once")) ≤ 80
-unfolding ascii
-tidy_short = lit≤ tt
-
-pub untidy_short : (index test : ℕ) → length (line (ascii "tidy: not instruction" ++ space (decimal index) ++ ascii ": " ++ name_of untidy_words test)) ≤ 80
-unfolding ascii
-untidy_short index test =
-    let d = number_short index in
-    let w = name_short 34 untidy_words tt test in
-    simp length-append (omega (arith, d, w))
-
--- a line's text is what it prints
-pub said : {text : List ℕ} {l : Line} → Prints text l → line_text l ≡ text
-said {text} {l} p = ap (λ n. take n l.bytes) p.whole.count ∙ p.whole.bytes

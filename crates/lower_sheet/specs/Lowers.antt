@@ -1,7 +1,6 @@
 -- What the program prints for a sheet, and the bytes that it has for its files.
 use Rattle.std.specs.Prelude.{ℕ, suc, ◌≡◌, cond, List, [], ◌∷◌, ◌++◌, eqb, take, drop}
-use Prim.Native.String.{String}
-use Rattle.text.specs.Text.{ascii, decimal_in, decimal, space, register, name_of, line}
+use Rattle.text.specs.Text.{ascii, space, register, line}
 use Rattle.text.specs.Puts.{Puts}
 use Rattle.words.specs.Bytes.{word_at}
 use Rattle.interface.specs.Calls.{LowerCall}
@@ -33,19 +32,6 @@ unfoldable pub answer_text : List ℕ → List ℕ
 unfolding drawn_line
 answer_text answer =
     cond (eqb (word_at answer 0) 8) (answer_line answer) (answer_line answer ++ drawn_line (take 66 (drop 194 answer)))
-
--- why an instruction is not tidy, by the number of the test that it fails, of which 0 is none
-abbrev pub untidy_words : List String
-untidy_words =
-    "" ∷ "it names Ret or Temp" ∷ "it names Stack 2 beside a Root" ∷ "a Half that mixes real and complex" ∷
-    "a real divided by a complex place" ∷ []
-
--- of an accepted sheet: that it is tidy, or the first instruction that is not, and why
-unfoldable pub tidy_line : ℕ → ℕ → List ℕ
-unfolding ascii decimal_in
-tidy_line index test =
-    cond (eqb test 0) (line (ascii "tidy: each saved word is the formula's value, each operation rounded once"))
-    (line (ascii "tidy: not instruction" ++ space (decimal index) ++ ascii ": " ++ name_of untidy_words test))
 
 -- the lent bytes are what the call leaves, and the text is its answer's
 pub record Lowers (call : LowerCall) (o listing constants origins answer o' : List ℕ) (n : ℕ) : Type 0 where

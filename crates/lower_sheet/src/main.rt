@@ -7,14 +7,12 @@ ghost use Rattle.interface.specs.Calls.{lower_call};
 ghost use Rattle.lower_sheet.specs.Lowers.{answer_line, answer_text, Lowers};
 
 mod drawn;
-mod told;
 
 use drawn::put_drawn;
 use interface::tulipcricket_lower_unguarded;
 use reports::lowered_line;
 use text::line::Line;
 use text::put::put_line;
-use told::put_tidy;
 use words::word_at;
 
 // The line for an answer of lowering.
@@ -112,14 +110,10 @@ fn lower_file(sheet: &[u8]) {
     );
     let bytes = word_at(&answer, 16) as usize;
     let words = word_at(&answer, 24) as usize;
-    if word_at(&answer, 0) != 0 {
-        files::print(&out, n);
+    if word_at(&answer, 0) == 0 && !make_files(&listing, bytes, &constants, &origins, words) {
         return;
     }
-    if make_files(&listing, bytes, &constants, &origins, words) {
-        let end = put_tidy(&mut out, n, sheet);
-        files::print(&out, end);
-    }
+    files::print(&out, n);
 }
 
 // A sheet of which not all is read is not lowered.

@@ -39,14 +39,11 @@ pub record Filled (F : List Bool) (is : List ℕ) (F' : List Bool) : Type 0 wher
 pub record Made (from n : ℕ) (A : Set) (before after : List Bool) : Type 0 where
   pub each : (k : ℕ) → get_or after k false ≡ cond (leb from k && ltb k (from + n)) (A k) (get_or before k false)
 
--- six registers marked, or'ed with m those drawn on and with n those filled
-pub record Marked (m n a b c d x y : ℕ) (F D F' D' : List Bool) : Type 0 where
-  pub drawn : Drawn F D (bit_or a m ∷ bit_or b m ∷ bit_or c m ∷ bit_or d m ∷ []) D'
-  pub filled : Filled F (bit_or x n ∷ bit_or y n ∷ []) F'
-
--- six registers are filled
-abbrev pub all_held : List Bool → ℕ → ℕ → ℕ → ℕ → ℕ → ℕ → Bool
-all_held F a b c d x y = held F a && held F b && held F c && held F d && held F x && held F y
+-- six bytes marked by a row of the table
+pub record Marked (rows : List ℕ) (row a b c d x y : ℕ) (F D F' D' : List Bool) : Type 0 where
+  pub drawn : Drawn F D
+      (bit_or a (get_or rows (row + 2) 0) ∷ bit_or b (get_or rows (row + 3) 0) ∷ bit_or c (get_or rows (row + 4) 0) ∷ bit_or d (get_or rows (row + 5) 0) ∷ []) D'
+  pub filled : Filled F (bit_or x (get_or rows (row + 6) 0) ∷ bit_or y (get_or rows (row + 7) 0) ∷ []) F'
 
 -- a working record that bytes begin with, by its length; any other changes nothing
 pub record Worked (w : Work) (F D F' D' : List Bool) (n : ℕ) : Type 0 where

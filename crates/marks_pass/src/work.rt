@@ -2,27 +2,27 @@
 // of registers is kept as 256 marks, one for each byte, of which the first 66 count.
 ghost use Rattle.std.specs.Prelude.{◌≤◌, ◌<◌, ◌+◌, ◌≡◌, cond, ◌&&◌, [], ◌∷◌, length, get_or, eqb};
 ghost use Rattle.marks_pass.specs.Table.{table};
-ghost use Rattle.marks_pass.specs.Standing.{Drawn, Filled, Marked, all_held, Does, Straight};
+ghost use Rattle.marks_pass.specs.Standing.{Drawn, Filled, Marked, Does, Straight};
 
-use mir::fields::byte;
+use mir::fields::{byte, u16_at};
 
-// The table, a row for each kind from 0 to 13: where in the record four registers stand that it draws on, and two that it fills, where it has
-// fewer one of them again; then for those drawn on and for those filled 0, or 128 where the kind has none. Kinds 0, 9 and 10 stand in no listing.
+// The table, a row for each kind from 0 to 13: where the registers begin that it draws on, and those that it fills; then of four drawn on and
+// of two filled 0, or 128 where the kind has none. Kinds 0, 9 and 10 stand in no listing.
 const ROWS: [u8; 112] = *b"\
-    \x04\x04\x04\x04\x04\x04\x80\x80\
-    \x06\x06\x06\x06\x05\x05\x00\x00\
-    \x06\x07\x07\x07\x05\x05\x00\x00\
-    \x05\x05\x05\x05\x04\x04\x00\x00\
-    \x04\x04\x04\x04\x04\x04\x80\x00\
-    \x04\x04\x04\x04\x04\x04\x00\x80\
-    \x04\x04\x04\x04\x04\x04\x80\x00\
-    \x06\x07\x08\x08\x05\x05\x00\x00\
-    \x05\x06\x06\x06\x04\x04\x00\x00\
-    \x04\x04\x04\x04\x04\x04\x80\x80\
-    \x04\x04\x04\x04\x04\x04\x80\x80\
-    \x04\x05\x05\x05\x04\x05\x80\x00\
-    \x04\x05\x05\x05\x04\x05\x00\x80\
-    \x07\x08\x09\x0a\x05\x06\x00\x00";
+    \x04\x04\x80\x80\x80\x80\x80\x80\
+    \x06\x05\x00\x80\x80\x80\x00\x80\
+    \x06\x05\x00\x00\x80\x80\x00\x80\
+    \x05\x04\x00\x80\x80\x80\x00\x80\
+    \x04\x04\x80\x80\x80\x80\x00\x80\
+    \x04\x04\x00\x80\x80\x80\x80\x80\
+    \x04\x04\x80\x80\x80\x80\x00\x80\
+    \x06\x05\x00\x00\x00\x80\x00\x80\
+    \x05\x04\x00\x00\x80\x80\x00\x80\
+    \x04\x04\x80\x80\x80\x80\x80\x80\
+    \x04\x04\x80\x80\x80\x80\x80\x80\
+    \x04\x04\x80\x80\x80\x80\x00\x00\
+    \x04\x04\x00\x00\x80\x80\x80\x80\
+    \x07\x05\x00\x00\x00\x00\x00\x00";
 
 // A register is drawn on: marked where it is not filled.
 pub(crate) fn draw(filled: &[bool], drawn: &mut [bool], r: u8)
@@ -41,23 +41,10 @@ fn fill(filled: &mut [bool], r: u8)
     filled[r as usize] = true;
 }
 
-// Whether six registers are filled.
-fn quiet(a: u8, b: u8, c: u8, d: u8, x: u8, y: u8, filled: &[bool]) -> bool
-    requires { length filled.now ≡ 256 }
-    ensures { result ≡ all_held filled.now a b c d x y }
-{
-    filled[a as usize]
-        & filled[b as usize]
-        & filled[c as usize]
-        & filled[d as usize]
-        & filled[x as usize]
-        & filled[y as usize]
-}
-
-// Four registers are drawn on and two filled; with 128 for m none is drawn on that counts, with 128 for n none filled.
+// Six bytes of a record are taken as registers, four drawn on and two filled; where the row has 128, as one that does not count.
 fn mark(
-    m: u8,
-    n: u8,
+    rows: &[u8],
+    row: usize,
     a: u8,
     b: u8,
     c: u8,
@@ -67,15 +54,16 @@ fn mark(
     filled: &mut [bool],
     drawn: &mut [bool],
 )
-    requires { (length filled.old ≡ 256) × (length drawn.old ≡ 256) }
-    ensures { Marked m n a b c d x y filled.old drawn.old filled.new drawn.new }
+    requires row_in_bounds { row + 8 ≤ length rows.now }
+    requires filled_len { (length filled.old ≡ 256) × (length drawn.old ≡ 256) }
+    ensures { Marked rows.now row a b c d x y filled.old drawn.old filled.new drawn.new }
 {
-    draw(filled, drawn, a | m);
-    draw(filled, drawn, b | m);
-    draw(filled, drawn, c | m);
-    draw(filled, drawn, d | m);
-    fill(filled, x | n);
-    fill(filled, y | n);
+    draw(filled, drawn, a | rows[row + 2]);
+    draw(filled, drawn, b | rows[row + 3]);
+    draw(filled, drawn, c | rows[row + 4]);
+    draw(filled, drawn, d | rows[row + 5]);
+    fill(filled, x | rows[row + 6]);
+    fill(filled, y | rows[row + 7]);
 }
 
 fn wide(b: u8) -> usize
@@ -84,25 +72,16 @@ fn wide(b: u8) -> usize
     b as usize
 }
 
-// The byte of a record at which a place of the table says that a register stands.
-fn register(rows: &[u8], i: usize, s: &[u8]) -> u8
-    requires i_in_bounds { i < length rows.now }
-    requires i_in_bounds_2 { get_or rows.now i 0 < length s.now }
-    ensures { result ≡ get_or s.now (get_or rows.now i 0) 0 }
-{
-    s[wide(rows[i])]
-}
-
-// The same of any bytes.
-fn register_last(rows: &[u8], i: usize, s: &[u8]) -> u8
+// A place of the table that says where registers begin.
+fn start_of(rows: &[u8], i: usize) -> usize
     requires { i < length rows.now }
-    ensures { result ≡ get_or s.now (get_or rows.now i 0) 0 }
+    ensures { result ≡ get_or rows.now i 0 }
 {
-    byte(s, wide(rows[i]))
+    wide(rows[i])
 }
 
 // 128 for a Xor of one register with itself, which draws on nothing.
-fn aside(kind: u8, op: u8, a: u8, b: u8) -> u8
+fn aside(kind: u16, op: u8, a: u8, b: u8) -> u8
     ensures { result ≡ cond (eqb kind 2 && eqb op 13 && eqb a b) 128 0 }
 {
     if (kind == 2) & (op == 13) & (a == b) {
@@ -112,43 +91,36 @@ fn aside(kind: u8, op: u8, a: u8, b: u8) -> u8
     }
 }
 
-// The working record that bytes begin with, 11 or more. Its length; 0 where they begin with none. Where all its registers are filled it
-// changes nothing.
+// The working record that bytes begin with, 11 or more. Its length; 0 where they begin with none.
 fn work(rows: &[u8], s: &[u8], filled: &mut [bool], drawn: &mut [bool]) -> usize
     requires rows_value { rows.now ≡ table }
     requires in_bounds { 11 ≤ length s.now }
     requires filled_len { (length filled.old ≡ 256) × (length drawn.old ≡ 256) }
     ensures { Does s.now filled.old drawn.old filled.new drawn.new result }
 {
-    let kind = s[2];
+    let kind = u16_at(s, 2);
     if 13 < kind {
         return 0;
     }
     let row = 8 * (kind as usize);
-    let a = register(rows, row, s);
-    let b = register(rows, row + 1, s);
-    let c = register(rows, row + 2, s);
-    let d = register(rows, row + 3, s);
-    let x = register(rows, row + 4, s);
-    let y = register(rows, row + 5, s);
-    let n = wide(s[0]);
-    if quiet(a, b, c, d, x, y, filled) {
-        return n;
-    }
+    let d = start_of(rows, row);
+    let f = start_of(rows, row + 1);
+    let a = s[d];
+    let b = s[d + 1];
     let e = aside(kind, s[4], a, b);
     mark(
-        rows[row + 6] | e,
-        rows[row + 7],
-        a,
-        b,
-        c,
-        d,
-        x,
-        y,
+        rows,
+        row,
+        a | e,
+        b | e,
+        s[d + 2],
+        s[d + 3],
+        s[f],
+        s[f + 1],
         filled,
         drawn,
     );
-    n
+    u16_at(s, 0) as usize
 }
 
 // The same of fewer bytes.
@@ -157,31 +129,29 @@ fn work_last(rows: &[u8], s: &[u8], filled: &mut [bool], drawn: &mut [bool]) -> 
     requires filled_len { (length filled.old ≡ 256) × (length drawn.old ≡ 256) }
     ensures { Does s.now filled.old drawn.old filled.new drawn.new result }
 {
-    let kind = byte(s, 2);
+    let kind = u16_at(s, 2);
     if 13 < kind {
         return 0;
     }
     let row = 8 * (kind as usize);
-    let a = register_last(rows, row, s);
-    let b = register_last(rows, row + 1, s);
-    let c = register_last(rows, row + 2, s);
-    let d = register_last(rows, row + 3, s);
-    let x = register_last(rows, row + 4, s);
-    let y = register_last(rows, row + 5, s);
+    let d = start_of(rows, row);
+    let f = start_of(rows, row + 1);
+    let a = byte(s, d);
+    let b = byte(s, d + 1);
     let e = aside(kind, byte(s, 4), a, b);
     mark(
-        rows[row + 6] | e,
-        rows[row + 7],
-        a,
-        b,
-        c,
-        d,
-        x,
-        y,
+        rows,
+        row,
+        a | e,
+        b | e,
+        byte(s, d + 2),
+        byte(s, d + 3),
+        byte(s, f),
+        byte(s, f + 1),
         filled,
         drawn,
     );
-    wide(byte(s, 0))
+    u16_at(s, 0) as usize
 }
 
 // Either.

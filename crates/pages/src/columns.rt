@@ -69,19 +69,6 @@ fn record_line(index: usize, record: Record) -> Line
     fill_to(line.record_operands(record), 72, b'\n')
 }
 
-// The line of a constant by its index, and of a record.
-pub fn constant_text(index: u16, word: u64) -> Line
-    ensures { Prints (row_line (constant_row index word)) result }
-{
-    constant_line(index as usize, word)
-}
-
-pub fn record_text(index: u16, record: Record) -> Line
-    ensures { Prints (row_line (record_row index «record»)) result }
-{
-    record_line(index as usize, record)
-}
-
 // A line, and the position of the record behind it.
 #[derive(Drop)]
 pub struct LineAt {

@@ -8,7 +8,7 @@ ghost use Rattle.pages.specs.Printed.{from_record0, rows_of, least, printed, pri
 ghost use Rattle.pages.specs.Values.{whole};
 
 pub mod call;
-pub mod columns;
+mod columns;
 
 use columns::{left_of, put_lines};
 use player::judge;

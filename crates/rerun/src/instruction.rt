@@ -57,11 +57,16 @@ fn rerun_uni(
 {
     let stable = is_stable(mode);
     match op {
+        UniOp::Neg => no_constants(low.each(out, at, UniOp::Neg, dst, s1)),
         UniOp::Not => no_constants(low.not(out, at, dst, s1)),
         UniOp::Abs => abs(low, constants, stable, out, at, dst, s1),
         UniOp::Root => root(low, constants, stable, out, at, dst, s1),
         UniOp::RealRoot => real_root(low, constants, stable, out, at, dst, s1),
         UniOp::Recip => recip(low, constants, stable, out, at, dst, s1),
+        UniOp::Round => no_constants(low.each(out, at, UniOp::Round, dst, s1)),
+        UniOp::Floor => no_constants(low.each(out, at, UniOp::Floor, dst, s1)),
+        UniOp::Ceiling => no_constants(low.each(out, at, UniOp::Ceiling, dst, s1)),
+        UniOp::Trunc => no_constants(low.each(out, at, UniOp::Trunc, dst, s1)),
         UniOp::Real => no_constants(low.real(out, at, dst, s1)),
         UniOp::Imaginary => no_constants(low.imaginary(out, at, dst, s1)),
         UniOp::Conjugate => no_constants(low.conjugate(out, at, dst, s1)),
@@ -84,11 +89,10 @@ fn rerun_uni(
             dst,
             s1,
         )),
+        UniOp::Sign => no_constants(low.each(out, at, UniOp::Sign, dst, s1)),
         UniOp::Abs2 => no_constants(low.abs2(out, at, dst, s1)),
         UniOp::TimesI => no_constants(low.times_i(out, at, dst, s1)),
         UniOp::TimesNegI => no_constants(low.times_neg_i(out, at, dst, s1)),
-        // Neg, Round, Floor, Ceiling, Trunc and Sign.
-        _ => no_constants(low.each(out, at, op, dst, s1)),
     }
 }
 

@@ -8,7 +8,7 @@ use Rattle.complexify.specs.declared.entry.LowerAnswer.{LowerAnswer}
 use Rattle.complexify.specs.Entry as Entry
 use Rattle.words.specs.Bytes.{words_of, stored}
 use Rattle.replay.specs.Numbers.{u32_at}
-use Rattle.replay.specs.Same.{same, same_part}
+use Rattle.replay.specs.Same.{same}
 use Rattle.replay.specs.Whole.{cut_at, WholeAt}
 use Rattle.replay.specs.Tally.{Cases}
 
@@ -82,11 +82,11 @@ numbers_agree s a =
 
 -- whether the record of realness is, 32 flags of registers and 64 bytes of places
 unfoldable pub real_agrees : List ℕ → Realness → Bool
-real_agrees s ρ = same_part (record_bytes ρ) s 28
+real_agrees s ρ = same (record_bytes ρ) (take 96 (drop 28 s))
 
 -- whether the marks are, a byte each: 66 of registers that are filled, and 66 of those drawn on before
 unfoldable pub marks_agree : List ℕ → LowerAnswer → Bool
-marks_agree s a = same_part (map flag_byte a.filled ++ map flag_byte a.drawn) s 124
+marks_agree s a = same (map flag_byte a.filled ++ map flag_byte a.drawn) (take 132 (drop 124 s))
 
 -- the slices that are expected: what was to be written, and past it what was lent
 unfoldable pub listing_expected : List ℕ → List ℕ

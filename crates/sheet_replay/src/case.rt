@@ -9,7 +9,7 @@ use complexify::entry::{LowerAnswer, lower};
 use lowering::bytes::{put_flags, record_bytes};
 use lowering::realness::Realness;
 use replay::numbers::count_at;
-use replay::same::{same_bytes, same_part, same_words};
+use replay::same::{same_bytes, same_words};
 use words::{load, put_bytes};
 
 // Where the listing's bytes begin.
@@ -51,10 +51,11 @@ fn numbers_agree(s: &[u8], a: LowerAnswer) -> bool
 
 // Whether the registers and places recorded as real are the expected ones.
 fn real_agrees(s: &[u8], real: Realness) -> bool
+    requires { 256 ≤ length s.now }
     ensures { result ≡ real_agrees s.now «real» }
 {
     let record = record_bytes(real);
-    same_part(&record, s, 28)
+    same_bytes(&record, &s[28..124])
 }
 
 // The marks as bytes: of registers filled, then of those drawn on before.
@@ -69,12 +70,13 @@ fn mark_bytes(filled: [bool; 66], drawn: [bool; 66]) -> [u8; 132]
 
 // Whether the marks are the expected ones.
 fn marks_agree(s: &[u8], a: LowerAnswer) -> bool
+    requires { 256 ≤ length s.now }
     ensures { result ≡ marks_agree s.now a }
 {
     let filled = a.filled;
     let drawn = a.drawn;
     let marks = mark_bytes(filled, drawn);
-    same_part(&marks, s, 124)
+    same_bytes(&marks, &s[124..256])
 }
 
 // Whether an answer and both slices are the expected ones.
@@ -86,7 +88,7 @@ fn agrees(
     bytes: &[u8],
     words: &[u64],
 ) -> bool
-    requires { (bytes.now ≡ listing_expected s.now) × (words.now ≡ constants_expected s.now) }
+    requires { (256 ≤ length s.now) × ((bytes.now ≡ listing_expected s.now) × (words.now ≡ constants_expected s.now)) }
     ensures { result ≡ expected s.now a listing.now constants.now }
 {
     if !numbers_agree(s, a) {

@@ -1,10 +1,10 @@
 -- That the statements which the edits of must-fail/ put in place of the theorems are false, each under its edit's name.
-use Prim.Native.Nat.{ℕ, zero, suc, ◌^◌, ◌≤◌, ◌<◌}
+use Prim.Native.Nat.{ℕ, ◌^◌, ◌≤◌}
 use mathlib.Core.Path.{◌≡◌, refl, sym, ap, ◌∙◌, subst}
 use mathlib.Core.Bool.{true, false}
-use mathlib.Core.List.{List, [], ◌∷◌, ◌++◌}
+use mathlib.Core.List.{List, [], ◌∷◌}
 use native.Mathlib.Omega.{arith}
-use lib.ListN.{length, get_or, drop, take, replicate, length-replicate}
+use lib.ListN.{length, drop, take, replicate, length-replicate}
 use lib.Dec.{lit<, lit≤}
 use Rattle.mir.specs.declared.ops.UniOp.{UniOp}
 use Rattle.mir.specs.declared.records.Loc.{Loc}
@@ -13,15 +13,10 @@ use Rattle.mir.specs.declared.records.Work.{Work}
 use Rattle.mir.specs.declared.records.Record.{Record}
 use Rattle.mir.specs.Register.{im}
 use Rattle.mir.specs.Length.{length_of}
-use Rattle.mir.specs.Operation.{uni_ops}
 use Rattle.mir.specs.Field.{u16_at, takes_kind}
 use Rattle.mir.specs.Decode.{decoded}
 use Rattle.sheet.specs.Setup.{setup}
-use Rattle.sheet.specs.Instruction.{instruction_from}
 use Rattle.records.specs.Record.{record_from}
-use Rattle.assembly.specs.Assembled as Assembled
-use Rattle.assembly.specs.Faults.{line_fault}
-use Rattle.assembly.specs.Naming.{FaultLaw}
 use Rattle.float.specs.Word.{if_else}
 use Rattle.float.specs.Mends.{estimate, EightMends}
 use Rattle.float.specs.Laws.{IfElseLaw}
@@ -50,15 +45,9 @@ use Rattle.entries.proofs.Demand.{entries_demand-3}
 use Rattle.entries.proofs.Examples.{needed, needed-stable, minded, met}
 use Rattle.entries.proofs.Drawn.{none-drawn}
 use Rattle.entries.proofs.DrawnExamples.{undrawn, drawn-apart}
-use Rattle.meaning.specs.Tidy.{tidiness}
-use Rattle.tidy.specs.First.{told}
-use Rattle.tidy.specs.Told.{TellsTidy}
 use Rattle.figures.specs.Shelf.{refusal}
 use Rattle.figures.specs.Told.{FiguresReported}
-use Rattle.pages.specs.Pages.{row_line, blank_line, constant_row, pages_from}
-use Rattle.unprint.specs.Typed.{unfed, unreturned, difference}
-use Rattle.unprint.specs.Unprinted.{Unprinted, accepted, refused_at, stepped, unprinted}
-use Rattle.unprint.specs.ReadBack.{ReadBack}
+use Rattle.pages.specs.Pages.{row_line, constant_row}
 use Rattle.pages.specs.Uncut.{UncutLaw}
 
 -- ---- demand 3
@@ -200,35 +189,4 @@ unfolding Player.refusal breach decoded row_line constant_row
 line_feed_lost law = differ (law [] (0 ∷ []) (λ i. lit< tt) refl).0.0.long
   where
     differ : ◌≡◌ {A = ℕ} 72 73 → ⊥
-    differ e = omega arith
-
--- a constant where 251 stand, whose words are of their sorts
-pub full_sheet_unnamed : FaultLaw (λ why stage count ws. line_fault stage count ws) → ⊥
-unfolding Assembled.stepped line_fault
-full_sheet_unnamed law =
-    let constant : List ℕ = 99 ∷ 111 ∷ 110 ∷ 115 ∷ 116 ∷ 97 ∷ 110 ∷ 116 ∷ 32 ∷ 52 ∷ replicate 15 48 in
-    law.of-refused (record { bytes = []; count = 251; instructions = 0; stage = 2 }) constant 2 refl refl
-
--- a constant alone, its page lost: what is read is nothing
-pub first_page_lost : ReadBack (pages_from 1 1) → ⊥
-unfolding Player.refusal breach decoded constant_row blank_line unprinted stepped difference unfed unreturned
-first_page_lost law = differ (ap count (law [] (0 ∷ []) (λ i. lit< tt) low refl))
-  where
-    low : (i : ℕ) → get_or (0 ∷ []) i 0 < 256 ^ 8
-    low zero = lit< tt
-    low (suc i) = lit< tt
-
-    count : Unprinted → ℕ
-    count (accepted s) = s.count
-    count (refused_at n row column) = 0
-
-    differ : ◌≡◌ {A = ℕ} 0 1 → ⊥
-    differ e = omega arith
-
--- a Neg into Ret is not tidy
-pub every_sheet_tidy : TellsTidy (λ sheet. told 0 0) → ⊥
-unfolding header setup u16_at decoded instruction_from takes_kind length_of uni_ops tidiness
-every_sheet_tidy law = differ (law.tidy (header ++ 7 ∷ 0 ∷ 1 ∷ 0 ∷ 0 ∷ 30 ∷ 0 ∷ []) refl refl 0 (lit< tt))
-  where
-    differ : ◌≡◌ {A = ℕ} 1 0 → ⊥
     differ e = omega arith

@@ -28,23 +28,18 @@ use Rattle.meaning.specs.Preserved.{Preserved}
 use Rattle.meaning.specs.Settled.{Settled}
 use Rattle.meaning.specs.Tidy.{Tidied}
 use Rattle.meaning.specs.Examples.{dividing, TidyMet, SettledMet}
-use Rattle.tidy.specs.First.{tidy}
-use Rattle.tidy.specs.Told.{TellsTidy}
 use Rattle.entries.specs.Complexified.{Complexified}
 use Rattle.entries.specs.Originated.{Originated, Finding, Refusing}
 use Rattle.figures.specs.Shelf.{shelf}
 use Rattle.figures.specs.Told.{FiguresReported}
 use Rattle.assembly.specs.SheetText.{sheet_text}
 use Rattle.assembly.specs.RoundTrip.{RoundTrip}
-use Rattle.assembly.specs.Faults.{fault_of}
-use Rattle.assembly.specs.Naming.{FaultLaw}
 use Rattle.nearest.specs.Nearest.{nearest}
 use Rattle.nearest.specs.Laws.{NearestLaw}
 use Rattle.peak.specs.Peak.{after}
 use Rattle.peak.specs.Laws.{PeakLaw}
-use Rattle.pages.specs.Pages.{row_line, pages_from, pages_text}
+use Rattle.pages.specs.Pages.{row_line, pages_from}
 use Rattle.pages.specs.Uncut.{UncutLaw, Joined}
-use Rattle.unprint.specs.ReadBack.{ReadBack}
 
 -- all of it, one theorem a field
 pub record Theorems : Type 0 where
@@ -91,8 +86,6 @@ pub record Theorems : Type 0 where
   -- of a tidy sheet each instruction does its row and no more; there is one, by which 6 / (1 + i) is 3 - 3i
   pub tidied : Tidied
   pub tidy_met : TidyMet dividing 0x4008_0000_0000_0000 0xc008_0000_0000_0000
-  -- a sheet that is told as tidy is one of those; of another the first instruction that is not tidy is told
-  pub told_tidy : TellsTidy tidy
   -- every word of the store is a leftover or must be the same in both endings
   pub parted : (ρ : Realness) → Parted (Kept ρ) (Leftover ρ)
   -- "Records played are at most all records plus calls times block records."
@@ -109,8 +102,6 @@ pub record Theorems : Type 0 where
   pub figures : FiguresReported shelf
   -- assembling the text of a readable sheet gives its bytes again
   pub round_trip : RoundTrip sheet_text
-  -- a line of a text is refused where it has a fault, and only there
-  pub faulted : FaultLaw fault_of
   -- a record depends on the words that it draws on alone, and writes those that it fills alone
   pub confined : Confined draws fills
   -- Root goes to the nearest value, and there is one
@@ -133,5 +124,3 @@ pub record Theorems : Type 0 where
   pub uncut : UncutLaw row_line
   -- pages laid out in two parts are those laid out at once
   pub joined : Joined pages_from
-  -- reading the pages of an accepted listing and its constants gives their bytes again
-  pub read_back : ReadBack pages_text

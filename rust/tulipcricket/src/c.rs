@@ -62,17 +62,6 @@ mod raw {
             answer: *mut u8,
             answer_len: usize,
         ) -> u32;
-
-        pub fn tulipcricket_unprint(
-            pages: *const u8,
-            pages_len: usize,
-            listing: *mut u8,
-            listing_len: usize,
-            constants: *mut u8,
-            constants_len: usize,
-            answer: *mut u8,
-            answer_len: usize,
-        ) -> u32;
     }
 }
 
@@ -166,23 +155,6 @@ pub fn pages(listing: &[u8], constants: &[u8], pages: &mut [u8], answer: &mut [u
             constants.len(),
             pages.as_mut_ptr(),
             pages.len(),
-            answer.as_mut_ptr(),
-            answer.len(),
-        )
-    }
-}
-
-/// `tulipcricket_unprint`; the number it returns.
-pub fn unprint(pages: &[u8], listing: &mut [u8], constants: &mut [u8], answer: &mut [u8; 48]) -> u32 {
-    // SAFETY: each pointer comes with the length of the slice it was taken from, and the function keeps none.
-    unsafe {
-        raw::tulipcricket_unprint(
-            pages.as_ptr(),
-            pages.len(),
-            listing.as_mut_ptr(),
-            listing.len(),
-            constants.as_mut_ptr(),
-            constants.len(),
             answer.as_mut_ptr(),
             answer.len(),
         )

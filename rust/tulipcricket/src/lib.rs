@@ -225,27 +225,6 @@ pub fn pages(listing: &[u8], constants: &[u64]) -> Result<String, Refused> {
     Ok(String::from_utf8(text).expect("pages are ASCII"))
 }
 
-/// Where typed pages are not as printed: page, line and column, each from 1.
-#[derive(Clone, Copy, Debug, PartialEq, Eq)]
-pub struct Misprint {
-    pub page: u64,
-    pub line: u64,
-    pub column: u64,
-}
-
-/// The listing and the constants that stand on pages, also typed ones: spaces at the end of a line may be missing, a carriage return may stand
-/// before a line feed and a form feed before a line, and a blank line counts for nothing.
-pub fn unprint(pages: &[u8]) -> Result<(Vec<u8>, Vec<u64>), Misprint> {
-    let (mut listing, mut table, mut answer) = (vec![0; LISTING_LIMIT], [0; 8 * TABLE], [0; 48]);
-    if c::unprint(pages, &mut listing, &mut table, &mut answer) != 0 {
-        let (page, line, column) = (number(&answer, 24), number(&answer, 32), number(&answer, 40));
-        return Err(Misprint { page, line, column });
-    }
-    listing.truncate(number(&answer, 8) as usize);
-    let count = number(&answer, 16) as usize;
-    Ok((listing, (0..count).map(|i| number(&table, 8 * i)).collect()))
-}
-
 /// For each position of a run of f64 words, the largest of the `window` words that end there, fewer at the start. Of equal ones, zeros of both
 /// signs among them, the earliest; a NaN is passed over, and NaNs alone give 7ff8000000000000.
 pub fn peak(run: &[u64], window: u64) -> Result<Vec<u64>, Refused> {

@@ -2,8 +2,8 @@
 
 use tulipcricket::sheet::{Arith, Bi, Fused, Mode, Sheet, Uni, RET, TEMP};
 use tulipcricket::{
-    look, lower, nearest, pages, peak, play, shelf, unprint, Class, Looked, Lowered, Misprint, Refused, Shelf, Store,
-    Why, LISTING_LIMIT, PAGE,
+    look, lower, nearest, pages, peak, play, shelf, Class, Looked, Lowered, Refused, Shelf, Store, Why, LISTING_LIMIT,
+    PAGE,
 };
 
 fn paper() -> Vec<u8> {
@@ -162,19 +162,6 @@ fn pages_come_by_sixty_lines() {
     assert_eq!((count(0, 0), count(1, 0), count(59, 1), count(60, 1)), (Ok(0), Ok(1), Ok(1), Ok(2)));
     assert_eq!(count(0, 257), Err(Refused { why: Why::WrongSetup, index: 0 }));
     assert_eq!(pages(&lowered().listing, &[]), Err(Refused { why: Why::MissingConstant, index: 0 }));
-}
-
-#[test]
-fn pages_are_read_back() {
-    let listing = [6, 0, 3, 0, 1, 2].repeat(70);
-    let text = pages(&listing, &[7, 8]).unwrap();
-    assert_eq!(unprint(text.as_bytes()), Ok((listing.clone(), vec![7, 8])));
-    let typed: String = text.lines().map(|line| format!("{}\r\n", line.trim_end())).collect();
-    assert_eq!(unprint(typed.as_bytes()), Ok((listing, vec![7, 8])));
-    assert_eq!(
-        unprint(text.replacen("69 Mov", "69 Mow", 1).as_bytes()),
-        Err(Misprint { page: 2, line: 12, column: 7 })
-    );
 }
 
 /// 6 / (1 + i), by instructions that divide register 0, recorded as real, by Mem 3 into register 2.

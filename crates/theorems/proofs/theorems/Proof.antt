@@ -21,16 +21,13 @@ use Rattle.meaning.proofs.Theorem.{preserved}
 use Rattle.meaning.proofs.Settling.{settled}
 use Rattle.meaning.proofs.Tidied.{tidied}
 use Rattle.meaning.proofs.Examples.{settled-met, tidy-met}
-use Rattle.tidy.proofs.Telling.{tells_tidy}
 use Rattle.entries.proofs.Complexified.{complexified}
 use Rattle.entries.proofs.Originated.{originated, named, named_none}
 use Rattle.figures.proofs.Theorem.{figures}
 use Rattle.assembly.proofs.Theorem.{round_trip}
-use Rattle.assembly.proofs.Naming.{fault_named}
 use Rattle.nearest.proofs.Law.{nearest_law}
 use Rattle.peak.proofs.Law.{peak_law}
 use Rattle.pages.proofs.Fitting.{uncut, joined}
-use Rattle.unprint.proofs.Theorem.{read_back_all}
 use Rattle.theorems.proofs.theorems.Statement.{statement}
 use Rattle.theorems.proofs.theorems.Tie as tie
 
@@ -63,7 +60,6 @@ returns c =
       settled_met = settled-met;
       tidied = tidied;
       tidy_met = tidy-met;
-      told_tidy = tells_tidy;
       parted = parted;
       bound = answer_bound;
       by_steps = by-steps;
@@ -72,7 +68,6 @@ returns c =
       looked_on = looked-on;
       figures = figures;
       round_trip = round_trip;
-      faulted = fault_named;
       confined = confined;
       nearest_root = root_nearest;
       one_root = one-root;
@@ -85,7 +80,6 @@ returns c =
       running_peak = peak_law;
       uncut = uncut;
       joined = joined;
-      read_back = read_back_all;
     }
 
 pub theorems-spec : {M : Type 1} → statement M

@@ -42,14 +42,10 @@ make_spec =
     let d = c.before.before.before.before.before.before.before in
     let v = d.before.before.loop in
     let p = d.piece-end in
-    let t = d.before.before.before.before.before.before.before.args.t.now in
-    let k = inside t v.at p.result d.before.loop-test.true p.ensures in (
-      (
-        refused-here t v.s v.out v.at v.k p.result v.invariant.1 d.before.loop-test.true p.ensures
-            c.before.before.before.before.step.ensures c.if1.true,
-        omega arith,
-      ),
-      k,
+    let t = d.before.before.before.before.before.before.before.args.t.now in (
+      refused-here t v.s v.out v.at v.k p.result v.invariant.1 d.before.loop-test.true p.ensures
+          c.before.before.before.before.step.ensures c.if1.true,
+      omega arith,
     ))
     (λ c κs. search rules)
     (λ c.
@@ -81,11 +77,10 @@ make_spec =
     let d = c.before.before.before in
     let v = d.loop in
     let t = d.before.before.before.before.before.args.t.now in
-    ((no_line t v.s v.out v.at v.k 0 v.invariant.1 (omega arith) c.if2.true, omega arith), (omega arith, omega arith)))
+    (no_line t v.s v.out v.at v.k 0 v.invariant.1 (omega arith) c.if2.true, omega arith))
     (λ c. omega (arith, c.before.before.before.loop.invariant.0))
     (λ c.
     let d = c.before.before.before in
     let v = d.loop in
     let t = d.before.before.before.before.before.args.t.now in
-    let r = v.invariant.1.room.1 in
-    ((all_lines t v.s v.out v.at v.k 0 v.invariant.1 (omega arith) c.if2.false, omega (arith, r.constants, r.instructions, r.bytes)), (omega arith, omega arith))))
+    (all_lines t v.s v.out v.at v.k 0 v.invariant.1 (omega arith) c.if2.false, let r = v.invariant.1.room.1 in omega (arith, r.constants, r.instructions, r.bytes))))

@@ -1,6 +1,5 @@
 -- `print::constants` is safe and ends: the measure is the number of constants that are left.
-use borrow.Author.Rules.{rules}
-use Prim.Native.Nat.{◌-◌}
+use Rattle.std.proofs.Common.{◌-◌, rules}
 use Rattle.check_limits.proofs.print.constants.Statement.{statement}
 use Rattle.check_limits.proofs.print.constants.Tie as tie
 

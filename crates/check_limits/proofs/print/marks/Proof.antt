@@ -1,8 +1,5 @@
 -- `print::marks` is safe and ends: the measure is the number of marks that are left.
-use borrow.Author.Rules.{rules}
-use Prim.Native.Nat.{◌≤◌, ◌-◌}
-use mathlib.Core.Path.{◌≡◌}
-use lib.ListN.{length}
+use Rattle.std.proofs.Common.{◌≡◌, ◌-◌, ◌≤◌, length, rules}
 use Rattle.check_limits.proofs.print.marks.Statement.{statement}
 use Rattle.check_limits.proofs.print.marks.Tie as tie
 

@@ -1,7 +1,5 @@
 -- `print::records` is safe and ends: the measure is the number of turns that are left.
-use borrow.Author.Rules.{rules}
-use Prim.Native.Nat.{◌-◌}
-use lib.ListN.{length}
+use Rattle.std.proofs.Common.{◌-◌, length, rules}
 use Rattle.check_limits.proofs.print.records.Statement.{statement}
 use Rattle.check_limits.proofs.print.records.Tie as tie
 

@@ -1,6 +1,5 @@
 -- `print::registers` is safe and ends: the measure is the number of registers that are left.
-use borrow.Author.Rules.{rules}
-use Prim.Native.Nat.{◌-◌}
+use Rattle.std.proofs.Common.{◌-◌, rules}
 use Rattle.check_limits.proofs.print.registers.Statement.{statement}
 use Rattle.check_limits.proofs.print.registers.Tie as tie
 

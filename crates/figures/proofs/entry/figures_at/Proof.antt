@@ -10,8 +10,8 @@ figures-at-spec =
     tie.close
     (tie.spec
     (λ c κs. search rules)
-    (λ c. let a = c.before.before.args in c.refusal.ensures ∙ sym (at-refused a.number a.taken a.p c.before.if1.true))
-    (λ c κs. c.before.requires)
-    (λ c. let a = c.before.before.args in
-    ap (λ n. record { number = 0; index = a.p.index; bytes = a.taken.bytes; constants = a.p.count; records = n }) c.records-run.ensures
-    ∙ sym (at-end a.number a.taken a.p c.before.if1.false)))
+    (λ c. let a = c.before.before.args in c.refusal.ensures ∙ sym (at-refused a.number a.p c.before.if1.true))
+    (λ c κs. c.before.before.requires)
+    (λ c. let a = c.before.before.before.args in
+    ap (λ n. record { number = 0; index = a.p.index; bytes = a.p.taken.bytes; constants = a.p.constants; records = n }) c.records-run.ensures
+    ∙ sym (at-end a.number a.p c.before.before.if1.false)))

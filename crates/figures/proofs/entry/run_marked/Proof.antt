@@ -13,11 +13,11 @@ run-marked-spec =
     (tie.spec
     (λ c. search rules) (λ c κs. search rules) (λ c. search rules) (λ c. search rules)
     (λ c κs. let b = c.before.before.before.before.before.before.before.before.before in let s = b.args.sheet.now in
-    (b.requires, begin-noted (drop b.args.start.at s) (replicate 256 0) _ _ _ (bytes_behind s b.args.start.at (λ i. (c.before.before.before.before.before.before.before.before.shared-slice-known.given i).fits)) refl c.before.before.before.before.before.find-labels.ensures (λ e. refl)))
+    (b.requires.0, (b.requires.1, begin-noted (drop b.args.start.at s) (replicate 256 0) _ _ _ (bytes_behind s b.args.start.at (λ i. (c.before.before.before.before.before.before.before.before.shared-slice-known.given i).fits)) refl c.before.before.before.before.before.find-labels.ensures (λ e. refl))))
     (λ c. search rules)
     (λ c. c.before.before.before.before.run.ensures)
     (λ c. search rules) (λ c. search rules)
     (λ c κs. let b = c.before.before.before.before.before.before.before.before.before in let s = b.args.sheet.now in
-    (b.requires, begin-noted (drop b.args.start.at s) (replicate 256 0) _ _ _ (bytes_behind s b.args.start.at (λ i. (c.before.before.before.before.before.before.before.before.shared-slice-known.given i).fits)) refl c.before.before.before.before.before.find-labels.ensures (λ e. absurd (true≢false (sym e ∙ c.before.before.before.if1.false)))))
+    (b.requires.0, (b.requires.1, begin-noted (drop b.args.start.at s) (replicate 256 0) _ _ _ (bytes_behind s b.args.start.at (λ i. (c.before.before.before.before.before.before.before.before.shared-slice-known.given i).fits)) refl c.before.before.before.before.before.find-labels.ensures (λ e. absurd (true≢false (sym e ∙ c.before.before.before.if1.false))))))
     (λ c. search rules)
     (λ c. c.before.before.before.before.run2.ensures))

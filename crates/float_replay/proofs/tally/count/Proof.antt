@@ -11,4 +11,4 @@ count_spec =
     tie.close
     (tie.spec
     (λ c κs. search rules) (λ c. search rules) (λ c κs. search rules) (λ c κs. search rules) (λ c κs. search rules)
-    (λ c. simp (c.tally2.ensures, c.before.before.tally.ensures, c.before.before.before.slot.ensures.0, c.before.before.before.before.before.before.differs.ensures)))
+    (λ c. cc))

@@ -1,7 +1,8 @@
 -- `marks_agree` meets its contract.
 use borrow.Author.Rules.{rules}
 use mathlib.Core.Path.{ap, ◌∙◌}
-use Rattle.replay.specs.Same.{same_part}
+use lib.ListN.{take, drop}
+use Rattle.replay.specs.Same.{same}
 use Rattle.sheet_replay.specs.Case.{marks_agree}
 use Rattle.sheet_replay.proofs.case.marks_agree.Statement.{statement}
 use Rattle.sheet_replay.proofs.case.marks_agree.Tie as tie
@@ -11,5 +12,5 @@ unfolding marks_agree
 marks-agree-spec =
     tie.close
     (tie.spec
-    (λ c κs. search rules) (λ c. search rules) (λ c κs. search rules)
-    (λ c. c.same-part.ensures ∙ ap (λ m. same_part m c.before.before.before.before.before.before.args.s.now 124) c.before.before.mark-bytes.ensures))
+    (λ c κs. search rules) (λ c. search rules) (λ c. search rules) (λ c. search rules) (λ c. search rules) (λ c κs. search rules)
+    (λ c. c.same_bytes.ensures ∙ ap (λ m. same m (take 132 (drop 124 c.before.before.before.before.before.before.before.args.s.now))) c.before.before.before.mark-bytes.ensures))

@@ -1,5 +1,7 @@
 -- `case::real_agrees` meets its contract. Assumes nothing.
 use borrow.Author.Rules.{rules}
+use mathlib.Core.Path.{ap, ◌∙◌}
+use Rattle.replay.specs.Same.{same}
 use Rattle.sheet_replay.specs.Case.{real_agrees}
 use Rattle.sheet_replay.proofs.case.real_agrees.Statement.{statement}
 use Rattle.sheet_replay.proofs.case.real_agrees.Tie as tie
@@ -9,5 +11,5 @@ unfolding real_agrees
 real-agrees-spec =
     tie.close
     (tie.spec
-    (λ c κs. search rules) (λ c. search rules) (λ c κs. search rules)
-    (λ c. simp (c.same-part.ensures, c.before.before.record-bytes.ensures)))
+    (λ c κs. search rules) (λ c. search rules) (λ c. search rules) (λ c. search rules) (λ c. search rules) (λ c κs. search rules)
+    (λ c. simp (c.same_bytes.ensures, c.before.before.before.record-bytes.ensures)))

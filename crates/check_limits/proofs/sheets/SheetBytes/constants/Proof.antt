@@ -1,0 +1,19 @@
+-- `SheetBytes::constants` is safe and ends: the measure is the number of constants that are left.
+use Rattle.std.proofs.Common.{◌-◌, rules}
+use Rattle.check_limits.proofs.sheets.SheetBytes.constants.Statement.{statement}
+use Rattle.check_limits.proofs.sheets.SheetBytes.constants.Tie as tie
+
+abbrev invariant-loop : tie.invariant-loop
+invariant-loop n sheet₀ i₀ t5 sheet i = Unit {0}
+
+abbrev decreases-loop : tie.decreases-loop
+decreases-loop n sheet₀ i₀ t5 sheet i = n - i
+
+pub constants-spec : {M : Type 1} → statement M
+constants-spec =
+    tie.close
+    (tie.spec
+    invariant-loop
+    decreases-loop
+    (λ c. search rules) (λ c. search rules) (λ c κs. search rules) (λ c. search rules) (λ c. search rules) (λ c. search rules)
+    (λ c. search rules))

@@ -1,4 +1,0 @@
-pub mod Tidying
-pub mod Beginning
-pub mod Testing
-pub mod Telling
