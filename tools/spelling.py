@@ -2,7 +2,7 @@
 
 usage: python3 tools/spelling.py [FOLDER]
 
-tools/names.tsv has a row for each name: the old one, a tab, the new one. The script goes over crates/ below FOLDER (here, if none is
+tools/names.tsv has a row for each name: the old one, a tab, the new one, and behind a tab the crate where that holds, if not in all. The script goes over crates/ below FOLDER (here, if none is
 given): definitions, lemmas, the clauses of source files and must-fail edits. A name with a dash is left where it follows a dot behind a
 word in small letters, since Rattle makes such names for the steps of a proof; a string and a comment keep dashes. Edits get besides what
 port.py gives every other file: a projection without a space, and the library's words.
@@ -17,9 +17,14 @@ TOKEN = re.compile(r"[A-Za-z_\u0370-\u03ff][\w'₀-₉-]*")
 OLDER = {"getD": "get_or", "mathlib.Core.Bool.cond": "cond"}
 
 
-def table() -> dict[str, str]:
-    rows = (HERE / "names.tsv").read_text(encoding="utf-8").splitlines()
-    return dict(row.split("\t") for row in rows if row)
+def table(crate: str) -> dict[str, str]:
+    """The rows for a crate: those of all crates, and those that name it."""
+    names = {}
+    for row in (HERE / "names.tsv").read_text(encoding="utf-8").splitlines():
+        old, new, *only = row.split("\t")
+        if not only or crate in only:
+            names[old] = new
+    return names
 
 
 def renamed(text: str, names: dict[str, str], dashes: bool) -> str:
@@ -76,21 +81,18 @@ def edit(text: str, names: dict[str, str]) -> str:
 
 def main() -> None:
     top = pathlib.Path(sys.argv[1] if len(sys.argv) > 1 else ".")
-    names = table()
     changed = 0
     for path in sorted((top / "crates").rglob("*")):
         if not path.is_file() or "out" in path.relative_to(top / "crates").parts[1:2]:
             continue
-        if path.suffix == ".antt":
-            turn = lambda t: by_parts(t, names, "--")
-        elif path.suffix == ".rt":
-            turn = lambda t: by_parts(t, names, "//")
-        elif path.suffix == ".edit":
-            turn = lambda t: edit(t, names)
-        else:
+        if path.suffix not in (".antt", ".rt", ".edit"):
             continue
+        names = table(path.relative_to(top / "crates").parts[0])
         old = path.read_text(encoding="utf-8")
-        new = turn(old)
+        if path.suffix == ".edit":
+            new = edit(old, names)
+        else:
+            new = by_parts(old, names, "--" if path.suffix == ".antt" else "//")
         if new != old:
             path.write_text(new, encoding="utf-8")
             changed += 1

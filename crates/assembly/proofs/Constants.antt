@@ -12,7 +12,7 @@ use Rattle.words.specs.Bytes.{number}
 use Rattle.words.specs.Bytes as Words
 use Rattle.mir.specs.Read.{Read, got, refused, refuse}
 use Rattle.mir.specs.Field.{u16_at}
-use Rattle.mir.proofs.Passing.{Either, or_left, or_right, clash, got_same}
+use Rattle.mir.proofs.Passing.{either, or_left, or_right, clash, got_same}
 use Rattle.mir.proofs.Decoding.{Bytes}
 use Rattle.mir.proofs.Tables.{and_right}
 use Rattle.sheet.specs.Setup.{is_constant, is_broken, one_more, constants_from, constant_at, constants_from_on}
@@ -104,15 +104,15 @@ module _ (s : List ℕ) (least : 69 ≤ length s) (bytes : Bytes s) where
   pub all : (fuel i stage n : ℕ) → i + fuel ≡ 251 → 1 ≤ stage → stage ≤ 2 → constants_from fuel (drop (69 + 12 * i) s) ≡ got n → Reached s i n stage
   all zero i stage n h k l e =
       let u = drop (69 + 12 * i) s in
-      Either (is_constant u)
+      either (is_constant u)
       (λ t. absurd (clash 8 n (sym (Counting.full u t) ∙ e)))
       (λ t. none i stage n k l (got_same 0 n (sym (Counting.ended 0 u t) ∙ e)))
   all (suc fuel) i stage n h k l e =
       let u = drop (69 + 12 * i) s in
       let z : 69 + 12 * i + 12 ≡ 69 + 12 * suc i = omega arith in
-      Either (is_constant u)
+      either (is_constant u)
       (λ t.
-      Either (is_broken u)
+      either (is_broken u)
       (λ b. absurd (clash 8 n (sym (Counting.broken fuel u t b) ∙ e)))
       (λ b.
       more i stage n (constants_from fuel (drop 12 u)) (omega arith) k l t b (sym (Counting.more fuel u t b) ∙ e)

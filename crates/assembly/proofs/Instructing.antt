@@ -13,7 +13,7 @@ use Rattle.mir.specs.Length.{lengths, length_of}
 use Rattle.mir.specs.Read.{Read, got, refused, refuse, and_then}
 use Rattle.mir.specs.Field.{u16_at, takes_kind, head_from}
 use Rattle.mir.specs.Decode.{decoded, ahead}
-use Rattle.mir.proofs.Passing.{Either}
+use Rattle.mir.proofs.Passing.{either}
 use Rattle.mir.proofs.Heads.{Sized, Headed}
 use Rattle.mir.proofs.IfRead.{IfRead, read, told, told_so, if_read, parted, head}
 use Rattle.mir.proofs.Decoding.{Bytes, items, fault, decoded-none, decoded-torn, decoded-got}
@@ -164,7 +164,7 @@ module _ (s : List ℕ) (count : ℕ) (most : count ≤ 251) (bytes : Bytes s) w
       → Reached s count at index stage (instruction_lines (items reader (drop at s)))
   all zero at index stage h l k e b = at-end at index stage (omega arith) k
   all (suc fuel) at index stage h l k e b =
-      Either (ltb at (length s))
+      either (ltb at (length s))
       (λ t.
       next at index stage (ltb-true at (length s) t) k e b (λ m a b f c. all fuel m (suc index) 3 (omega arith) b (omega arith) f c) (reader (drop at s)) refl
       (good count (drop at s) most (λ i. subst (λ x. x < 256) (sym (get_or-drop at s i 0)) (bytes (at + i)))))

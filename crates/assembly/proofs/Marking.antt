@@ -12,7 +12,7 @@ use lib.Pow.{pow_pos}
 use Rattle.mir.specs.declared.records.Loc.{Loc}
 use Rattle.mir.specs.Read.{Read, got, refused, refuse, and_then}
 use Rattle.mir.specs.Field.{u16_at, classed, place_at}
-use Rattle.mir.proofs.Passing.{Either}
+use Rattle.mir.proofs.Passing.{either}
 use Rattle.assembly.specs.Assembled.{marked}
 use Rattle.assembly.specs.Making.{with_bit, place_bit}
 
@@ -21,7 +21,7 @@ power_some i p e = subst (λ x. 0 < x) (sym e) (pow_pos (i % 8))
 
 pub parity : (x : ℕ) → (x % 2 ≡ 1 → ⊥) → x % 2 ≡ 0
 parity x h =
-    Either (eqb (x % 2) 1)
+    either (eqb (x % 2) 1)
     (λ t. absurd (h (eqb-true (x % 2) 1 t)))
     (λ t. omega (arith, eqb-false (x % 2) 1 t))
 

@@ -11,7 +11,7 @@ use Rattle.mir.specs.declared.records.Loc.{Loc}
 use Rattle.mir.specs.Place.{class, index}
 use Rattle.mir.specs.Read.{Read, got, refused, refuse, and_then}
 use Rattle.mir.specs.Field.{u16_at, place_at}
-use Rattle.mir.proofs.Passing.{Either}
+use Rattle.mir.proofs.Passing.{either}
 use Rattle.mir.proofs.Written.{place-back}
 use Rattle.mir.proofs.Decoding.{Bytes}
 use Rattle.lowering.specs.Realness.{bit_at}
@@ -118,7 +118,7 @@ up_to i ps = part (i / 8) (i % 8) ps
 
 next : (i : ℕ) (ps : List ℕ) → Bytes ps → part (i / 8) (suc (i % 8)) ps ≡ up_to (suc i) ps
 next i ps h =
-    Either (ltb (i % 8) 7)
+    either (ltb (i % 8) 7)
     (λ t.
     let k = ltb-true (i % 8) 7 t in
     let a : i / 8 ≡ suc i / 8 = omega arith in
@@ -151,7 +151,7 @@ record Bit (i : ℕ) (p : Loc) : Type 0 where
 
 bit_place : (i : ℕ) → i < 512 → Bit i (real_place i)
 bit_place i h =
-    Either (ltb i 256)
+    either (ltb i 256)
     (λ t. subst (λ b. Bit i (cond b (Loc.Stack i) (Loc.Param (i - 256)))) (sym t) (record { low = ltb-true i 256 t; same = refl }))
     (λ t.
     let k = ltb-false i 256 t in
@@ -197,7 +197,7 @@ module _ (a b c d e : ℕ) (ps : List ℕ) (bytes : Bytes ps) (size : length ps 
 
   step : (i : ℕ) → i < 512 → Onward (header i) (cond (bit_at ps i) (real_line i) []) (header (suc i))
   step i h =
-      Either (bit_at ps i)
+      either (bit_at ps i)
       (λ t. subst (λ b. Onward (header i) (cond b (real_line i) []) (header (suc i))) (sym t) (one i h t))
       (λ t. subst (λ b. Onward (header i) (cond b (real_line i) []) (header (suc i))) (sym t) (onward_as refl (off i t) stay))
 

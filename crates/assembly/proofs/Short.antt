@@ -12,7 +12,7 @@ use Rattle.sheet.specs.declared.setup.Mode.{Mode}
 use Rattle.text.specs.Sized.{SizedPlace}
 use Rattle.text.specs.Text.{ascii, decimal_in, decimal, hex_in, register, place}
 use Rattle.text.proofs.Short.{name_short}
-use Rattle.reports.proofs.Brief.{Either, number_short, hex_long, digits}
+use Rattle.reports.proofs.Brief.{either, number_short, hex_long, digits}
 use Rattle.assembly.specs.Lines.{mode_line, real_place, real_line, constant_line, named, math_names, math_name, instruction_line, reasons, refused_text}
 
 pub mode_short : (mode : Mode) → length (mode_line mode) ≤ 80
@@ -39,7 +39,7 @@ register_short : (r : ℕ) → length (register r) ≤ 21
 unfolding ascii register
 register_short r =
     let i = number_short r in
-    Either (eqb r 64) _ _ 21 (lit≤ tt) (Either (eqb r 65) _ _ 21 (lit≤ tt) (omega arith))
+    either (eqb r 64) _ _ 21 (lit≤ tt) (either (eqb r 65) _ _ 21 (lit≤ tt) (omega arith))
 
 math_short : (op : ArithOp) → length (math_name op) ≤ 6
 unfolding ascii math_name

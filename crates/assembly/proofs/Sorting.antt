@@ -19,15 +19,15 @@ abbrev pub Under : ℕ → Read ℕ → Type 0
 Under m (got k) = k < m
 Under m (refused n) = Unit {0}
 
-Either : (m : ℕ) (t : Bool) (a b : Read ℕ) → Under m a → Under m b → Under m (cond t a b)
-Either m true a b h k = h
-Either m false a b h k = k
+either : (m : ℕ) (t : Bool) (a b : Read ℕ) → Under m a → Under m b → Under m (cond t a b)
+either m true a b h k = h
+either m false a b h k = k
 
 pub number_under : (n m : ℕ) (ws : List (List ℕ)) (w : List ℕ) → n + length ws ≤ m → Under m (number_from n ws w)
 unfolding number_from
 number_under n m [] w h = tt
 number_under n m (v ∷ vs) w h =
-    Either m (same v w) (got n) (number_from (suc n) vs w) (omega (arith, h)) (number_under (suc n) m vs w (omega (arith, h)))
+    either m (same v w) (got n) (number_from (suc n) vs w) (omega (arith, h)) (number_under (suc n) m vs w (omega (arith, h)))
 
 module _ (line : Line) where
   pub one : (r : Read ℕ) → Under 256 r

@@ -11,7 +11,7 @@ use lib.Seq.{length-take-le, get_or-drop, get_or-take}
 use Rattle.mir.specs.Read.{Read, got, refused, and_then}
 use Rattle.mir.specs.Field.{byte_at, u16_at}
 use Rattle.mir.specs.Decode.{decoded}
-use Rattle.mir.proofs.Passing.{Either, passed, clash, got_same}
+use Rattle.mir.proofs.Passing.{either, passed, clash, got_same}
 use Rattle.mir.proofs.Decoding.{Bytes}
 use Rattle.sheet.specs.declared.setup.Mode.{Mode}
 use Rattle.sheet.specs.declared.setup.Setup.{Setup}
@@ -117,7 +117,7 @@ opening m =
   where
     below : (ps : List ℕ) (i : ℕ) → Bytes ps → get_or (take 64 ps) i 0 < 256
     below ps i h =
-        Either (ltb i 64)
+        either (ltb i 64)
         (λ t. subst (λ x. x < 256) (sym (get_or-take 64 ps i 0 (borrow.Author.Tests.ltb-true i 64 t))) (h i))
         (λ t. let k = ltb-false i 64 t in let n = lib.ListN.length-take 64 ps in
         subst (λ x. x < 256) (sym (lib.ListN.get_or-eq_default (take 64 ps) 0 {n = i} (omega (arith, n, k)))) (omega arith))
@@ -132,7 +132,7 @@ no-mark Mode.Minding a b c = refl
 pub round_trip : RoundTrip sheet_text
 unfolding sheet_text assembled assembled_from pieces
 round_trip s bytes r =
-    Either (eqb (setup s).number 0)
+    either (eqb (setup s).number 0)
     (λ t. whole (eqb-true (setup s).number 0 t) (sym (ap (λ t. cond t (of_setup s (setup s)).fault 8) t) ∙ r))
     (λ t. let w : 8 ≡ 0 = sym (ap (λ t. cond t (of_setup s (setup s)).fault 8) t) ∙ r in absurd (omega (arith, w)))
   where

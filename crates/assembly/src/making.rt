@@ -16,7 +16,7 @@ use sheet::reader::{LONGEST, NextInstruction, read_instruction};
 use words::put_bytes;
 
 // A sheet that is being made: its bytes, its constants, its instructions, how far it is, and why its last line is refused (0: it is not).
-#[derive(Drop)]
+#[derive(Clone, Copy)]
 pub(crate) struct Made {
     pub(crate) len: usize,
     pub(crate) count: usize,
@@ -255,7 +255,7 @@ fn text_start(t: &[u8]) -> usize
 }
 
 // A sheet that is made, its bytes; or the line that is refused, and why (0: none is).
-#[derive(Drop)]
+#[derive(Clone, Copy)]
 pub(crate) struct MakeAnswer {
     pub(crate) len: usize,
     pub(crate) line: u64,
@@ -298,7 +298,7 @@ fn make(out: &mut [u8], t: &[u8]) -> MakeAnswer
 }
 
 // What the program `assemble` writes: there is room for 144 bytes and 80 for each constant and each instruction.
-#[derive(Drop)]
+#[derive(Clone, Copy)]
 pub struct Written {
     pub bytes: [u8; 69184],
     pub len: usize,

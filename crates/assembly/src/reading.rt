@@ -53,7 +53,7 @@ pub(crate) fn run_end(s: &[u8], at: usize, k: u8) -> usize
 }
 
 // The number of a word in a row of words.
-#[derive(Drop)]
+#[derive(Clone, Copy)]
 pub enum Number {
     At(usize),
     None,
@@ -174,7 +174,7 @@ fn are_digits(w: &[u8]) -> bool
 }
 
 // A line's bytes with those of one word more, or none: it is no such word.
-#[derive(Drop)]
+#[derive(Clone, Copy)]
 pub struct WordTaken {
     pub ok: bool,
     pub line: Line,
@@ -338,7 +338,7 @@ fn put_rest(n: usize, l: &[u8], at: usize) -> WordTaken
 }
 
 // A line: whether it is one, the number of its first word, and its bytes.
-#[derive(Drop)]
+#[derive(Clone, Copy)]
 pub struct LineRead {
     pub ok: bool,
     pub head: usize,

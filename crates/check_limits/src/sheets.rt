@@ -4,7 +4,7 @@ ghost use Rattle.std.specs.Prelude.{◌≤◌};
 use words::put_bytes;
 
 // At most 3,200 bytes: what does not fit is left out.
-#[derive(Drop)]
+#[derive(Clone, Copy)]
 pub struct SheetBytes {
     pub bytes: [u8; 3200],
     pub len: usize,

@@ -1,4 +1,4 @@
-// compare_stores STORE OTHER [all]: says `same`, or names the first twenty words that differ, with the word of Either store, and how many more
+// compare_stores STORE OTHER [all]: says `same`, or names the first twenty words that differ, with the word of either store, and how many more
 // differ; with a third argument it names them all.
 ghost use Rattle.std.specs.Prelude.{◌+◌, ◌*◌, ◌≤◌, ◌≡◌, length};
 ghost use Rattle.text.specs.Puts.{Puts};

@@ -7,14 +7,14 @@ ghost use Rattle.complexifier.specs.Does.{recorded};
 use lowering::realness::Realness;
 use mir::records::Loc;
 
-#[derive(Drop)]
+#[derive(Clone, Copy)]
 pub struct Complexifier {
     pub real: Realness,
     pub root_defined: bool,
 }
 
 // The state after a method, and the position after what it listed.
-#[derive(Drop)]
+#[derive(Clone, Copy)]
 pub struct Listed {
     pub low: Complexifier,
     pub at: usize,

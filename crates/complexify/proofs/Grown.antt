@@ -7,7 +7,7 @@ use native.Mathlib.Omega.{arith}
 use borrow.Author.Tests.{lt-ltb, le-ltb, ltb-true, ltb-false}
 use lib.ListN.{length, length-append}
 use lib.Dec.{ltb}
-use Rattle.mir.proofs.Passing.{Either}
+use Rattle.mir.proofs.Passing.{either}
 use Rattle.lowering.specs.Complexifier.{position, stable_const, three_consts, MIN_POSITIVE, INFINITY, QUARTER, EXP_MASK_FINITE, FLOOR_FINITE}
 use Rattle.complexify.specs.Taken.{absent, space}
 use Rattle.rerun.proofs.Positions.{in-first, stays, grows, at-end}
@@ -23,13 +23,13 @@ module _ (v : ℕ) (t : List ℕ) where
 
   pub absent-le : absent v t ≤ 1
   absent-le =
-      Either (ltb (position v t) (length t))
+      either (ltb (position v t) (length t))
       (λ e. let z = present (ltb-true _ _ e) in omega (arith, z))
       (λ e. let z = missing (ltb-false _ _ e) in omega (arith, z))
 
 still : (u : ℕ) (t l : List ℕ) → absent u (t ++ l) ≤ absent u t
 still u t l =
-    Either (ltb (position u t) (length t))
+    either (ltb (position u t) (length t))
     (λ e.
     let h = ltb-true _ _ e in
     let n : length (t ++ l) ≡ length t + length l = simp length-append in
@@ -44,7 +44,7 @@ record Grown (v : ℕ) (t t' : List ℕ) : Type 0 where
 
 grown : (v : ℕ) (t : List ℕ) → Grown v t (stable_const v t)
 grown v t =
-    Either (ltb (position v t) (length t))
+    either (ltb (position v t) (length t))
     (λ e. subst (Grown v t) (sym (stays v t (ltb-true _ _ e))) (record { own = omega arith; others = λ u. omega arith }))
     (λ e.
     let h = ltb-false _ _ e in

@@ -10,7 +10,7 @@ use lib.ListN.{length, take, drop, replicate, length-append, length-take}
 use lib.Seq.{sets}
 use Rattle.mir.specs.declared.records.Instruction.{Instruction}
 use Rattle.mir.specs.Encode.{Buf, buf, encode_all}
-use Rattle.mir.proofs.Passing.{Either}
+use Rattle.mir.proofs.Passing.{either}
 use Rattle.mir.proofs.Decoding.{Here, Done}
 use Rattle.mir.specs.Read.{Read, got, refused, and_then}
 use Rattle.mir.specs.Field.{u16_at}
@@ -206,7 +206,7 @@ module _ (mode : Mode) (i : Instruction) {stage stage' listing constants : List 
   by-room : (next : ℕ) {listing' constants' : List ℕ} {q : Next} → Finished t bytes next listing constants p listing' constants' q
       → LoweredOne mode i next listing constants p listing' constants' q
   by-room next {listing'} {constants'} {q} f =
-      Either (full bytes listing p)
+      either (full bytes listing p)
       (λ z.
       subst (λ q. LoweredOne mode i next listing constants p listing' constants' q)
       (sym (f.stands ∙ ap (λ x. cond x (refusal 7 p) (finished t bytes next p)) z))

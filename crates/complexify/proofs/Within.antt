@@ -9,7 +9,7 @@ use lib.Dec.{eqb}
 use lib.ListN.{length, drop, length-append}
 use Rattle.mir.specs.declared.records.Instruction.{Instruction}
 use Rattle.mir.specs.Encode.{encode_all}
-use Rattle.mir.proofs.Passing.{Either}
+use Rattle.mir.proofs.Passing.{either}
 use Rattle.sheet.specs.declared.setup.Mode.{Mode}
 use Rattle.sheet.specs.Setup.{setup, constants_of}
 use Rattle.sheet.specs.Instruction.{instructions}
@@ -68,11 +68,11 @@ refused sheet listing constants origins w = record { written = simp w (omega ari
 
 answered : (sheet listing constants origins : List ℕ) → Within listing (answer sheet listing constants origins)
 answered sheet listing constants origins =
-    Either (eqb (setup sheet).number 0)
+    either (eqb (setup sheet).number 0)
     (λ e.
     let h = held_sheet sheet (length listing) (eqb-true _ _ e) in
     let k = h.words in
-    Either (wrong_setup sheet listing constants origins) (refused sheet listing constants origins)
+    either (wrong_setup sheet listing constants origins) (refused sheet listing constants origins)
     (λ w. record { written = simp w h.bytes; count = simp w (omega (arith, k)) }))
     (λ e. refused sheet listing constants origins (simp e))
 

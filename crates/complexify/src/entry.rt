@@ -21,7 +21,7 @@ pub const FROM_SHEET: u16 = 65535;
 
 // The number (0: accepted), an instruction's index, the bytes written, the count of constants, and the final record of realness: registers
 // and places, and which of a listing's registers are filled. Then which of them are drawn on before being filled.
-#[derive(Drop)]
+#[derive(Clone, Copy)]
 pub struct LowerAnswer {
     pub number: u8,
     pub index: usize,

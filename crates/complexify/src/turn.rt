@@ -15,7 +15,7 @@ use sheet::setup::{Mode, is_stable};
 
 // Where lowering stands: before the instruction at a position of the sheet, with this index, after so many bytes of the listing and so
 // many constants.
-#[derive(Drop)]
+#[derive(Clone, Copy)]
 pub struct Cursor {
     pub at: usize,
     pub index: usize,
@@ -25,7 +25,7 @@ pub struct Cursor {
 }
 
 // Where it stands next; done: the number refuses the instruction.
-#[derive(Drop)]
+#[derive(Clone, Copy)]
 pub struct Next {
     pub done: bool,
     pub number: u8,
@@ -34,7 +34,7 @@ pub struct Next {
 
 // Where it ends: the number (0: at the sheet's end), the index of the instruction there, the bytes and the constants before it, and the
 // realness held there.
-#[derive(Drop)]
+#[derive(Clone, Copy)]
 pub struct Stop {
     pub number: u8,
     pub index: usize,

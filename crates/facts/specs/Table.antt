@@ -397,7 +397,7 @@ table =
       filled = [];
       drawn = [];
     })
-    -- ---- document 02, n: mode 2. "Half lists its imaginary line only for a register recorded as complex, and for Either record copies it":
+    -- ---- document 02, n: mode 2. "Half lists its imaginary line only for a register recorded as complex, and for either record copies it":
     -- Half of real 0 into complex 1 is Half G6 G4, and 1 is then real; 0 is real by LoadConst general 0, constant 0
     ∷ lowered
     (record {
@@ -762,7 +762,7 @@ table =
     -- -2.5 goes to -2, and -0.5 to -0
     ∷ gives (uni UniOp.Trunc) (0xc004_0000_0000_0000 ∷ []) (0xc000_0000_0000_0000 ∷ [])
     ∷ gives (uni UniOp.Trunc) (0xbfe0_0000_0000_0000 ∷ []) (0x8000_0000_0000_0000 ∷ [])
-    -- "IsZero, where a listing holds it, gives all ones for Either zero, else zero": of 2 ^ -1074 and of a NaN zero
+    -- "IsZero, where a listing holds it, gives all ones for either zero, else zero": of 2 ^ -1074 and of a NaN zero
     ∷ gives (uni UniOp.IsZero) (0x0000_0000_0000_0000 ∷ []) (ones ∷ [])
     ∷ gives (uni UniOp.IsZero) (0x8000_0000_0000_0000 ∷ []) (ones ∷ [])
     ∷ gives (uni UniOp.IsZero) (0x0000_0000_0000_0001 ∷ []) (0 ∷ [])

@@ -13,7 +13,7 @@ use Rattle.mir.specs.declared.records.Instruction.{Instruction}
 use Rattle.mir.specs.declared.records.Record.{Record}
 use Rattle.mir.specs.Encode.{buf, encode_all}
 use Rattle.mir.specs.Decode.{decoded}
-use Rattle.mir.proofs.Passing.{Either}
+use Rattle.mir.proofs.Passing.{either}
 use Rattle.mir.proofs.Decoding.{Here}
 use Rattle.sheet.specs.declared.reader.NextInstruction.{NextInstruction}
 use Rattle.sheet.specs.Instruction.{instruction_from, instruction_at, as_next}
@@ -184,7 +184,7 @@ module _ (mode : Mode) (i : Instruction) {g g' k : List ℕ} {p : CountCursor} {
 
   by-room : (next : ℕ) {k' : List ℕ} {q : CountNext} → p.index < 65536 → CountEnded t (role i) records next k p k' q → CountedOne mode i next k p k' q
   by-room next {k'} {q} x f =
-      Either (full p (role i) records)
+      either (full p (role i) records)
       (λ z.
       subst (λ q. CountedOne mode i next k p k' q) (sym (f.stands ∙ ap (λ x. cond x (refusing 7 p) (finished t (counted p.taken (role i) records) next p)) z))
       (subst (λ l. CountedOne mode i next k p l (refusing 7 p)) (sym (f.added ∙ ap (λ x. cond x k (sets k p.constants words)) z)) (turn-full next z)))

@@ -13,7 +13,7 @@ const LABEL: u8 = 14;
 const CALL: u8 = 16;
 
 // What the instructions so far take: bytes, records, Calls, and the records of the block (0: none stands yet); how many of them branch.
-#[derive(Drop)]
+#[derive(Clone, Copy)]
 pub struct Count {
     pub bytes: usize,
     pub records: usize,
@@ -23,7 +23,7 @@ pub struct Count {
 }
 
 // Where a record stands to the block: before its Label 1, directly behind the Label or its working records, or further on.
-#[derive(Drop)]
+#[derive(Clone, Copy)]
 pub enum BlockPart {
     Before,
     Inside,
@@ -31,7 +31,7 @@ pub enum BlockPart {
 }
 
 // How many records of the block a record adds, and where the next one stands.
-#[derive(Drop)]
+#[derive(Clone, Copy)]
 pub struct BlockStep {
     pub adds: usize,
     pub next: BlockPart,

@@ -17,7 +17,7 @@ use sheet::setup::{Mode, read_setup};
 
 // The number (0: lowering would accept) and index of lowering with 65,536 bytes; the listing's bytes, the count of constants and the
 // records that a play from record 0 would run, or, of a sheet that branches, the most that one could.
-#[derive(Drop)]
+#[derive(Clone, Copy)]
 pub struct Figures {
     pub number: u8,
     pub index: usize,

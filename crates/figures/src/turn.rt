@@ -15,7 +15,7 @@ use words::put_words;
 
 // Where the count stands: before the instruction at a position of the sheet, with this index, after so many constants, and what the
 // instructions before it take.
-#[derive(Drop)]
+#[derive(Clone, Copy)]
 pub struct CountCursor {
     pub at: usize,
     pub index: usize,
@@ -25,7 +25,7 @@ pub struct CountCursor {
 }
 
 // Where it stands next; done: the number refuses the instruction.
-#[derive(Drop)]
+#[derive(Clone, Copy)]
 pub struct CountNext {
     pub done: bool,
     pub number: u8,

@@ -36,7 +36,7 @@ pub fn sheet_fits(n: usize) -> bool
 }
 
 // Whether a file was read to its end, or as far as there was room, and how many bytes came.
-#[derive(Drop)]
+#[derive(Clone, Copy)]
 pub struct Got {
     pub ok: bool,
     pub len: usize,

@@ -3,7 +3,7 @@ ghost use Rattle.std.specs.Prelude.{◌≡◌, false};
 ghost use Rattle.files.specs.Start.{start_of};
 
 // Whether the text is a number, and that number.
-#[derive(Drop)]
+#[derive(Clone, Copy)]
 pub struct Start {
     pub ok: bool,
     pub number: u64,

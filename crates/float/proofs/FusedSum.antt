@@ -60,7 +60,7 @@ module _ (s t : Bool) (a b c a' b' c' : ℕ) (C : 0 < c) (C' : 0 < c') (A : a * 
           ∙ round_same binary64 false 0 c 0 c' C C' (native.Mathlib.Nat.zero-mul c' ∙ sym (native.Mathlib.Nat.zero-mul c))
           ∙ sym (sum-none s t a' b' c' e (eq_of_mul-eq-mul_right c C a' b' (sym A ∙ ap (λ (x : ℕ). x * c') h ∙ B)))
 
--- ---- Either order
+-- ---- either order
 beq_swap : (s t x : Bool) → beq s t ≡ x → beq t s ≡ x
 beq_swap true true x e = e
 beq_swap true false x e = e

@@ -116,30 +116,30 @@ above_number (fin s m e) (inf t) p = refl
 above_number (fin s m e) (fin t n d) p = refl
 
 pub below_trans : (x y z : Float) → lt x y ≡ true → lt y z ≡ true → lt x z ≡ true
-below_trans x y z p q = Either (lt x z) refl
+below_trans x y z p q = either (lt x z) refl
   where
-    Either : (t : Bool) → lt x z ≡ t → lt x z ≡ true
-    Either true e = e
-    Either false e = absurd (true≢false (sym p ∙ not_below_through x z y (above_number y z q) e (not-above y z q)))
+    either : (t : Bool) → lt x z ≡ t → lt x z ≡ true
+    either true e = e
+    either false e = absurd (true≢false (sym p ∙ not_below_through x z y (above_number y z q) e (not-above y z q)))
 
 -- no value is below itself, and a NaN is not below any, nor is any below it
 pub not_below_self : (x : Float) → lt x x ≡ false
-not_below_self x = Either (lt x x) refl
+not_below_self x = either (lt x x) refl
   where
-    Either : (t : Bool) → lt x x ≡ t → lt x x ≡ false
-    Either true e = not-above x x e
-    Either false e = e
+    either : (t : Bool) → lt x x ≡ t → lt x x ≡ false
+    either true e = not-above x x e
+    either false e = e
 
 pub nan_not_below : (x y : Float) → is_nan x ≡ true → lt x y ≡ false
-nan_not_below x y n = Either (lt x y) refl
+nan_not_below x y n = either (lt x y) refl
   where
-    Either : (t : Bool) → lt x y ≡ t → lt x y ≡ false
-    Either true e = absurd (true≢false (sym n ∙ below_number x y e))
-    Either false e = e
+    either : (t : Bool) → lt x y ≡ t → lt x y ≡ false
+    either true e = absurd (true≢false (sym n ∙ below_number x y e))
+    either false e = e
 
 pub not_below_nan : (x y : Float) → is_nan y ≡ true → lt x y ≡ false
-not_below_nan x y n = Either (lt x y) refl
+not_below_nan x y n = either (lt x y) refl
   where
-    Either : (t : Bool) → lt x y ≡ t → lt x y ≡ false
-    Either true e = absurd (true≢false (sym n ∙ above_number x y e))
-    Either false e = e
+    either : (t : Bool) → lt x y ≡ t → lt x y ≡ false
+    either true e = absurd (true≢false (sym n ∙ above_number x y e))
+    either false e = e

@@ -116,7 +116,7 @@ equal a b = flag (eq (value a) (value b))
 abbrev pub not_equal : ℕ → ℕ → ℕ
 not_equal a b = flag (ne (value a) (value b))
 
--- document 02, a): "IsZero gives all ones for Either zero, else zero": 0 is the word of +0, and of a NaN Equal is false
+-- document 02, a): "IsZero gives all ones for either zero, else zero": 0 is the word of +0, and of a NaN Equal is false
 abbrev pub is_zero : ℕ → ℕ
 is_zero a = equal a 0
 

@@ -14,7 +14,7 @@ use super::parts::unpack;
 use super::{INFINITY, QUIET, abs};
 
 // The directions of IEEE 754: 4.3.1 roundTiesToEven; 4.3.2 roundTowardNegative, roundTowardPositive and roundTowardZero.
-#[derive(Drop)]
+#[derive(Clone, Copy)]
 pub(crate) enum Direction {
     TiesToEven,
     TowardNegative,

@@ -28,7 +28,7 @@ const SIGN: u64 = 0x8000_0000_0000_0000;
 const MAGNITUDE: u64 = 0x7fff_ffff_ffff_ffff;
 
 // A complex number: its real and its imaginary word.
-#[derive(Drop)]
+#[derive(Clone, Copy)]
 pub struct Pair {
     pub re: u64,
     pub im: u64,
@@ -158,7 +158,7 @@ pub fn not_equal(a: u64, b: u64) -> u64
     flag(read(a) != read(b))
 }
 
-// Whether a is Either zero.
+// Whether a is either zero.
 pub fn is_zero(a: u64) -> u64
     ensures { result ≡ Word.is_zero a }
 {

@@ -3,7 +3,7 @@ ghost use Rattle.std.specs.Prelude.{◌+◌, ◌-◌, ◌*◌, ◌%◌, ◌^◌,
 ghost use Rattle.float.specs.Unpacked.{Unpacked};
 
 // m * 2^e, negative where neg is set.
-#[derive(Drop)]
+#[derive(Clone, Copy)]
 pub(crate) struct Parts {
     pub(crate) neg: bool,
     pub(crate) m: u64,

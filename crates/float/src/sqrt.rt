@@ -8,14 +8,14 @@ use super::exponent::{odd_digit, root_field};
 use super::parts::unpack;
 
 // An estimate of a root, and how many mends it has had.
-#[derive(Drop)]
+#[derive(Clone, Copy)]
 pub(crate) struct Mended {
     pub(crate) value: u64,
     pub(crate) mends: u32,
 }
 
 // An estimate q of the root of n, by its square: q * q + under is n + over.
-#[derive(Drop)]
+#[derive(Clone, Copy)]
 pub(crate) struct Squared {
     pub(crate) q: u64,
     pub(crate) under: u64,
@@ -24,7 +24,7 @@ pub(crate) struct Squared {
 }
 
 // The whole part q of the root of q * q + r, where r <= 2 * q.
-#[derive(Drop)]
+#[derive(Clone, Copy)]
 pub(crate) struct Rooted {
     pub(crate) q: u64,
     pub(crate) r: u64,

@@ -10,7 +10,7 @@ use super::exponent::sum;
 use super::pack::{low_digits, pack, pow2};
 
 // hi * 2^64 + lo.
-#[derive(Drop)]
+#[derive(Clone, Copy)]
 pub(crate) struct Wide {
     pub(crate) hi: u64,
     pub(crate) lo: u64,

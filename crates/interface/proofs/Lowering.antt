@@ -9,7 +9,7 @@ use lib.ListN.{length, take, drop, get_or, set, length-take, length-append, leng
 use lib.Seq.{sets, drop-cons}
 use borrow.Author.Tests.{eq-eqb, ne_eqb}
 use Rattle.mir.specs.Encode.{flag_byte}
-use Rattle.mir.proofs.Passing.{Either}
+use Rattle.mir.proofs.Passing.{either}
 use Rattle.lowering.specs.RecordBytes.{record_bytes}
 use Rattle.lowering.specs.Lower.{lower_sheet}
 use Rattle.lowering.specs.Origins.{origins_of}
@@ -136,7 +136,7 @@ module _ (sheet listing constants zeros : List ℕ) (e : length constants ≡ 20
       ∙ stored_fits constants 0 (bytes_of (take a.count k)) (room a k (within sheet listing zeros unnamed p).count)
       ∙ ap (λ x. sets constants 0 (bytes_of (take x.count k))) p
       ∙ ap (λ k. sets constants 0 (bytes_of (take (Lower.answer sheet listing zeros unnamed).count k))) t
-      ∙ Either (Lower.wrong_setup sheet listing zeros unnamed)
+      ∙ either (Lower.wrong_setup sheet listing zeros unnamed)
       (λ w. simp (w, sym same-setup ∙ w) (sym words_back))
       (λ w.
       let consts = (lower_sheet sheet (length listing)).state.consts in

@@ -16,16 +16,16 @@ use Rattle.words.proofs.Lengths.{length-bytes_of, length-words_of}
 use Rattle.words.proofs.Stored.{stored_whole}
 use Rattle.interface.specs.Calls.{given, play_call}
 
-Either : (b : Bool) (σ : Store)
+either : (b : Bool) (σ : Store)
     → record { number = 8; index = 0; played = 0; store = σ } ≡ refuse b 8 0 σ (record { number = 8; index = 0; played = 0; store = σ })
-Either true σ = refl
-Either false σ = refl
+either true σ = refl
+either false σ = refl
 
 pub too_many : (listing constants : List ℕ) (start : ℕ) (σ : Store) → 256 < length constants / 8
     → record { number = 8; index = 0; played = 0; store = σ } ≡ answer listing (words_of constants) start σ
 unfolding answer
 too_many listing constants start σ h =
-    simp (length-words_of constants, lt-ltb 256 (length constants / 8) h) (Either (ltb 65536 (length listing)) σ)
+    simp (length-words_of constants, lt-ltb 256 (length constants / 8) h) (either (ltb 65536 (length listing)) σ)
 
 module _ (listing constants store : List ℕ) (start : ℕ) (lent : List ℕ) (whole-answer : length lent ≡ 24) where
   -- constants or a store of another length

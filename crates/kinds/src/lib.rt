@@ -1,5 +1,5 @@
 // The kinds that sheets and listings share, read from the bytes that begin with the record, as a sheet's instruction over the registers of
-// Either. `listing` tells a listing from a sheet; the operation is found by the caller.
+// either. `listing` tells a listing from a sheet; the operation is found by the caller.
 ghost use Rattle.std.specs.Prelude.{◌≡◌};
 ghost use Rattle.mir.specs.Kinds.{last_register, mov_from, load_from, save_from, load_const_from, if_else_from};
 ghost use Rattle.mir.specs.Operation.{as_uni, as_bin, as_fused};
@@ -11,7 +11,7 @@ use mir::ops::{FoundBin, FoundFused, FoundUni};
 use mir::records::Instruction;
 
 // An instruction, or the number that refuses it.
-#[derive(Drop)]
+#[derive(Clone, Copy)]
 pub enum ReadInstruction {
     Got(Instruction),
     Refused(u8),

@@ -124,14 +124,14 @@ view (Instruction.Label l) = label-one l
 view (Instruction.Branch l) = branch_one l
 view (Instruction.BranchIf r l e) = branch-if-one r l e
 
-abbrev pub Either : Bool → Type 0 → Type 0 → Type 0
-Either true A B = A
-Either false A B = B
+abbrev pub either : Bool → Type 0 → Type 0 → Type 0
+either true A B = A
+either false A B = B
 
 -- behind an instruction of a role, or at it where it is Label l
 abbrev pub MeetsBy : Role → ℕ → Realness → Realness → Type 0 → Type 0
 MeetsBy Labels.works l ρ ρ' on = on
-MeetsBy (Labels.labels n) l ρ ρ' on = Either (eqb n l) (ρ ≡ ρ') on
+MeetsBy (Labels.labels n) l ρ ρ' on = either (eqb n l) (ρ ≡ ρ') on
 MeetsBy (Labels.branches n) l ρ ρ' on = on
 
 -- of a branch
@@ -195,7 +195,7 @@ module _ (k : List ℕ) (B : List Work) (m : Mode) where
     pub count : (moves κ).n way σ ≡ (moves κ).n way τ
     pub ready : Ready ((moves κ).W way σ) is (rerun m i s).after ((moves κ).F way σ) ((moves κ).F way τ)
 
-  at_label : (q : Bool) (l : ℕ) (is : List Instruction) (s : State) (σ τ : Store) (ρ : Realness) → Either q (ρ ≡ s.real) (Meets l ρ is s)
+  at_label : (q : Bool) (l : ℕ) (is : List Instruction) (s : State) (σ τ : Store) (ρ : Realness) → either q (ρ ≡ s.real) (Meets l ρ is s)
       → Agree (Kept ρ) σ τ → Ready (cond q going (seeking l)) is s σ τ
   at_label true l is s σ τ ρ e g = subst (λ ρ. Agree (Kept ρ) σ τ) e g
   at_label false l is s σ τ ρ e g = (ρ, e, g)

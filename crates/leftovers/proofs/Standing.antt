@@ -27,7 +27,7 @@ use Rattle.lowering.proofs.Ahead.{label_in}
 use Rattle.lowering.proofs.Same.{same-records}
 use Rattle.leftovers.proofs.Ahead.{Reads, next, stands, later_stands}
 use Rattle.leftovers.proofs.Accepting.{Accepts}
-use Rattle.leftovers.proofs.Branches.{Either, MeetsBy, SendsBy, Meets, Sound, AllTame, works_tame, tame_without, works_role, View, working-one, label-one, branch_one, branch-if-one, view}
+use Rattle.leftovers.proofs.Branches.{either, MeetsBy, SendsBy, Meets, Sound, AllTame, works_tame, tame_without, works_role, View, working-one, label-one, branch_one, branch-if-one, view}
 use Rattle.leftovers.proofs.Sought.{Without}
 use Rattle.leftovers.proofs.Jumping.{Fair}
 use Rattle.leftovers.proofs.Instructions.{Works}
@@ -71,7 +71,7 @@ module _ (k : List ℕ) (B : List Work) (m : Mode) where
       go (Labels.branches n) l u f = f l
       go (Labels.labels n) l u f = at (eqb n x.label) refl l
         where
-          at : (q : Bool) → eqb n x.label ≡ q → (q || stands x.label is) ≡ true → Either q (x.real ≡ s.real) on
+          at : (q : Bool) → eqb n x.label ≡ q → (q || stands x.label is) ≡ true → either q (x.real ≡ s.real) on
           at true t l = equal_at n s.real x b.branches (sym (eqb-true n x.label t)) u a
           at false t l = f l
 

@@ -1,4 +1,4 @@
--- Every word of a store is Either kept or a leftover, and none is both.
+-- Every word of a store is either kept or a leftover, and none is both.
 use mathlib.Core.Path.{◌≡◌, refl, sym, ap, ◌∙◌}
 use mathlib.Core.Bool.{Bool, true, false, true≢false}
 use mathlib.Core.Logic.{◌≢◌, ◌⊎◌, inl, inr}

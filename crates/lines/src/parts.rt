@@ -4,7 +4,7 @@ ghost use Rattle.lines.specs.Parts.{part_of};
 
 use mir::registers::{im, re};
 
-#[derive(Drop)]
+#[derive(Clone, Copy)]
 pub enum Part {
     Re(u8),
     Im(u8),

@@ -18,9 +18,9 @@ use Rattle.look.specs.Numbers.{told}
 use Rattle.look.specs.Call.{numbers, given, wrong_setup, look_call}
 
 -- over 256 constants are refused by 8, whichever test is first
-Either : (b : Bool) → refuse_by b 8 0 (record { number = 8; index = 0 }) ≡ record { number = 8; index = 0 }
-Either true = refl
-Either false = refl
+either : (b : Bool) → refuse_by b 8 0 (record { number = 8; index = 0 }) ≡ record { number = 8; index = 0 }
+either true = refl
+either false = refl
 
 pub too_many : (listing constants : List ℕ) (σ : Store) (i : ℕ) {r : LookAnswer} → 256 < length constants / 8 → r ≡ wrong_setup
     → r ≡ told (look listing (words_of constants) σ i)
@@ -29,7 +29,7 @@ too_many listing constants σ i h e =
     let ws = words_of constants in
     let rs = (records (length ws) listing).items in
     let many : refusal listing (length ws) i (length σ) ≡ record { number = 8; index = 0 } =
-    simp (length-words_of constants, lt-ltb 256 (length constants / 8) h) (Either (ltb 65536 (length listing))) in
+    simp (length-words_of constants, lt-ltb 256 (length constants / 8) h) (either (ltb 65536 (length listing))) in
     e ∙ sym (ap (λ (r : Refusal). told (look_by r (look_at ws rs i σ (get_elem? rs i)))) many)
 
 module _ (listing constants store : List ℕ) (i : ℕ) (lent : List ℕ) (whole-answer : length lent ≡ 64) where

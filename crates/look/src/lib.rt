@@ -13,7 +13,7 @@ use show::show;
 
 // What looking gives back: the player's number and index, the record that follows, how many words, and index and bits of each, 0 where
 // there is none.
-#[derive(Drop)]
+#[derive(Clone, Copy)]
 pub struct LookAnswer {
     pub number: u8,
     pub index: usize,

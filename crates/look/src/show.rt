@@ -9,14 +9,14 @@ use player_work::words::{get, place};
 use words::put_words;
 
 // The first and the last word that a record fills; one word is both.
-#[derive(Drop)]
+#[derive(Clone, Copy)]
 pub struct Filled {
     pub first: usize,
     pub last: usize,
 }
 
 // How many words are shown, and index and bits of each, 0 where there is none.
-#[derive(Drop)]
+#[derive(Clone, Copy)]
 pub struct Shown {
     pub count: usize,
     pub index1: usize,

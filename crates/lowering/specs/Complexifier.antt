@@ -166,7 +166,7 @@ fmov d a s = one_by_one fmov_lines copied d a s
 
 -- ---- mode 2 (document 02, n): what it lists and records otherwise than mode 1; the Rust has no such mode
 
--- "Half lists its imaginary line only for a register recorded as complex, and for Either record copies it to the destination"
+-- "Half lists its imaginary line only for a register recorded as complex, and for either record copies it to the destination"
 unfoldable pub minding_half : ℕ → ℕ → State → Out
 unfolding one_by_one minding_half_lines
 minding_half d a s = one_by_one minding_half_lines copied d a s

@@ -20,7 +20,7 @@ use Rattle.lowering.specs.Complexifier.{State}
 use Rattle.lowering.specs.Rerun.{rerun, complexify}
 use Rattle.lowering.specs.Labels.{role, Standing, none_standing, misplaced, unequal, passed}
 
--- 6, "barred operand: where the Rust asserts": "in stable mode, Divide by a complex register with Either operand Ret or Temp"
+-- 6, "barred operand: where the Rust asserts": "in stable mode, Divide by a complex register with either operand Ret or Temp"
 abbrev pub is_general : ℕ → Bool
 is_general r = ltb r 30
 

@@ -4,7 +4,7 @@ ghost use Rattle.lowering.specs.Realness as Spec;
 
 use mir::records::Loc;
 
-#[derive(Drop)]
+#[derive(Clone, Copy)]
 pub struct Realness {
     // By sheet register: recorded as real.
     pub regs: [bool; 32],

@@ -13,7 +13,7 @@ use pass::pass;
 use work::straight;
 
 // A mark for each of a listing's 66 registers: filled after its records, and drawn on by them before being filled.
-#[derive(Drop)]
+#[derive(Clone, Copy)]
 pub struct Marks {
     pub filled: [bool; 66],
     pub drawn: [bool; 66],

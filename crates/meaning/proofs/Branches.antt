@@ -24,7 +24,7 @@ use Rattle.leftovers.proofs.Sought.{some_inj}
 use Rattle.leftovers.proofs.Moves.{OwnWay, working, labelled, branched, decided}
 use Rattle.leftovers.proofs.Instructions.{AllIn, Works}
 use Rattle.leftovers.proofs.Listing.{grows, stays}
-use Rattle.leftovers.proofs.Branches.{Kind, works, label, branch, branch_if, moves, Kinds, Meets, MeetsBy, Either, Sound, stands_at, stands-suc, works_role}
+use Rattle.leftovers.proofs.Branches.{Kind, works, label, branch, branch_if, moves, Kinds, Meets, MeetsBy, either, Sound, stands_at, stands-suc, works_role}
 use Rattle.meaning.specs.Value.{R, re_of}
 use Rattle.meaning.specs.Means as Means
 use Rattle.meaning.specs.Means.{Values, means, goes, is_label_by, walked, stands}
@@ -92,7 +92,7 @@ module _ (k : List ℕ) (B : List Work) (m : Mode) (κ : List ℕ) (front : Begi
     pub way' : (moves k B m q).W way σ ≡ way_on way i X
     pub ready : ReadyOn (way_on way i X) is (rerun m i s).after (values_on lost way i X) ((moves k B m q).F way σ)
 
-  at_label : (q : Bool) (l : ℕ) (is : List Instruction) (s : State) (X : Values) (σ : Store) (ρ : Realness) → Either q (ρ ≡ s.real) (Meets k B m l ρ is s)
+  at_label : (q : Bool) (l : ℕ) (is : List Instruction) (s : State) (X : Values) (σ : Store) (ρ : Realness) → either q (ρ ≡ s.real) (Meets k B m l ρ is s)
       → Ready X ρ σ → ReadyOn (cond q going (seeking l)) is s X σ
   at_label true l is s X σ ρ e g = subst (λ ρ. Ready X ρ σ) e g
   at_label false l is s X σ ρ e g = (ρ, e, g)
@@ -180,7 +180,7 @@ module _ (k : List ℕ) (B : List Work) (m : Mode) (κ : List ℕ) (front : Begi
       absurd (none≢some (ap (λ q. cond q (some X) none) (sym (works_label i l z)) ∙ e))
   at_first {s} (label n) is (seeking l) h X σ Y g e = go (eqb n l) refl e g.1
     where
-      go : (q : Bool) → eqb n l ≡ q → cond q (some X) none ≡ some Y → Either q (g.0 ≡ s.real) (Meets k B m l g.0 is s)
+      go : (q : Bool) → eqb n l ≡ q → cond q (some X) none ≡ some Y → either q (g.0 ≡ s.real) (Meets k B m l g.0 is s)
           → Holding (seeking l) (Instruction.Label n ∷ is) s σ 0 Y
       go true f e r =
           record {

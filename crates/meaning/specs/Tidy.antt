@@ -20,7 +20,7 @@ use Rattle.entries.specs.Entries.{left}
 use Rattle.meaning.specs.Means.{Values, stands_by_rows}
 use Rattle.meaning.specs.Preserved.{values_of, Holds, StandsWith}
 
--- ---- What a tidy sheet does not do, by numbers. ρ is the realness before the instruction; a sheet may Either have Roots (`roots`) or
+-- ---- What a tidy sheet does not do, by numbers. ρ is the realness before the instruction; a sheet may either have Roots (`roots`) or
 -- name Stack 2.
 
 -- 1: one of these registers is Ret or Temp

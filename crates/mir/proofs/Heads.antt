@@ -10,14 +10,14 @@ use borrow.Author.Tests.{ltb-true, ltb-false, eqb-true, not-false}
 use Rattle.mir.specs.Length.{lengths, length_of}
 use Rattle.mir.specs.Read.{got}
 use Rattle.mir.specs.Field.{u16_at, head_from}
-use Rattle.mir.proofs.Passing.{Either, passed}
+use Rattle.mir.proofs.Passing.{either, passed}
 use Rattle.mir.proofs.Puts.{longest}
 
 -- a record has at most 11 bytes
 pub at_most : (kind : ℕ) → length_of kind ≤ 11
 unfolding length_of lengths
 at_most kind =
-    Either (ltb kind 18)
+    either (ltb kind 18)
     (λ t. longest kind (ltb-true kind 18 t))
     (λ f. let h = ltb-false kind 18 f in let e = get_or-eq_default lengths 0 {n = kind} h in omega arith)
 

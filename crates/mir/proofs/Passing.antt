@@ -33,9 +33,9 @@ stopped f (got a) n e = absurd (clash n (f a) (sym e))
 stopped f (refused k) n e = cc
 
 -- by the answer of a test
-pub Either : {P : Type 0} (b : Bool) → (b ≡ true → P) → (b ≡ false → P) → P
-Either true f g = f refl
-Either false f g = g refl
+pub either : {P : Type 0} (b : Bool) → (b ≡ true → P) → (b ≡ false → P) → P
+either true f g = f refl
+either false f g = g refl
 
 -- of two tests neither of which holds
 pub or_left : (a b : Bool) → (a || b) ≡ false → a ≡ false

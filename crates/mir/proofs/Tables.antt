@@ -9,7 +9,7 @@ use lib.Dec.{T, eqb}
 use lib.ListN.{length, get_or}
 use Rattle.mir.specs.Read.{got, refused, refuse}
 use Rattle.mir.specs.Operation.{taken}
-use Rattle.mir.proofs.Passing.{Either}
+use Rattle.mir.proofs.Passing.{either}
 
 pub and_left : (a b : Bool) → T (a && b) → T a
 and_left true b t = tt
@@ -41,8 +41,8 @@ flag true = 1
 flag false = 0
 
 flagged : (b : Bool) (f : Bool → Bool) → eqb (cond b (flag (f true)) (flag (f false))) 1 ≡ f b
-flagged true f = Either (f true) (λ e. simp e) (λ e. simp e)
-flagged false f = Either (f false) (λ e. simp e) (λ e. simp e)
+flagged true f = either (f true) (λ e. simp e) (λ e. simp e)
+flagged false f = either (f false) (λ e. simp e) (λ e. simp e)
 
 pub taken_at : {A : Type 0} (takes : Bool → A → Bool) (ops : List A) (n : ℕ) (d : A) (b t : Bool) → n < length ops
     → t ≡ eqb (cond b (get_or (map (λ op. flag (takes true op)) ops) n 0) (get_or (map (λ op. flag (takes false op)) ops) n 0)) 1

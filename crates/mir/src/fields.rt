@@ -65,7 +65,7 @@ pub fn takes_kind(in_listing: bool, kind: u16) -> bool
 }
 
 // A record's kind, or the number that refuses the record.
-#[derive(Drop)]
+#[derive(Clone, Copy)]
 pub enum Head {
     Kind(u16),
     Refused(u8),
@@ -95,7 +95,7 @@ pub fn read_head(s: &[u8], in_listing: bool) -> Head
     Head::Refused(2)
 }
 
-#[derive(Drop)]
+#[derive(Clone, Copy)]
 pub enum Place {
     At(Loc),
     Bad,

@@ -4,7 +4,7 @@ ghost use Rattle.std.specs.Prelude.{◌≡◌, cond, eqb};
 ghost use Rattle.mir.specs.Operation.{uni_number, bin_number, arith_number, fused_number, uni_ops, bin_ops, arith_ops, fused_ops, taken, as_uni, as_bin, as_arith, as_fused};
 ghost use Rattle.mir.specs.Takes.{takes_uni, takes_bin, takes_arith, takes_fused};
 
-#[derive(Drop)]
+#[derive(Clone, Copy)]
 pub enum UniOp {
     Neg,
     Not,
@@ -28,7 +28,7 @@ pub enum UniOp {
     TimesNegI,
 }
 
-#[derive(Drop)]
+#[derive(Clone, Copy)]
 pub enum BinOp {
     Plus,
     Minus,
@@ -47,7 +47,7 @@ pub enum BinOp {
     Complex,
 }
 
-#[derive(Drop)]
+#[derive(Clone, Copy)]
 pub enum ArithOp {
     Plus,
     Minus,
@@ -55,7 +55,7 @@ pub enum ArithOp {
     Divide,
 }
 
-#[derive(Drop)]
+#[derive(Clone, Copy)]
 pub enum FusedOp {
     MulAdd,
     MulSub,
@@ -64,28 +64,28 @@ pub enum FusedOp {
 }
 
 // What a number names.
-#[derive(Drop)]
+#[derive(Clone, Copy)]
 pub enum FoundUni {
     Op(UniOp),
     Nothing,
 }
 
 // What a number names.
-#[derive(Drop)]
+#[derive(Clone, Copy)]
 pub enum FoundBin {
     Op(BinOp),
     Nothing,
 }
 
 // What a number names.
-#[derive(Drop)]
+#[derive(Clone, Copy)]
 pub enum FoundArith {
     Op(ArithOp),
     Nothing,
 }
 
 // What a number names.
-#[derive(Drop)]
+#[derive(Clone, Copy)]
 pub enum FoundFused {
     Op(FusedOp),
     Nothing,

@@ -5,7 +5,7 @@ ghost use Rattle.mir.specs.Place.{class, index};
 use super::ops::{ArithOp, BinOp, FusedOp, UniOp};
 
 // A place of the store, by class and index.
-#[derive(Drop)]
+#[derive(Clone, Copy)]
 pub enum Loc {
     Stack(u16),
     Mem(u16),
@@ -35,7 +35,7 @@ pub fn loc_index(loc: Loc) -> u16
 }
 
 // What a sheet holds: kinds 0 to 10, 14, 15 and 17, over a sheet's registers.
-#[derive(Drop)]
+#[derive(Clone, Copy)]
 pub enum Instruction {
     Nop,
     Uni {
@@ -100,7 +100,7 @@ pub enum Instruction {
 }
 
 // A record that works on words: kinds 1 to 8 and 11 to 13, over a listing's registers.
-#[derive(Drop)]
+#[derive(Clone, Copy)]
 pub enum Work {
     Uni {
         op: UniOp,
@@ -164,7 +164,7 @@ pub enum Work {
 }
 
 // What a listing holds: a record works on words or directs the play.
-#[derive(Drop)]
+#[derive(Clone, Copy)]
 pub enum Record {
     Work(Work),
     Label(u8),

@@ -132,19 +132,19 @@ module _ (index i : ℕ) (least x : Float) (k : T (fits binary64 least)) (h : T 
       ∙ ap (λ n. better not_farther (cond n none (some old)) new) (sym e)
 
   -- one before
-  Either : (n l : Bool) → is_nan x ≡ n → le x least ≡ l → cond l (held i x) (some old) ≡ cond n (some old) (cond l (some new) (some old))
-  Either n true en el =
+  either : (n l : Bool) → is_nan x ≡ n → le x least ≡ l → cond l (held i x) (some old) ≡ cond n (some old) (cond l (some new) (some old))
+  either n true en el =
       let m = not_above_number x least el in
       ap (λ b. cond b none (some new)) m ∙ ap (λ b. cond b (some old) (some new)) (sym m ∙ en)
-  Either true false en el = refl
-  Either false false en el = refl
+  either true false en el = refl
+  either false false en el = refl
 
   later : is_nan least ≡ false → cond (le x least || ne least least) (held i x) (held index least) ≡ better not_farther (held index least) new
   later e =
       let u = number_equal least e in
       (λ j. cond (le x least || u j) (held i x) (cond (e j) none (some old)))
       ∙ ap (λ b. cond b (held i x) (some old)) (or-false (le x least))
-      ∙ Either (is_nan x) (le x least) refl refl
+      ∙ either (is_nan x) (le x least) refl refl
       ∙ ap (λ l. cond (is_nan x) (some old) (cond l (some new) (some old))) less
       ∙ tests (some old)
       ∙ ap (λ n. better not_farther (cond n none (some old)) new) (sym e)

@@ -52,11 +52,11 @@ below_level true true a b = ap (λ t. ltb b a || t) (and-true (eqb a b) ∙ eqb-
         go true e = sym (eq-eqb b a (sym (eqb-true a b e)))
         go false e = sym (ne_eqb b a (λ z. eqb-false a b e (sym z)))
 below_level false true a b = both_zero a b ∙ ap (λ n. not (ltb 0 n)) {x = a + b} {y = b + a} (omega arith)
-below_level true false a b = ap (λ t. ltb 0 (a + b) || t) (both_zero a b) ∙ Either (ltb 0 (a + b))
+below_level true false a b = ap (λ t. ltb 0 (a + b) || t) (both_zero a b) ∙ either (ltb 0 (a + b))
   where
-    Either : (t : Bool) → (t || not t) ≡ true
-    Either true = refl
-    Either false = refl
+    either : (t : Bool) → (t || not t) ≡ true
+    either true = refl
+    either false = refl
 
 -- ---- values
 or-false : (t : Bool) → (t || false) ≡ t

@@ -18,7 +18,7 @@ tie : nearest 0 0 (0x3ff0_0000_0000_0000 ∷ 0 ∷ 0 ∷ 0xbff0_0000_0000_0000 �
 unfolding nearest is_nan le of_bits to_bits add sub mul
 tie = refl
 
--- a NaN in Either word of a point is passed over, before, between and behind two that are equally far
+-- a NaN in either word of a point is passed over, before, between and behind two that are equally far
 nans : nearest 0 0 (0x7ff0_0000_0000_0001 ∷ 0 ∷ 0x3ff0_0000_0000_0000 ∷ 0 ∷ 0 ∷ 0x7ff8_0000_0000_0000 ∷ 0 ∷ 0x3ff0_0000_0000_0000 ∷ 0 ∷ 0xfff8_0000_0000_0000 ∷ []) ≡ at 3
 unfolding nearest is_nan le of_bits to_bits add sub mul
 nans = refl

@@ -7,7 +7,7 @@ ghost use Rattle.nearest.specs.Apart.{apart};
 ghost use Rattle.nearest.specs.Answer.{as_values};
 
 // What the entry answers: the index of the nearest point, no point whose distance is a number, or words that are no points.
-#[derive(Drop)]
+#[derive(Clone, Copy)]
 pub enum Nearest {
     At(usize),
     Nothing,

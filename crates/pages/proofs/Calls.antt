@@ -19,13 +19,13 @@ use Rattle.pages.specs.Call.{given, part_of, pages_call}
 use Rattle.pages.proofs.Laying.{part_text, turned-away, all_pages}
 
 -- too many constants are 8, whatever the listing's length
-Either : (b : Bool) → record { number = 8; index = 0 } ≡ refuse_by b 8 0 (record { number = 8; index = 0 })
-Either true = refl
-Either false = refl
+either : (b : Bool) → record { number = 8; index = 0 } ≡ refuse_by b 8 0 (record { number = 8; index = 0 })
+either true = refl
+either false = refl
 
 many : (listing : List ℕ) (n start words : ℕ) → 256 < n → record { number = 8; index = 0 } ≡ refusal listing n start words
 unfolding refusal
-many listing n start words h = simp (lt-ltb 256 n h) (Either (ltb 65536 (length listing)))
+many listing n start words h = simp (lt-ltb 256 n h) (either (ltb 65536 (length listing)))
 
 module _ (first most : ℕ) (listing constants out : List ℕ) where
   pub torn-words : {r : PagesAnswer} → (length constants % 8 ≡ 0 → ⊥) → r ≡ record { number = 8; index = 0; pages = 0 }

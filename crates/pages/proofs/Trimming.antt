@@ -53,15 +53,15 @@ before (x ∷ a) b s =
 one : (b : ℕ) → (b ≡ 32 → ⊥) → Solid (b ∷ [])
 one b h = record { kept = simp (ne_eqb b 32 h); some = omega arith }
 
-Either : (b : Bool) (x y : List ℕ) → Solid x → Solid y → Solid (cond b x y)
-Either true x y p q = p
-Either false x y p q = q
+either : (b : Bool) (x y : List ℕ) → Solid x → Solid y → Solid (cond b x y)
+either true x y p q = p
+either false x y p q = q
 
 decimal-in : (d n : ℕ) → Solid (decimal_in d n)
 unfolding decimal_in
 decimal-in zero n = one (48 + n % 10) (λ e. omega (arith, e))
 decimal-in (suc d) n =
-    Either (ltb n 10) _ _ (one (48 + n) (λ e. omega (arith, e)))
+    either (ltb n 10) _ _ (one (48 + n) (λ e. omega (arith, e)))
     (before (decimal_in d (n / 10)) _ (one (48 + n % 10) (λ e. omega (arith, e))))
 
 number : (n : ℕ) → Solid (decimal n)
@@ -78,8 +78,8 @@ bits w = before (hex_in 15 (w / 16)) _ (one (hex_digit (w % 16)) (digit (ltb (w 
 reg : (r : ℕ) → Solid (register r)
 unfolding ascii register
 reg r =
-    Either (eqb r 64) _ _ (record { kept = refl; some = omega arith })
-    (Either (eqb r 65) _ _ (record { kept = refl; some = omega arith }) (before (ascii "G") (decimal r) (number r)))
+    either (eqb r 64) _ _ (record { kept = refl; some = omega arith })
+    (either (eqb r 65) _ _ (record { kept = refl; some = omega arith }) (before (ascii "G") (decimal r) (number r)))
 
 run : (r : ℕ) (rs : List ℕ) → Solid (registers (r ∷ rs))
 run r [] = before (32 ∷ []) _ (keep (register r) (reg r))

@@ -70,7 +70,7 @@ fn record_line(index: usize, record: Record) -> Line
 }
 
 // A line, and the position of the record behind it.
-#[derive(Drop)]
+#[derive(Clone, Copy)]
 pub struct LineAt {
     pub line: Line,
     pub next: usize,

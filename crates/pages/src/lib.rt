@@ -14,7 +14,7 @@ use columns::{left_of, put_lines};
 use player::judge;
 
 // What laying out gives back: 0, the count of records and the count of pages, or a refusal's number and index.
-#[derive(Drop)]
+#[derive(Clone, Copy)]
 pub struct PagesAnswer {
     pub number: u8,
     pub index: usize,

@@ -50,7 +50,7 @@ fn make_after(s: &[u8], store: &mut [u64])
 }
 
 // What a play gave.
-#[derive(Drop)]
+#[derive(Clone, Copy)]
 pub struct PlayOutcome {
     pub number: u8,
     pub differs: bool,

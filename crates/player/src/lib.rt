@@ -15,7 +15,7 @@ use run::run;
 
 // What is known before anything is played: the number and index that refuse a play, or 0 and the count of records, with the position
 // behind the first Label 1 and that of the start record. A refusal has no positions: both are 0.
-#[derive(Drop)]
+#[derive(Clone, Copy)]
 pub struct Verdict {
     pub number: u8,
     pub index: usize,
@@ -67,7 +67,7 @@ pub fn judge(listing: &[u8], constants: usize, start: usize, words: usize) -> Ve
 }
 
 // What playing gives back: 0 and the count of records with how many were played, or a refusal's number and index.
-#[derive(Drop)]
+#[derive(Clone, Copy)]
 pub struct PlayAnswer {
     pub number: u8,
     pub index: usize,

@@ -101,7 +101,7 @@ fn block_start(body: usize, end: usize, label: bool, next: usize) -> usize
 
 // What the first pass finds: the number that refuses a record (0: none) at its index or the count of records, how many records are no
 // working records, and the position behind the first Label 1, or the end where there is none.
-#[derive(Drop)]
+#[derive(Clone, Copy)]
 pub struct Examination {
     pub number: u8,
     pub index: usize,

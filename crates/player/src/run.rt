@@ -10,7 +10,7 @@ use player_work::exec;
 use player_work::words::get_register;
 
 // Where a play stands after a record: whether it ended, the position of the next record, and how many records were reached.
-#[derive(Drop)]
+#[derive(Clone, Copy)]
 pub struct Progress {
     pub done: bool,
     pub at: usize,

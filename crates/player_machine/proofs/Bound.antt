@@ -15,21 +15,21 @@ use Rattle.player_machine.specs.Jumps.{bit, tally, breach}
 use Rattle.player_machine.specs.Count.{is_call, block_records, most, Bounds}
 use Rattle.player_machine.specs.Answer.{Answer, refuse, accept, answer}
 
-Either : (x : Bool) (a b : End) (n : ℕ) → a.played ≤ n → b.played ≤ n → (cond x a b).played ≤ n
-Either true a b n h k = h
-Either false a b n h k = k
+either : (x : Bool) (a b : End) (n : ℕ) → a.played ≤ n → b.played ≤ n → (cond x a b).played ≤ n
+either true a b n h k = h
+either false a b n h k = k
 
 once : (n k : ℕ) → (1 + n) * k ≡ k + n * k
 once n k = simp (add-mul, one-mul)
 
 module _ (constants : List ℕ) (b : List Work) where
-  -- for the records from any on, and in Either mode
+  -- for the records from any on, and in either mode
   pub bound : (w : Way) (rs : List Record) (σ : Store) → (play constants b w rs σ).played ≤ length rs + tally is_call rs * block_records b
   unfolding play ticks tally
   bound going [] σ = omega arith
   bound going (Record.Work a ∷ rs) σ = let h = bound going rs (exec constants a σ) in omega (arith, h)
   bound going (Record.Label l ∷ rs) σ = let h = bound going rs σ in omega (arith, h)
-  bound going (Record.Branch l ∷ rs) σ = let h = bound (seeking l) rs σ in Either (eqb l 0) _ _ _ (omega arith) (omega (arith, h))
+  bound going (Record.Branch l ∷ rs) σ = let h = bound (seeking l) rs σ in either (eqb l 0) _ _ _ (omega arith) (omega (arith, h))
   bound going (Record.Call l ∷ rs) σ =
       let h = bound going rs (execs constants b σ) in
       let e = once (tally is_call rs) (block_records b) in
@@ -38,14 +38,14 @@ module _ (constants : List ℕ) (b : List Work) where
       let h = bound (seeking l) rs σ in
       let k = bound going rs σ in
       let n = length rs + tally is_call rs * block_records b in
-      let m = Either (branches e (at σ c)) (play constants b (seeking l) rs σ) (play constants b going rs σ) n h k in
+      let m = either (branches e (at σ c)) (play constants b (seeking l) rs σ) (play constants b going rs σ) n h k in
       omega (arith, m)
   bound (seeking l) [] σ = omega arith
   bound (seeking l) (Record.Work a ∷ rs) σ = let h = bound (seeking l) rs σ in omega (arith, h)
   bound (seeking l) (Record.Label m ∷ rs) σ =
       let h = bound going rs σ in
       let k = bound (seeking l) rs σ in
-      Either (eqb m l) _ _ _ (omega (arith, h)) (omega (arith, k))
+      either (eqb m l) _ _ _ (omega (arith, h)) (omega (arith, k))
   bound (seeking l) (Record.Branch m ∷ rs) σ = let h = bound (seeking l) rs σ in omega (arith, h)
   bound (seeking l) (Record.Call m ∷ rs) σ = let h = bound (seeking l) rs σ in
       let e = once (tally is_call rs) (block_records b) in

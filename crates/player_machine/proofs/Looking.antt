@@ -112,7 +112,7 @@ module _ (listing constants : List ℕ) (σ : Store) (i : ℕ) where
       ∙ simp (eq-eqb _ _ z)
       (ap (λ n. accept n (play constants (block rs) going (drop i rs) σ)) (accepted listing (length constants) i (length σ) z).index)
 
--- nothing refuses from another record Either
+-- nothing refuses from another record either
 from-there : {listing : List ℕ} {constants i words : ℕ} (j : ℕ) → Accepted listing constants i words
     → j ≤ length (records constants listing).items → (refusal listing constants j words).number ≡ 0
 unfolding refusal

@@ -14,7 +14,7 @@ use Rattle.player_machine.specs.Step.{written}
 use Rattle.player_machine.specs.Look.{is_written, shown}
 use Rattle.player_machine.specs.Looked.{once}
 
--- a word set twice, and two words in Either order
+-- a word set twice, and two words in either order
 set_again : (l : Store) (i a b : ℕ) → set (set l i a) i b ≡ set l i b
 set_again [] i a b = refl
 set_again (x ∷ l) zero a b = refl

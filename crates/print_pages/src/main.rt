@@ -9,7 +9,7 @@ use reports::refusal_line;
 use text::put::{put, put_line};
 
 // How many bytes were put, and how many pages there are in all; none after which nothing is to be printed.
-#[derive(Drop)]
+#[derive(Clone, Copy)]
 pub struct Part {
     pub len: usize,
     pub pages: usize,

@@ -17,14 +17,14 @@ use mir::records::{Instruction, Record, Work};
 const LAST: u8 = 65;
 
 // A record, or the number that refuses it.
-#[derive(Drop)]
+#[derive(Clone, Copy)]
 pub enum ReadRecord {
     Got(Record),
     Refused(u8),
 }
 
 // A record and the position after it, or the number that refuses it.
-#[derive(Drop)]
+#[derive(Clone, Copy)]
 pub enum NextRecord {
     Got(Record, usize),
     Refused(u8),
@@ -32,7 +32,7 @@ pub enum NextRecord {
 
 // What a pass over a listing needs of a record: the number that refuses it (0: none), what it is (0 a working record, 1 a Label, 2 a
 // Branch, 3 a Call, 4 a BranchIf) and its label.
-#[derive(Drop)]
+#[derive(Clone, Copy)]
 pub struct Summary {
     pub number: u8,
     pub what: u8,

@@ -11,7 +11,7 @@ use lib.Dec.{ltb, eqb}
 use lib.Seq.{sets, length-sets, drop-cons, get_or-set_same, get_or-set_other, set-get_or}
 use Rattle.mir.specs.Encode.{flag_byte}
 use Rattle.mir.specs.Field.{bytes_at}
-use Rattle.mir.proofs.Passing.{Either, or_left, or_right}
+use Rattle.mir.proofs.Passing.{either, or_left, or_right}
 use Rattle.words.specs.Bytes.{stored}
 use Rattle.words.proofs.Stored.{stored_fits}
 use Rattle.lowering.specs.declared.realness.Realness.{Realness}
@@ -88,7 +88,7 @@ module _ (rows v : List ℕ) (l : ℕ) (n : length v ≡ 96) (fits : 96 * l + 96
   row_other : (m : ℕ) → eqb l m ≡ false → row m (stored rows (96 * l) v) ≡ row m rows
   row_other m e =
       ap (row m) stored_row
-      ∙ Either (ltb m l)
+      ∙ either (ltb m l)
       (λ t. let h = ltb-true m l t in row_before v rows (96 * l) (96 * m) 96 (omega (arith, h)))
       (λ f.
       let h = ltb-false m l f in
@@ -145,7 +145,7 @@ SeenFirst i rest = (l : ℕ) → later l rest ≡ (stands_at l i || later l (pas
 -- a label that stands ahead has an entry
 inside : {b : Standing} {rest marks rows : List ℕ} (l : ℕ) → Noted b rest marks rows → ltb 0 (get_or marks l 0) ≡ true → l < length marks
 inside {marks = marks} l t h =
-    Either (ltb l (length marks)) (ltb-true l (length marks))
+    either (ltb l (length marks)) (ltb-true l (length marks))
     (λ f.
     let k = ltb-true 0 (get_or marks l 0) h in
     let e = get_or-eq_default marks 0 {n = l} (ltb-false l (length marks) f) in
@@ -197,7 +197,7 @@ module _ (l : ℕ) (ρ : Realness) (full : length ρ.regs ≡ 32) (marks rows : 
   unfolding misplaced unequal
   label-told b rest t =
       let mark = get_or marks l 0 in
-      Either (eqb mark 4)
+      either (eqb mark 4)
       (λ f.
       let s = t.stood l ∙ f in
       ap (λ (q : Bool). cond q 10 (cond (unlike mark (row l rows) ρ) 11 0)) f
@@ -215,11 +215,11 @@ module _ (l : ℕ) (ρ : Realness) (full : length ρ.regs ≡ 32) (marks rows : 
       record {
         long = length-set marks l 4 ∙ t.long;
         room = λ m p.
-            Either (eqb l m)
+            either (eqb l m)
             (λ e. subst (λ m. 96 * m + 96 ≤ length rows) (eqb-true l m e) (t.room l (ltb-true 0 (get_or marks l 0) here)))
             (λ e. t.room m (subst (λ (x : ℕ). 0 < x) (mark-other marks l 4 inside m e) p));
         stood = λ m.
-            Either (eqb l m)
+            either (eqb l m)
             (λ e. ap (λ (q : Bool). q || stands m b.labels) e ∙ sym (ap (λ x. eqb x 4) (mark-at marks l 4 inside m e)))
             (λ e.
             ap (λ (q : Bool). q || stands m b.labels) e ∙ t.stood m ∙ sym (ap (λ x. eqb x 4) (mark-other marks l 4 inside m e)));
@@ -290,7 +290,7 @@ module _ (l : ℕ) (ρ₀ : Realness) (full : length ρ₀.regs ≡ 32) (wide : 
         long = refl;
         others = λ m f. refl;
         tells = λ ρ z.
-            Either (same_records ρ₀ ρ)
+            either (same_records ρ₀ ρ)
             (λ t.
             let k = same-records ρ₀ ρ t in
             ap (λ (q : Bool). not (same_records ρ₀ ρ) || not q) (ap (λ ρ. bytes_same (row l rows) (record_bytes ρ)) (sym k) ∙ e)
@@ -316,16 +316,16 @@ module _ (l : ℕ) (ρ₀ : Realness) (full : length ρ₀.regs ≡ 32) (wide : 
   behind : (mark : ℕ) (rows : List ℕ) → ltb 0 mark ≡ true → eqb mark 4 ≡ false → (0 < mark → 96 * l + 96 ≤ length rows)
       → Behind mark rows (behind-mark mark rows) (behind-rows mark rows)
   behind mark rows e f fits =
-      Either (eqb mark 1)
+      either (eqb mark 1)
       (λ p.
       let k = eqb-true mark 1 p in
       subst (λ (x : ℕ). Behind x rows (behind-mark x rows) (behind-rows x rows)) (sym k) (first rows (fits (ltb-true 0 mark e))))
       (λ p.
-      Either (eqb mark 2)
+      either (eqb mark 2)
       (λ q.
       let k = eqb-true mark 2 q in
       subst (λ (x : ℕ). Behind x rows (behind-mark x rows) (behind-rows x rows)) (sym k)
-      (Either (bytes_same (row l rows) (record_bytes ρ₀))
+      (either (bytes_same (row l rows) (record_bytes ρ₀))
       (λ s. subst (λ (y : Bool). Behind 2 rows (cond y 2 3) rows) (sym s) (again rows s))
       (λ s. subst (λ (y : Bool). Behind 2 rows (cond y 2 3) rows) (sym s) (apart rows s))))
       (λ q.
@@ -348,7 +348,7 @@ module _ (l : ℕ) (ρ₀ : Realness) (full : length ρ₀.regs ≡ 32) (wide : 
           long = length-set marks l mark' ∙ t.long;
           room = λ m p.
               let w = k.long in
-              Either (eqb l m)
+              either (eqb l m)
               (λ e.
               subst (λ m. 96 * m + 96 ≤ length rows') (eqb-true l m e)
               (let r = t.room l (ltb-true 0 (get_or marks l 0) some) in omega (arith, r, w)))
@@ -356,20 +356,20 @@ module _ (l : ℕ) (ρ₀ : Realness) (full : length ρ₀.regs ≡ 32) (wide : 
               let r = t.room m (subst (λ (x : ℕ). 0 < x) (mark-other marks l mark' inside m e) p) in
               omega (arith, r, w));
           stood = λ m.
-              Either (eqb l m)
+              either (eqb l m)
               (λ e.
               ap (λ m. stands m b.labels) (sym (eqb-true l m e)) ∙ s ∙ sym k.unstood
               ∙ sym (ap (λ x. eqb x 4) (mark-at marks l mark' inside m e)))
               (λ e. t.stood m ∙ sym (ap (λ x. eqb x 4) (mark-other marks l mark' inside m e)));
           ahead = λ m f.
               sym (seen m) ∙ t.ahead m f
-              ∙ Either (eqb l m)
+              ∙ either (eqb l m)
               (λ e.
               ap (λ m. ltb 0 (get_or marks m 0)) (sym (eqb-true l m e)) ∙ some ∙ sym k.some
               ∙ sym (ap (λ x. ltb 0 x) (mark-at marks l mark' inside m e)))
               (λ e. sym (ap (λ x. ltb 0 x) (mark-other marks l mark' inside m e)));
           differ = λ m ρ z f.
-              Either (eqb l m)
+              either (eqb l m)
               (λ e.
               let j = eqb-true l m e in
               ap (λ (q : Bool). q && not (same_records ρ₀ ρ) || differs m ρ b.branches) e
@@ -389,7 +389,7 @@ module _ (l : ℕ) (ρ₀ : Realness) (full : length ρ₀.regs ≡ 32) (wide : 
     unfolding misplaced unequal
     branch-told b rest seen t =
         ap (λ (q : Bool). cond q 10 0)
-        (Either (eqb (get_or marks l 0) 4)
+        (either (eqb (get_or marks l 0) 4)
         (λ e.
         ap (λ (q : Bool). eqb (get_or marks l 0) 0 || q) e ∙ or-true (eqb (get_or marks l 0) 0)
         ∙ sym (ap (λ (q : Bool). not (later l (past rest)) || q) (t.stood l ∙ e) ∙ or-true (not (later l (past rest)))))
@@ -407,7 +407,7 @@ module _ (l : ℕ) (ρ₀ : Realness) (full : length ρ₀.regs ≡ 32) (wide : 
         (marks_behind (Labels.branches l) ρ₀ marks rows) (rows_behind (Labels.branches l) ρ₀ marks rows)
     branch-on b rest seen t z =
         let f : (eqb (get_or marks l 0) 0 || eqb (get_or marks l 0) 4) ≡ false =
-        Either (eqb (get_or marks l 0) 0 || eqb (get_or marks l 0) 4)
+        either (eqb (get_or marks l 0) 0 || eqb (get_or marks l 0) 4)
         (λ y. let w : ◌≡◌ {A = ℕ} 10 0 = sym (ap (λ (q : Bool). cond q 10 0) y) ∙ z in absurd (omega (arith, w)))
         (λ y. y) in
         let g = or_right (eqb (get_or marks l 0) 0) (eqb (get_or marks l 0) 4) f in

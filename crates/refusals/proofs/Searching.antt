@@ -15,7 +15,7 @@ use Rattle.mir.specs.Encode.{flag_byte}
 use Rattle.mir.specs.Field.{byte_at, u16_at, takes_kind, head_from}
 use Rattle.mir.specs.Decode.{decoded}
 use Rattle.mir.proofs.Parts.{part}
-use Rattle.mir.proofs.Passing.{Either, passed, got_same}
+use Rattle.mir.proofs.Passing.{either, passed, got_same}
 use Rattle.mir.proofs.Decoding as Decoding
 use Rattle.mir.proofs.Decoding.{decoded-none, decoded-torn, Bytes, Each, each}
 use Rattle.lowering.specs.declared.realness.Realness.{Realness}
@@ -171,7 +171,7 @@ mark_each [] marks l f Decoding.none n e = e ∙ ap flag_byte (sym (or-false f))
 mark_each (none ∷ os) marks l f (Decoding.and b bs) n e = mark_each os marks l f bs n e
 mark_each (some m ∷ os) marks l f (Decoding.and b bs) n e =
     let k = length-set marks m 1 in
-    Either (eqb m l)
+    either (eqb m l)
     (λ t.
     mark_each os (set marks m 1) l true bs (omega (arith, k, n)) (mark-at marks m 1 (omega (arith, b, n)) l t)
     ∙ sym (ap flag_byte (ap (λ (q : Bool). f || (q || any_sees l os)) t ∙ or-true f)))
@@ -208,7 +208,7 @@ module _ (rest marks marks' rows : List ℕ) (r : Bool) (bytes : Bytes rest) (ze
 
   zeros : (l : ℕ) → ◌≡◌ {A = ℕ} (get_or (replicate 256 0) l 0) 0
   zeros l =
-      Either (ltb l 256) (λ t. get_or-replicate 256 l 0 0 (ltb-true l 256 t))
+      either (ltb l 256) (λ t. get_or-replicate 256 l 0 0 (ltb-true l 256 t))
       (λ f. get_or-eq_default (replicate 256 0) 0 {n = l} (ltb-false l 256 f))
 
   marked : (l : ℕ) → get_or marks' l 0 ≡ flag_byte (later l rest)
@@ -224,7 +224,7 @@ module _ (rest marks marks' rows : List ℕ) (r : Bool) (bytes : Bytes rest) (ze
 
   wide : (l : ℕ) → 0 < get_or marks' l 0 → length rows ≡ 24576 → 96 * l + 96 ≤ length rows
   wide l p e =
-      Either (ltb l 256) (λ t. let k = ltb-true l 256 t in omega (arith, k, e))
+      either (ltb l 256) (λ t. let k = ltb-true l 256 t in omega (arith, k, e))
       (λ f.
       let k = ltb-false l 256 f in
       let d = get_or-eq_default marks' 0 {n = l} (omega (arith, k, as_long)) in
@@ -234,7 +234,7 @@ module _ (rest marks marks' rows : List ℕ) (r : Bool) (bytes : Bytes rest) (ze
   begin-noted =
       record {
         long = as_long;
-        room = λ l p. Either r (λ t. wide l p (h t)) (λ f. let a = marked l ∙ ap flag_byte (unmarked l f) in absurd (omega (arith, a, p)));
+        room = λ l p. either r (λ t. wide l p (h t)) (λ f. let a = marked l ∙ ap flag_byte (unmarked l f) in absurd (omega (arith, a, p)));
         stood = λ l. unstood (later l rest) ∙ sym (ap (λ x. eqb x 4) (marked l));
         ahead = λ l f. told (later l rest) ∙ sym (ap (λ x. ltb 0 x) (marked l));
         differ = λ l ρ z f. alike (later l rest) (row l rows) ρ ∙ sym (ap (λ x. unlike x (row l rows) ρ) (marked l));

@@ -57,7 +57,7 @@ fn mark_label(s: &[u8], marks: &mut [u8]) -> bool
     false
 }
 
-fn Either(x: bool, y: bool) -> bool
+fn either(x: bool, y: bool) -> bool
     ensures { result ≡ (x || y) }
 {
     if x { true } else { y }
@@ -76,7 +76,7 @@ pub fn find_labels(sheet: &[u8], start: usize, marks: &mut [u8]) -> bool
             return any;
         }
         let found = mark_label(s, marks);
-        any = Either(any, found);
+        any = either(any, found);
         let n = u16_at(s, 0);
         at += n as usize;
     }

@@ -12,16 +12,16 @@ use Rattle.text.specs.Text.{ascii, decimal_in, decimal, hex_in, register}
 use Rattle.text.proofs.Short.{name_short}
 use Rattle.reports.specs.Lines.{refusal_words, refusal_line, lowered_line, played_line, class_names, half_names, word_name, word_line, difference_line, more_text}
 
-pub Either : (b : Bool) (x y : List ℕ) (m : ℕ) → length x ≤ m → length y ≤ m → length (cond b x y) ≤ m
-Either true x y m p q = p
-Either false x y m p q = q
+pub either : (b : Bool) (x y : List ℕ) (m : ℕ) → length x ≤ m → length y ≤ m → length (cond b x y) ≤ m
+either true x y m p q = p
+either false x y m p q = q
 
 number_in : (d n : ℕ) → length (decimal_in d n) ≤ suc d
 unfolding decimal_in
 number_in zero n = omega arith
 number_in (suc d) n =
     let i = number_in d (n / 10) in
-    Either (ltb n 10) _ _ (suc (suc d)) (omega arith) (simp length-append (omega arith))
+    either (ltb n 10) _ _ (suc (suc d)) (omega arith) (simp length-append (omega arith))
 
 pub number_short : (n : ℕ) → length (decimal n) ≤ 20
 number_short n = number_in 19 n
@@ -42,13 +42,13 @@ digits k zero n h = omega arith
 digits zero (suc d) n h = simp (lt-ltb n 10 h) (omega arith)
 digits (suc k) (suc d) n h =
     let i = digits k d (n / 10) (omega arith) in
-    Either (ltb n 10) _ _ (suc (suc k)) (omega arith) (simp length-append (omega arith))
+    either (ltb n 10) _ _ (suc (suc k)) (omega arith) (simp length-append (omega arith))
 
 pub register_short : (r : ℕ) → length (register r) ≤ 21
 unfolding ascii register
 register_short r =
     let i = number_short r in
-    Either (eqb r 64) _ _ 21 (lit≤ tt) (Either (eqb r 65) _ _ 21 (lit≤ tt) (omega arith))
+    either (eqb r 64) _ _ 21 (lit≤ tt) (either (eqb r 65) _ _ 21 (lit≤ tt) (omega arith))
 
 pub refusal_short : (number index : ℕ) → length (refusal_line number index) ≤ 80
 unfolding ascii refusal_line
@@ -64,19 +64,19 @@ lowered_short number index bytes constants =
     let d = number_short index in
     let e = number_short bytes in
     let f = number_short constants in
-    Either (eqb number 0) _ _ 80 (simp length-append (omega arith)) (refusal_short number index)
+    either (eqb number 0) _ _ 80 (simp length-append (omega arith)) (refusal_short number index)
 
 pub played_short : (number index played : ℕ) → length (played_line number index played) ≤ 80
 unfolding ascii played_line
 played_short number index played =
     let d = number_short index in
     let e = number_short played in
-    Either (eqb number 0) _ _ 80 (simp length-append (omega arith)) (refusal_short number index)
+    either (eqb number 0) _ _ 80 (simp length-append (omega arith)) (refusal_short number index)
 
 word_short : (index : ℕ) → length (word_name index) ≤ 29
 unfolding ascii word_name
 word_short index =
-    mir.Either (ltb index 66)
+    mir.either (ltb index 66)
     (λ t.
     let r = register_short index in
     simp t (omega arith))

@@ -51,7 +51,7 @@ unfoldable pub word_line : ℕ → ℕ → List ℕ
 unfolding word_name hex_in
 word_line index word = line (word_name index ++ space (hex word))
 
--- a word of the store by its name, and what stands there in Either store
+-- a word of the store by its name, and what stands there in either store
 unfoldable pub difference_line : ℕ → ℕ → ℕ → List ℕ
 unfolding word_name hex_in
 difference_line index one other = line (word_name index ++ space (hex one) ++ space (hex other))

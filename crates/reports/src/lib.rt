@@ -73,7 +73,7 @@ pub fn word_line(index: u64, word: u64) -> Line
         .byte(b'\n')
 }
 
-// A word that differs: its name, then the word of Either store.
+// A word that differs: its name, then the word of either store.
 pub fn difference_line(index: u64, one: u64, other: u64) -> Line
     ensures { Prints (difference_line index one other) result }
 {

@@ -17,7 +17,7 @@ pub const EXP_MASK_FINITE: u64 = 0x7fe0_0000_0000_0000;
 pub const FLOOR_FINITE: u64 = 0x0020_0000_0000_0000;
 
 // The index of a constant, whether it was appended, and what is then added.
-#[derive(Drop)]
+#[derive(Clone, Copy)]
 pub struct Found {
     pub at: u16,
     pub appended: bool,
@@ -25,7 +25,7 @@ pub struct Found {
 }
 
 // The indices of three constants, and what is then added.
-#[derive(Drop)]
+#[derive(Clone, Copy)]
 pub struct Three {
     pub i: u16,
     pub j: u16,

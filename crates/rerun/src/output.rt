@@ -6,14 +6,14 @@ ghost use Rattle.rerun.specs.Ends.{as_output};
 use complexifier::state::{Complexifier, Listed};
 
 // What the instruction under way has added to the constants: the first `count` of the words.
-#[derive(Drop)]
+#[derive(Clone, Copy)]
 pub struct Added {
     pub words: [u64; 3],
     pub count: usize,
 }
 
 // The state and the position after a method, and the constants that it added.
-#[derive(Drop)]
+#[derive(Clone, Copy)]
 pub struct Output {
     pub low: Complexifier,
     pub at: usize,

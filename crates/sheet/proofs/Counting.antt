@@ -12,7 +12,7 @@ use borrow.Author.Tests.{ltb-false}
 use Rattle.mir.specs.Read.{Read, got, refused}
 use Rattle.mir.specs.Field.{u16_at}
 use Rattle.mir.proofs.Parts.{part}
-use Rattle.mir.proofs.Passing.{clash, Either}
+use Rattle.mir.proofs.Passing.{clash, either}
 use Rattle.sheet.specs.Setup.{is_constant, is_broken, one_more, constants_from}
 
 abbrev pub plus : ℕ → Read ℕ → Read ℕ
@@ -107,13 +107,13 @@ less (refused k) m e = absurd (clash k m e)
 
 pub few : (n : ℕ) (s : List ℕ) (m : ℕ) → constants_from n s ≡ got m → Few n m s
 few zero s m e =
-    Either (is_constant s)
+    either (is_constant s)
     (λ t. absurd (clash 8 m (sym (full s t) ∙ e)))
     (λ t. let z : 0 ≡ m = cc (ended 0 s t) in record { most = omega arith; fits = omega arith })
 few (suc n) s m e =
-    Either (is_constant s)
+    either (is_constant s)
     (λ t.
-    Either (is_broken s)
+    either (is_broken s)
     (λ f. absurd (clash 8 m (sym (broken n s t f) ∙ e)))
     (λ f.
     let l = less (constants_from n (drop 12 s)) m (sym (more n s t f) ∙ e) in

@@ -40,9 +40,12 @@ below h = omega arith
 saved_in : (p : Loc) → Saved p → index p < 256
 saved_in (Loc.Stack n) h = below h
 saved_in (Loc.Mem n) h = below h
+saved_in (Loc.Param _) h = elim h [ ]
 
 stacked_in : (p : Loc) → Stacked p → index p < 256
 stacked_in (Loc.Stack n) h = below h
+stacked_in (Loc.Mem _) h = elim h [ ]
+stacked_in (Loc.Param _) h = elim h [ ]
 
 -- a label of the sheet's own
 own : (l : ℕ) → ltb l 3 ≡ false → 2 < l

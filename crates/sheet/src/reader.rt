@@ -21,7 +21,7 @@ const FIRST_LABEL: u8 = 3;
 pub const LONGEST: usize = 612;
 
 // An instruction and the position after it, or the number that refuses it.
-#[derive(Drop)]
+#[derive(Clone, Copy)]
 pub enum NextInstruction {
     Got(Instruction, usize),
     Refused(u8),

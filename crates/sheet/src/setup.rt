@@ -6,7 +6,7 @@ use mir::fields::{byte, u16_at};
 use words::{put_bytes, word_at};
 
 // What a header's mode byte says.
-#[derive(Drop)]
+#[derive(Clone, Copy)]
 pub enum Mode {
     Plain,
     Stable,
@@ -14,7 +14,7 @@ pub enum Mode {
 }
 
 // `number` is 0, or 8 where the setup is wrong; `places` are the bytes of realness, and the instructions begin at `start`.
-#[derive(Drop)]
+#[derive(Clone, Copy)]
 pub struct Setup {
     pub number: u8,
     pub mode: Mode,
@@ -24,14 +24,14 @@ pub struct Setup {
 }
 
 // What a header says.
-#[derive(Drop)]
+#[derive(Clone, Copy)]
 pub enum Header {
     Mode(Mode),
     Wrong,
 }
 
 // How many constants stand first.
-#[derive(Drop)]
+#[derive(Clone, Copy)]
 pub enum ConstantCount {
     Constants(usize),
     Wrong,

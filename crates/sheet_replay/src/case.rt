@@ -107,7 +107,7 @@ fn agrees(
 }
 
 // What lowering gave.
-#[derive(Drop)]
+#[derive(Clone, Copy)]
 pub struct SheetOutcome {
     pub number: u8,
     pub differs: bool,

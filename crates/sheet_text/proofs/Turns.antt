@@ -8,7 +8,7 @@ use native.Mathlib.Omega.{arith}
 use lib.ListN.{length, drop}
 use Rattle.mir.specs.declared.records.Instruction.{Instruction}
 use Rattle.mir.specs.Decode.{decoded}
-use Rattle.mir.proofs.Passing.{Either}
+use Rattle.mir.proofs.Passing.{either}
 use Rattle.mir.proofs.Decoding.{Here, ended}
 use borrow.Author.Tests.{ltb-true, ltb-false, eq-eqb, ne_eqb}
 use lib.Dec.{ltb, eqb}
@@ -73,7 +73,7 @@ module _ (count : ℕ) (s : List ℕ) (at : ℕ) {n : ℕ} where
       → lines_on n count (drop at s) ≡ []
   unfolding instruction_lines
   instructions-torn l e f =
-      Either (ltb at (length s))
+      either (ltb at (length s))
       (λ t. ap (λ d. instruction_lines d.items) (on-done count s at l (torn-instruction count s at e f (ltb-true at (length s) t))))
       (λ t. ap (λ d. instruction_lines d.items) (on-end count s at n (ended (instruction_from count) s at (ltb-false at (length s) t))))
 

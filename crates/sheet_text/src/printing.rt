@@ -55,7 +55,7 @@ fn put_constants(out: &mut [u8], start: usize, sheet: &[u8], count: usize) -> us
 }
 
 // The number that refuses an instruction of a sheet, 0 where none is refused, and how many stand before it.
-#[derive(Drop)]
+#[derive(Clone, Copy)]
 pub(crate) struct Seen {
     pub(crate) number: u8,
     pub(crate) index: u64,

@@ -22,9 +22,9 @@ use Rattle.mir.proofs.Tables.{and_left, and_right}
 use Rattle.text.specs.Sized.{SizedPlace, SizedWork, SizedRecord}
 use Rattle.text.specs.Text.{ascii, decimal_in, decimal, hex_in, register, place, name_of, uni_names, uni_name, bin_names, bin_name, fused_names, fused_name, complex_names, complex_name, work_name, record_name, work_operands, record_operands, record_line, constants_heading, constant_line, listing_heading, refused_line}
 
-Either : (b : Bool) (x y : List ℕ) (m : ℕ) → length x ≤ m → length y ≤ m → length (cond b x y) ≤ m
-Either true x y m p q = p
-Either false x y m p q = q
+either : (b : Bool) (x y : List ℕ) (m : ℕ) → length x ≤ m → length y ≤ m → length (cond b x y) ≤ m
+either true x y m p q = p
+either false x y m p q = q
 
 -- a number has at most as many digits as it is given
 decimal_in_short : (d n : ℕ) → length (decimal_in d n) ≤ suc d
@@ -32,7 +32,7 @@ unfolding decimal_in
 decimal_in_short zero n = omega arith
 decimal_in_short (suc d) n =
     let i = decimal_in_short d (n / 10) in
-    Either (ltb n 10) _ _ (suc (suc d)) (omega arith) (simp length-append (omega arith))
+    either (ltb n 10) _ _ (suc (suc d)) (omega arith) (simp length-append (omega arith))
 
 -- ten to the k + 1
 abbrev pub ten : ℕ → ℕ
@@ -45,7 +45,7 @@ digits k zero n h = omega arith
 digits zero (suc d) n h = simp (lt-ltb n 10 h) (omega arith)
 digits (suc k) (suc d) n h =
     let i = digits k d (n / 10) (omega arith) in
-    Either (ltb n 10) _ _ (suc (suc k)) (omega arith) (simp length-append (omega arith))
+    either (ltb n 10) _ _ (suc (suc k)) (omega arith) (simp length-append (omega arith))
 
 pub hex_in_length : (d n : ℕ) → length (hex_in d n) ≡ d
 unfolding hex_in
@@ -65,7 +65,7 @@ register_short : (r : ℕ) → r < 256 → length (register r) ≤ 4
 unfolding ascii register
 register_short r h =
     let i = byte_short r h in
-    Either (eqb r 64) _ _ 4 (lit≤ tt) (Either (eqb r 65) _ _ 4 (lit≤ tt) (omega arith))
+    either (eqb r 64) _ _ 4 (lit≤ tt) (either (eqb r 65) _ _ 4 (lit≤ tt) (omega arith))
 
 place_short : (loc : Loc) → SizedPlace loc → length (place loc) ≤ 11
 unfolding ascii place

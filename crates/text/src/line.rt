@@ -4,7 +4,7 @@ ghost use Rattle.text.specs.Line.{empty_line, Adds};
 ghost use Rattle.text.specs.Text.{decimal, hex_in, hex};
 ghost use Rattle.text.specs.Words.{word_in};
 
-#[derive(Drop)]
+#[derive(Clone, Copy)]
 pub struct Line {
     pub bytes: [u8; 80],
     pub len: usize,

@@ -6,7 +6,7 @@ ghost use Rattle.thin_lower.specs.Numbers.{numbers_of, held_of};
 use lowering::realness::Realness;
 
 // The record of realness that lowering answers with: registers and places, and for each register of a listing whether it is filled.
-#[derive(Drop)]
+#[derive(Clone, Copy)]
 pub struct Held {
     pub real: Realness,
     pub filled: [bool; 66],
@@ -14,7 +14,7 @@ pub struct Held {
 
 // What lowering gives back beside it: the number (0: accepted), an instruction's index, the bytes written, the count of constants, and for
 // each register of a listing whether it is drawn on before being filled.
-#[derive(Drop)]
+#[derive(Clone, Copy)]
 pub struct Numbers {
     pub number: u8,
     pub index: usize,

@@ -6,5 +6,5 @@ use Rattle.float.proofs.abs.Tie as tie
 returns : tie.Need-returns
 returns c = and_mask c.args.a 63
 
-pub abs-spec : {M : Type 1} → statement M
-abs-spec = tie.close (tie.spec returns)
+pub abs_spec : {M : Type 1} → statement M
+abs_spec = tie.close (tie.spec returns)

@@ -4,8 +4,8 @@ use Rattle.float.specs.Word as Word
 use Rattle.float.proofs.complex_divide.Statement.{statement}
 use Rattle.float.proofs.complex_divide.Tie as tie
 
-pub complex-divide-spec : {M : Type 1} → statement M
-complex-divide-spec =
+pub complex_divide_spec : {M : Type 1} → statement M
+complex_divide_spec =
     tie.close
     (tie.spec
     (λ c κs. tt)
@@ -23,7 +23,7 @@ complex-divide-spec =
     let m = c.before.before in
     let n = m.before.before.before in
     let d = n.before.before.before in
-    let den = d.plus.ensures ∙ ap₂ Word.plus d.before.before.times.ensures d.before.times2.ensures in
-    let re = n.plus2.ensures ∙ ap₂ Word.plus n.before.before.times3.ensures n.before.times4.ensures in
-    let im = m.minus.ensures ∙ ap₂ Word.minus m.before.before.times5.ensures m.before.times6.ensures in
-    (c.before.divide.ensures ∙ ap₂ Word.divide re den, c.divide2.ensures ∙ ap₂ Word.divide im den)))
+    let den = d.plus-d.ensures ∙ ap₂ Word.plus d.times.ensures d.times-2.ensures in
+    let re = n.plus-re.ensures ∙ ap₂ Word.plus n.times-3.ensures n.times-4.ensures in
+    let im = m.minus-im.ensures ∙ ap₂ Word.minus m.times-5.ensures m.times-6.ensures in
+    (c.divide.ensures ∙ ap₂ Word.divide re den, c.divide-2.ensures ∙ ap₂ Word.divide im den)))

@@ -4,11 +4,11 @@ use Rattle.float.proofs.Marks.{computed}
 use Rattle.float.proofs.divide.Statement.{statement}
 use Rattle.float.proofs.divide.Tie as tie
 
-pub divide-spec : {M : Type 1} → statement M
-divide-spec =
+pub divide_spec : {M : Type 1} → statement M
+divide_spec =
     tie.close
     (tie.spec
     (λ c κs. tt)
     (λ c κs. tt)
     (λ c κs. tt)
-    (λ c. computed (div binary64) _ _ c.write.ensures c.before.before.read.ensures c.before.read2.ensures))
+    (λ c. computed (div binary64) _ _ c.write.ensures c.read.ensures c.read-2.ensures))

@@ -4,11 +4,11 @@ use Rattle.float.proofs.Marks.{compared}
 use Rattle.float.proofs.greater_than_equal.Statement.{statement}
 use Rattle.float.proofs.greater_than_equal.Tie as tie
 
-pub greater-than-equal-spec : {M : Type 1} → statement M
-greater-than-equal-spec =
+pub greater_than_equal_spec : {M : Type 1} → statement M
+greater_than_equal_spec =
     tie.close
     (tie.spec
     (λ c κs. tt)
     (λ c κs. tt)
     (λ c κs. tt)
-    (λ c. compared (λ x y. le y x) c.flag.ensures c.before.before.read.ensures c.before.read2.ensures))
+    (λ c. compared (λ x y. le y x) c.flag.ensures c.read.ensures c.read-2.ensures))

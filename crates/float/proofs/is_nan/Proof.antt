@@ -10,5 +10,5 @@ use Rattle.float.proofs.is_nan.Tie as tie
 returns : tie.Need-returns
 returns c = ap (ltb 0x7ff0_0000_0000_0000) (and_mask c.args.a 63) ∙ sym (nan_bits_above binary64 c.args.a)
 
-pub is-nan-spec : {M : Type 1} → statement M
-is-nan-spec = tie.close (tie.spec returns)
+pub is_nan_spec : {M : Type 1} → statement M
+is_nan_spec = tie.close (tie.spec returns)

@@ -4,11 +4,11 @@ use Rattle.float.proofs.Marks.{computed}
 use Rattle.float.proofs.minus.Statement.{statement}
 use Rattle.float.proofs.minus.Tie as tie
 
-pub minus-spec : {M : Type 1} → statement M
-minus-spec =
+pub minus_spec : {M : Type 1} → statement M
+minus_spec =
     tie.close
     (tie.spec
     (λ c κs. tt)
     (λ c κs. tt)
     (λ c κs. tt)
-    (λ c. computed (sub binary64) _ _ c.write.ensures c.before.before.read.ensures c.before.read2.ensures))
+    (λ c. computed (sub binary64) _ _ c.write.ensures c.read.ensures c.read-2.ensures))

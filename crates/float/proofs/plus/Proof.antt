@@ -4,11 +4,11 @@ use Rattle.float.proofs.Marks.{computed}
 use Rattle.float.proofs.plus.Statement.{statement}
 use Rattle.float.proofs.plus.Tie as tie
 
-pub plus-spec : {M : Type 1} → statement M
-plus-spec =
+pub plus_spec : {M : Type 1} → statement M
+plus_spec =
     tie.close
     (tie.spec
     (λ c κs. tt)
     (λ c κs. tt)
     (λ c κs. tt)
-    (λ c. computed (add binary64) _ _ c.write.ensures c.before.before.read.ensures c.before.read2.ensures))
+    (λ c. computed (add binary64) _ _ c.write.ensures c.read.ensures c.read-2.ensures))

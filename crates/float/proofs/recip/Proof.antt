@@ -5,10 +5,10 @@ use Rattle.float.proofs.Marks.{computed}
 use Rattle.float.proofs.recip.Statement.{statement}
 use Rattle.float.proofs.recip.Tie as tie
 
-pub recip-spec : {M : Type 1} → statement M
-recip-spec =
+pub recip_spec : {M : Type 1} → statement M
+recip_spec =
     tie.close
     (tie.spec
     (λ c κs. tt)
     (λ c κs. tt)
-    (λ c. unfold of_bits in computed (div binary64) 0x3ff0_0000_0000_0000 _ c.write.ensures refl c.before.read.ensures))
+    (λ c. unfold of_bits in computed (div binary64) 0x3ff0_0000_0000_0000 _ c.write.ensures refl c.read.ensures))

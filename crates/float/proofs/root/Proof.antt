@@ -56,46 +56,46 @@ of_negative a n p h = elim (eq-or-lt_of_le h) [
     minus : leb (2 ^ 63) a ≡ true
     minus = is_true (leb (2 ^ 63) a) (le→leb (2 ^ 63) a n)
 
-abs-requires : tie.Need-abs-requires
+abs-requires : tie.Need-abs-size-requires
 abs-requires c κs = search rules
 
-returns : tie.Need-returns
+returns : tie.Need-returns-then-size-gt-INFINITY
 unfolding is_nan
 returns c =
-    let a = c.before.before.args.a in
-    let n = above_nan a (omega (arith, c.before.abs.ensures, c.if1.true)) in
+    let a = c.args.a in
+    let n = above_nan a (omega (arith, c.abs-size.ensures, c.if-size-gt-INFINITY.true)) in
     marked a [] (ap is_nan n) ∙ mark-word a (ap (square_root binary64) n ∙ of_nan)
 
-returns-2 : tie.Need-returns-2
+returns-2 : tie.Need-returns-then-size-eq0
 returns-2 c =
     let s = c.before.before.before in
-    let z : s.args.a % 2 ^ 63 ≡ 0 = omega (arith, c.before.before.abs.ensures, c.if2.true) in
+    let z : s.args.a % 2 ^ 63 ≡ 0 = omega (arith, c.abs-size.ensures, c.if-size-eq0.true) in
     same_word s.args.a s.ranges.a.fits (omega (arith, z)) (of_zero s.args.a z)
 
-returns-3 : tie.Need-returns-3
+returns-3 : tie.Need-returns-then-a-ge-SIGN
 returns-3 c =
     let s = c.before.before.before.before in
-    let e = c.before.before.before.abs.ensures in
-    let h : s.args.a % 2 ^ 63 ≤ 2047 * 2 ^ 52 = omega (arith, e, c.before.before.if1.false) in
-    passed s.args.a [] (number s.args.a h) ∙ mark-word s.args.a (of_negative s.args.a c.if3.true (omega (arith, e, c.before.if2.false)) h)
+    let e = c.abs-size.ensures in
+    let h : s.args.a % 2 ^ 63 ≤ 2047 * 2 ^ 52 = omega (arith, e, c.if-size-gt-INFINITY.false) in
+    passed s.args.a [] (number s.args.a h) ∙ mark-word s.args.a (of_negative s.args.a c.if-a-ge-SIGN.true (omega (arith, e, c.if-size-eq0.false)) h)
 
-returns-4 : tie.Need-returns-4
+returns-4 : tie.Need-returns-then-a-eq-INFINITY
 returns-4 c =
     let s = c.before.before.before.before.before in
-    let e : s.args.a % 2 ^ 63 ≡ 2047 * 2 ^ 52 = omega (arith, c.if4.true) in
-    same_word s.args.a s.ranges.a.fits (omega (arith, e)) (of-infinite s.args.a (omega (arith, c.if4.true)) e)
+    let e : s.args.a % 2 ^ 63 ≡ 2047 * 2 ^ 52 = omega (arith, c.if-a-eq-INFINITY.true) in
+    same_word s.args.a s.ranges.a.fits (omega (arith, e)) (of-infinite s.args.a (omega (arith, c.if-a-eq-INFINITY.true)) e)
 
-root-finite-requires : tie.Need-root-finite-requires
+root-finite-requires : tie.Need-root_finite-requires
 root-finite-requires c κs =
-    let e = c.before.before.before.before.abs.ensures in
-    let l = c.before.before.before.if1.false in
-    let z = c.before.before.if2.false in
-    (omega (arith, e, z), omega (arith, e, l, c.if4.false, c.before.if3.false))
+    let e = c.abs-size.ensures in
+    let l = c.if-size-gt-INFINITY.false in
+    let z = c.if-size-eq0.false in
+    (omega (arith, e, z), omega (arith, e, l, c.if-a-eq-INFINITY.false, c.if-a-ge-SIGN.false))
 
-returns-5 : tie.Need-returns-5
-returns-5 c = c.root-finite.ensures
+returns-5 : tie.Need-returns
+returns-5 c = c.root_finite.ensures
 
-pub root-spec : {M : Type 1} → statement M
-root-spec =
+pub root_spec : {M : Type 1} → statement M
+root_spec =
     tie.close
     (tie.spec abs-requires returns returns-2 returns-3 returns-4 root-finite-requires returns-5)

@@ -3,12 +3,12 @@ use borrow.Author.Rules.{rules}
 use Rattle.kinds.proofs.read_fused.Statement.{statement}
 use Rattle.kinds.proofs.read_fused.Tie as tie
 
-pub read-fused-spec : {M : Type 1} → statement M
-read-fused-spec =
+pub read_fused_spec : {M : Type 1} → statement M
+read_fused_spec =
     tie.close
     (tie.spec
     (λ c. search rules) (λ c κs. search rules) (λ c κs. search rules)
-    (λ c. simp (c.before.before.before.before.found.given.1, ← c.before.before.last-register.ensures, ← c.before.above.ensures, c.if1.true))
+    (λ c. simp (c.in-Op.is, ← c.last_register.ensures, ← c.above.ensures, c.if-above.true))
     (λ c κs. search rules) (λ c κs. search rules) (λ c κs. search rules) (λ c κs. search rules) (λ c. search rules)
-    (λ c. simp (c.before.before.before.before.before.before.before.before.found.given.1, ← c.before.before.before.before.before.before.last-register.ensures, ← c.before.before.before.before.before.above.ensures, c.before.before.before.before.if1.false, c.before.before.before.byte.ensures, c.before.before.byte2.ensures, c.before.byte3.ensures, c.byte4.ensures))
-    (λ c. simp c.enum_told.given.1))
+    (λ c. simp (c.in-Op.is, ← c.last_register.ensures, ← c.above.ensures, c.if-above.false, c.byte.ensures, c.byte-in-Op.ensures, c.byte-in-Op-2.ensures, c.byte-in-Op-3.ensures))
+    (λ c. simp c.in-Nothing.is))

@@ -4,13 +4,13 @@ use Rattle.mir.specs.Kinds.{load_from}
 use Rattle.kinds.proofs.read_load.Statement.{statement}
 use Rattle.kinds.proofs.read_load.Tie as tie
 
-pub read-load-spec : {M : Type 1} → statement M
+pub read_load_spec : {M : Type 1} → statement M
 unfolding load_from
-read-load-spec =
+read_load_spec =
     tie.close
     (tie.spec
     (λ c κs. search rules) (λ c κs. search rules)
-    (λ c. simp (← c.before.before.last-register.ensures, ← c.before.above.ensures, c.if1.true))
+    (λ c. simp (← c.last_register.ensures, ← c.above.ensures, c.if-above.true))
     (λ c κs. search rules) (λ c. search rules) (λ c κs. search rules) (λ c. search rules)
-    (λ c. simp (← c.before.before.before.before.before.before.before.last-register.ensures, ← c.before.before.before.before.before.before.above.ensures, c.before.before.before.before.before.if1.false, ← c.before.before.before.before.read-place.ensures, c.before.before.loc.given.1, c.byte.ensures))
-    (λ c. simp (← c.before.before.before.before.before.last-register.ensures, ← c.before.before.before.before.above.ensures, c.before.before.before.if1.false, ← c.before.before.read-place.ensures, c.enum_told.given.1)))
+    (λ c. simp (← c.last_register.ensures, ← c.above.ensures, c.if-above.false, ← c.read_place.ensures, c.in-At.is, c.byte.ensures))
+    (λ c. simp (← c.last_register.ensures, ← c.above.ensures, c.if-above.false, ← c.read_place.ensures, c.in-Bad.is)))

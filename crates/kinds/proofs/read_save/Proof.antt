@@ -4,13 +4,13 @@ use Rattle.mir.specs.Kinds.{save_from}
 use Rattle.kinds.proofs.read_save.Statement.{statement}
 use Rattle.kinds.proofs.read_save.Tie as tie
 
-pub read-save-spec : {M : Type 1} → statement M
+pub read_save_spec : {M : Type 1} → statement M
 unfolding save_from
-read-save-spec =
+read_save_spec =
     tie.close
     (tie.spec
     (λ c κs. search rules) (λ c κs. search rules)
-    (λ c. simp (← c.before.before.last-register.ensures, ← c.before.above.ensures, c.if1.true))
+    (λ c. simp (← c.last_register.ensures, ← c.above.ensures, c.if-above.true))
     (λ c κs. search rules) (λ c. search rules) (λ c κs. search rules) (λ c. search rules)
-    (λ c. simp (← c.before.before.before.before.before.before.before.last-register.ensures, ← c.before.before.before.before.before.before.above.ensures, c.before.before.before.before.before.if1.false, ← c.before.before.before.before.read-save-place.ensures, c.before.before.loc.given.1, c.byte.ensures))
-    (λ c. simp (← c.before.before.before.before.before.last-register.ensures, ← c.before.before.before.before.above.ensures, c.before.before.before.if1.false, ← c.before.before.read-save-place.ensures, c.enum_told.given.1)))
+    (λ c. simp (← c.last_register.ensures, ← c.above.ensures, c.if-above.false, ← c.read_save_place.ensures, c.in-At.is, c.byte.ensures))
+    (λ c. simp (← c.last_register.ensures, ← c.above.ensures, c.if-above.false, ← c.read_save_place.ensures, c.in-Bad.is)))

@@ -4,8 +4,8 @@ use Rattle.words.proofs.Copying.{eight}
 use Rattle.words.proofs.first_word.Statement.{statement}
 use Rattle.words.proofs.first_word.Tie as tie
 
-pub first-word-spec : {M : Type 1} → statement M
-first-word-spec =
+pub first_word_spec : {M : Type 1} → statement M
+first_word_spec =
     tie.close
     (tie.spec
     (λ c κs. search rules) (λ c. search rules) (λ c κs. search rules) (λ c. search rules) (λ c κs. search rules) (λ c. search rules)
@@ -13,4 +13,4 @@ first-word-spec =
     (λ c κs. search rules) (λ c. search rules) (λ c κs. search rules) (λ c. search rules) (λ c. search rules) (λ c. search rules)
     (λ c. search rules) (λ c. search rules) (λ c. search rules) (λ c. search rules) (λ c. search rules) (λ c. search rules)
     (λ c. search rules) (λ c. search rules) (λ c. search rules) (λ c. search rules) (λ c. search rules) (λ c. search rules)
-    (λ c. eight c.before.before.before.before.before.before.before.before.before.args.s.now c.before.before.before.before.before.before.before.byte_at.ensures c.before.before.before.before.before.before.byte-at2.ensures c.before.before.before.before.before.byte-at3.ensures c.before.before.before.before.byte-at4.ensures c.before.before.before.byte-at5.ensures c.before.before.byte-at6.ensures c.before.byte-at7.ensures c.byte-at8.ensures))
+    (λ c. eight c.args.s.now c.byte_at-a.ensures c.byte_at-b.ensures c.byte_at-c.ensures c.byte_at-d.ensures c.byte_at-e.ensures c.byte_at-f.ensures c.byte_at-g.ensures c.byte_at-h.ensures))

@@ -14,5 +14,5 @@ load_spec =
     tie.close
     (tie.spec
     (λ c κs. search rules) (λ c. search rules)
-    (λ c. let a = c.before.before.before.before.before.before.before.args in c.before.before.load-words.ensures ∙ sym (stored_fits a.table.now 0 (words_of a.s.now) (omega (arith, length-words_of a.s.now))))
-    (λ c. let a = c.before.before.before.args in sym (stored_full a.table.now 0 (words_of a.s.now) (omega (arith, length-words_of a.s.now)))))
+    (λ c. let a = c.args in c.load_words.ensures ∙ sym (stored_fits a.table.now 0 (words_of a.s.now) (omega (arith, length-words_of a.s.now))))
+    (λ c. let a = c.args in sym (stored_full a.table.now 0 (words_of a.s.now) (omega (arith, length-words_of a.s.now)))))

@@ -8,10 +8,10 @@ use Rattle.words.proofs.Stored.{stored_fits, stored_full}
 use Rattle.words.proofs.save.Statement.{statement}
 use Rattle.words.proofs.save.Tie as tie
 
-pub save-spec : {M : Type 1} → statement M
-save-spec =
+pub save_spec : {M : Type 1} → statement M
+save_spec =
     tie.close
     (tie.spec
     (λ c κs. search rules) (λ c. search rules)
-    (λ c. let a = c.before.before.before.before.before.before.before.args in c.before.before.save-words.ensures ∙ sym (stored_fits a.out.now 0 (bytes_of a.table.now) (omega (arith, length-bytes_of a.table.now))))
-    (λ c. let a = c.before.before.before.args in sym (stored_full a.out.now 0 (bytes_of a.table.now) (omega (arith, length-bytes_of a.table.now)))))
+    (λ c. let a = c.args in c.save_words.ensures ∙ sym (stored_fits a.out.now 0 (bytes_of a.table.now) (omega (arith, length-bytes_of a.table.now))))
+    (λ c. let a = c.args in sym (stored_full a.out.now 0 (bytes_of a.table.now) (omega (arith, length-bytes_of a.table.now)))))

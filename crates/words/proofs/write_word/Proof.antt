@@ -11,24 +11,24 @@ use Rattle.words.proofs.Copying.{put_turn, put_ended}
 use Rattle.words.proofs.write_word.Statement.{statement}
 use Rattle.words.proofs.write_word.Tie as tie
 
-abbrev invariant-loop : tie.invariant-loop
-invariant-loop out₀ at word rest₀ i₀ out rest i =
+abbrev invariant-loop-i : tie.invariant-loop-i
+invariant-loop-i out₀ at word rest₀ i₀ out rest i =
     (i ≤ 8) × (length out ≡ length out₀) × (sets out (at + i) (bytes (8 - i) rest) ≡ sets out₀ at (bytes 8 word))
 
-abbrev decreases-loop : tie.decreases-loop
-decreases-loop out₀ at word rest₀ i₀ out rest i = 8 - i
+abbrev decreases-loop-i : tie.decreases-loop-i
+decreases-loop-i out₀ at word rest₀ i₀ out rest i = 8 - i
 
-pub write-word-spec : {M : Type 1} → statement M
-write-word-spec =
+pub write_word_spec : {M : Type 1} → statement M
+write_word_spec =
     tie.close
     (tie.spec
-    invariant-loop
-    decreases-loop
+    invariant-loop-i
+    decreases-loop-i
     (λ c. (search rules, search rules, simp add-zero))
     (λ c. search rules) (λ c. search rules) (λ c. search rules) (λ c. search rules) (λ c. search rules)
-    (λ c. let a = c.before.before.args in
-    let l = c.before.loop in
+    (λ c. let a = c.args in
+    let l = c.loop-i in
     (search rules, simp length-set (search rules), sym (put_turn l.out a.at l.i l.rest (omega arith)) ∙ l.invariant.2))
     (λ c. search rules)
-    (λ c. let l = c.before.loop in
-    sym (put_ended l.out c.before.before.args.at l.i l.rest (omega arith)) ∙ l.invariant.2))
+    (λ c. let l = c.loop-i in
+    sym (put_ended l.out c.args.at l.i l.rest (omega arith)) ∙ l.invariant.2))

@@ -31,14 +31,14 @@ module _ (e : ℤ) (small : mag e < 1200) (neg : biased e ≤ 8192) where
   pub minus-nonneg : T (non_neg (read minus))
   minus-nonneg = is_nonneg (read minus) 8192 (biased e) read_is neg
 
-sub-result : tie.Need-overflow-sub-result
+sub-result : tie.Need-overflow_sub-result
 sub-result c = record { sfits = minus-mag c.args.e c.requires.0 c.requires.1 }
 
-cast-result : tie.Need-overflow-cast-result
+cast-result : tie.Need-overflow_cast-result
 cast-result c = (minus-nonneg c.args.e c.requires.0 c.requires.1, record { fits = omega (arith, minus-abs c.args.e c.requires.0 c.requires.1) })
 
 returns : tie.Need-returns
 returns c = minus-abs c.args.e c.requires.0 c.requires.1
 
-pub below-point-spec : {M : Type 1} → statement M
-below-point-spec = tie.close (tie.spec sub-result cast-result returns)
+pub below_point_spec : {M : Type 1} → statement M
+below_point_spec = tie.close (tie.spec sub-result cast-result returns)

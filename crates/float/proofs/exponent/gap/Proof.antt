@@ -35,14 +35,14 @@ module _ (a b : ℤ) (A : mag a < 4096) (B : mag b < 4096) (l : biased b ≤ bia
   pub result : biased a ≡ biased b + nat_abs (read diff)
   result = omega (arith, diff-abs)
 
-sub-result : tie.Need-overflow-sub-result
+sub-result : tie.Need-overflow_sub-result
 sub-result c = record { sfits = diff-mag c.args.a c.args.b c.requires.0 c.requires.1 c.requires.2 }
 
-cast-result : tie.Need-overflow-cast-result
+cast-result : tie.Need-overflow_cast-result
 cast-result c = (diff-nonneg c.args.a c.args.b c.requires.0 c.requires.1 c.requires.2, record { fits = diff-fits c.args.a c.args.b c.requires.0 c.requires.1 c.requires.2 })
 
 returns : tie.Need-returns
 returns c = result c.args.a c.args.b c.requires.0 c.requires.1 c.requires.2
 
-pub gap-spec : {M : Type 1} → statement M
-gap-spec = tie.close (tie.spec sub-result cast-result returns)
+pub gap_spec : {M : Type 1} → statement M
+gap_spec = tie.close (tie.spec sub-result cast-result returns)

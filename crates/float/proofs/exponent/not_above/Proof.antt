@@ -24,5 +24,5 @@ returns c =
     let b = c.args.b in
     mathlib.Core.Path.ap₂ le_z (read_same a (omega (arith, c.requires.0))) (read_same b (omega (arith, c.requires.1))) ∙ order a b c.requires.0 c.requires.1
 
-pub not-above-spec : {M : Type 1} → statement M
-not-above-spec = tie.close (tie.spec returns)
+pub not_above_spec : {M : Type 1} → statement M
+not_above_spec = tie.close (tie.spec returns)

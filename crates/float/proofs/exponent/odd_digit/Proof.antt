@@ -20,7 +20,7 @@ low_digit (negsuc n) h = omega arith
 digit-is : (z : ℤ) → mag z < 8192 → to_z w32 (bit_and (of_z w32 z) 1) ≡ pos (biased z % 2)
 digit-is z h = ap (to_z w32) (and_mask (of_z w32 z) 1 ∙ low_digit z h) ∙ read_same (pos (biased z % 2)) (omega arith)
 
-cast-result : tie.Need-overflow-cast-result
+cast-result : tie.Need-overflow_cast-result
 cast-result c =
     let z = c.args.e in
     let d = digit-is z c.requires in
@@ -29,5 +29,5 @@ cast-result c =
 returns : tie.Need-returns
 returns c = ap nat_abs (digit-is c.args.e c.requires)
 
-pub odd-digit-spec : {M : Type 1} → statement M
-odd-digit-spec = tie.close (tie.spec cast-result returns)
+pub odd_digit_spec : {M : Type 1} → statement M
+odd_digit_spec = tie.close (tie.spec cast-result returns)

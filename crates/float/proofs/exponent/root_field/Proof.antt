@@ -42,14 +42,14 @@ module _ (e : ℤ) (small : mag e < 1200) where
   pub sum_fits : nat_abs (read sum) < 2 ^ 64
   sum_fits = omega (arith, sum-abs, range.1)
 
-add-result : tie.Need-overflow-add-result
+add-result : tie.Need-overflow_add-result
 add-result c = record { sfits = sum-mag c.args.e c.requires }
 
-cast-result : tie.Need-overflow-cast-result
+cast-result : tie.Need-overflow_cast-result
 cast-result c = (sum_nonneg c.args.e c.requires, record { fits = sum_fits c.args.e c.requires })
 
 returns : tie.Need-returns
 returns c = sum-abs c.args.e c.requires
 
-pub root-field-spec : {M : Type 1} → statement M
-root-field-spec = tie.close (tie.spec add-result cast-result returns)
+pub root_field_spec : {M : Type 1} → statement M
+root_field_spec = tie.close (tie.spec add-result cast-result returns)

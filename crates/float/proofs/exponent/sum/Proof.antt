@@ -32,11 +32,11 @@ module _ (a b : ℤ) (A : mag a < 4096) (B : mag b < 4096) where
       let q = range_of b 4096 B (omega arith) in
       (omega (arith, is_bias (read total) (biased a + biased b) (8192 + 8192) i (omega (arith, p.0, q.0)), p.0, q.0), near (read total) i)
 
-add-result : tie.Need-overflow-add-result
+add-result : tie.Need-overflow_add-result
 add-result c = record { sfits = fits c.args.a c.args.b c.requires.0 c.requires.1 }
 
 returns : tie.Need-returns
 returns c = result c.args.a c.args.b c.requires.0 c.requires.1
 
-pub sum-spec : {M : Type 1} → statement M
-sum-spec = tie.close (tie.spec add-result returns)
+pub sum_spec : {M : Type 1} → statement M
+sum_spec = tie.close (tie.spec add-result returns)

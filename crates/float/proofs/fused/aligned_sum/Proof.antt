@@ -31,24 +31,24 @@ moved s t a b m d x y A B X Y near e =
     ∙ pow_sum s t a m x (omega (arith, X))
     ∙ aligned_scaled s t a b m (biased x) (biased y) d A B near (omega (arith, e, ap biased (same x 4000 X (omega arith)), ap biased (same y 4000 Y (omega arith))))
 
-pub aligned-sum-spec : {M : Type 1} → statement M
-aligned-sum-spec =
+pub aligned_sum_spec : {M : Type 1} → statement M
+aligned_sum_spec =
     tie.close
     (tie.spec
     (λ c κs.
     let x = same c.args.ea 4000 c.requires.2 (omega arith) in
     let y = same c.args.eb 4000 c.requires.3 (omega arith) in
     (handed c.args.ea 4096 (omega (arith, c.requires.2)) (omega arith), handed c.args.eb 4096 (omega (arith, c.requires.3)) (omega arith), omega (arith, c.requires.4, ap biased x, ap biased y)))
-    (λ c κs. lt_of_lt_of_le (pow_pos 125) c.before.requires.1.lo)
+    (λ c κs. lt_of_lt_of_le (pow_pos 125) c.requires.1.lo)
     (λ c κs.
     let s = c.before.before in
     let a = s.args.a in
     let b = s.args.b in
     let w = c.jam_wide.result in
-    (lt_of_lt_of_le (pow_pos 125) s.requires.0.lo, upper a.hi a.lo s.requires.0.hi, jammed (both b.hi b.lo) w.hi w.lo c.before.gap.result s.requires.1.hi c.jam_wide.ensures, handed s.args.ea 4000 s.requires.2 (omega arith)))
+    (lt_of_lt_of_le (pow_pos 125) s.requires.0.lo, upper a.hi a.lo s.requires.0.hi, jammed (both b.hi b.lo) w.hi w.lo c.gap.result s.requires.1.hi c.jam_wide.ensures, handed s.args.ea 4000 s.requires.2 (omega arith)))
     (λ c.
     let s = c.before.before.before in
     let x = s.args in
-    let w = c.before.jam_wide.result in
-    c.signed-sum.ensures
-    ∙ ap (to_bits binary64) (moved x.s x.t (both x.a.hi x.a.lo) (both x.b.hi x.b.lo) (both w.hi w.lo) c.before.before.gap.result x.ea x.eb s.requires.0 s.requires.1 s.requires.2 s.requires.3 c.before.jam_wide.ensures c.before.before.gap.ensures)))
+    let w = c.jam_wide.result in
+    c.signed_sum.ensures
+    ∙ ap (to_bits binary64) (moved x.s x.t (both x.a.hi x.a.lo) (both x.b.hi x.b.lo) (both w.hi w.lo) c.gap.result x.ea x.eb s.requires.0 s.requires.1 s.requires.2 s.requires.3 c.jam_wide.ensures c.gap.ensures)))

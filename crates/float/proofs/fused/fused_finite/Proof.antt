@@ -21,7 +21,7 @@ module _ (s : tie.Start) where
   fused = fused_multiply_add binary64 (value s.args.a) (value s.args.b) (value s.args.c)
 
   is_number : is_nan fused ≡ false
-  is_number = fused-number s.args.a s.args.b s.args.c s.pre.0 s.pre.1 s.pre.2
+  is_number = fused-number s.args.a s.args.b s.args.c s.requires.0 s.requires.1 s.requires.2
 
   -- a result whose value is the sum
   by_value : {x : Float} {r : ℕ} → r ≡ to_bits binary64 x → fused ≡ x → r ≡ mul_add s.args.a s.args.b s.args.c
@@ -32,14 +32,14 @@ module _ (s : tie.Start) where
   by_word a b {x} e same = by_value (e ∙ sym (number_word (a ∷ b ∷ []) x (ap is_nan (sym same) ∙ is_number))) same
 
 -- a or b is zero
-Either : (j : tie.Joined1) → (j.before.before.args.a % 2 ^ 63 ≡ 0) ⊎ (j.before.before.args.b % 2 ^ 63 ≡ 0)
-Either j = elim j.if1.branch [
-  | inl y ↦ inl (sym j.before.abs.ensures ∙ y.taken)
+either : (j : tie.Joined-then-abs-eq0) → (j.args.a % 2 ^ 63 ≡ 0) ⊎ (j.args.b % 2 ^ 63 ≡ 0)
+either j = elim j.then-abs-eq0.branch [
+  | inl y ↦ inl (sym j.abs.ensures ∙ y.taken)
   | inr z ↦ inr (sym z.1.ensures ∙ eqb-true z.1.result 0 z.2.taken)
 ]
 
-pub fused-finite-spec : {M : Type 1} → statement M
-fused-finite-spec =
+pub fused_finite_spec : {M : Type 1} → statement M
+fused_finite_spec =
     tie.close
     (tie.spec
     (λ c κs. tt)
@@ -52,31 +52,31 @@ fused-finite-spec =
     let j = c.before.before.before.before in
     let s = j.before.before in
     let a = s.args in
-    let x = c.before.xor in
+    let x = c.xor in
     by_word s x.result a.c c.plus.ensures
-    (sym (zero_words a.a a.b a.c x.result s.ranges.a.fits s.ranges.b.fits s.requires.0 s.requires.1 s.requires.2 (Either j)
-    (x.ensures ∙ ap₂ bit_xor c.before.before.before.sign.ensures c.before.before.sign2.ensures))))
+    (sym (zero_words a.a a.b a.c x.result s.ranges.a.fits s.ranges.b.fits s.requires.0 s.requires.1 s.requires.2 (either j)
+    (x.ensures ∙ ap₂ bit_xor c.sign.ensures c.sign-then-abs-eq0.ensures))))
     (λ c κs. search rules)
     (λ c κs.
     let d = c.before in
-    (omega (arith, d.before.abs2.ensures, eqb-false d.before.abs2.result 0 d.if2.false), d.before.before.before.before.requires.1))
+    (omega (arith, d.abs-else-abs-eq0.ensures, eqb-false d.abs-else-abs-eq0.result 0 d.if-abs-eq0-2.false), d.requires.1))
     (λ c κs. tt)
     (λ c κs. search rules)
     (λ c.
     let t = c.before in
     let s = t.before.before.before.before.before.before.before.before in
     let a = s.args in
-    let u = t.before.before.before.unpack in
-    let v = t.before.before.unpack2 in
-    by_value s c.rounded-product.ensures
-    (unpacked_product a.a a.b a.c u.result.neg v.result.neg u.result.m v.result.m u.result.e v.result.e u.ensures v.ensures (sym t.before.abs3.ensures ∙ t.if3.true)))
+    let u = t.unpack-x in
+    let v = t.unpack-y in
+    by_value s c.rounded_product.ensures
+    (unpacked_product a.a a.b a.c u.result.neg v.result.neg u.result.m v.result.m u.result.e v.result.e u.ensures v.ensures (sym t.abs-2.ensures ∙ t.if-abs-eq0-3.true)))
     (λ c κs. search rules)
     (λ c κs. search rules)
     (λ c.
     let s = c.before.before.before.before.before.before.before.before.before.before in
     let a = s.args in
-    let u = c.before.before.before.before.before.unpack in
-    let v = c.before.before.before.before.unpack2 in
-    let w = c.before.unpack3 in
-    by_value s c.fused-parts.ensures
+    let u = c.unpack-x in
+    let v = c.unpack-y in
+    let w = c.unpack-z in
+    by_value s c.fused_parts.ensures
     (unpacked_sum a.a a.b a.c u.result.neg v.result.neg w.result.neg u.result.m v.result.m w.result.m u.result.e v.result.e w.result.e u.ensures v.ensures w.ensures)))

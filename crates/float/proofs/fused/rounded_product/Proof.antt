@@ -40,8 +40,8 @@ module _ (m n : ℕ) (x y g : ℤ) (X : Normalized m x) (Y : Normalized n y) (is
       ∙ round_same binary64 s (v * 2 ^ biased g) (2 ^ 8192) (v * 2 ^ (biased x + biased y)) (2 ^ 16384) (pow_pos 8192) (pow_pos 16384)
       (shifts v (biased g) 16384 ∙ ap (λ (i : ℕ). v * 2 ^ i) {x = biased g + 16384} {y = biased x + biased y + 8192} (omega (arith, sum_is)) ∙ sym (shifts v (biased x + biased y) 8192))
 
-pub rounded-product-spec : {M : Type 1} → statement M
-rounded-product-spec =
+pub rounded_product_spec : {M : Type 1} → statement M
+rounded_product_spec =
     tie.close
     (tie.spec
     (λ c κs. tt)
@@ -52,11 +52,11 @@ rounded-product-spec =
     let s = c.before.before.before.before.before.before in
     let x = s.args.x in
     let y = s.args.y in
-    (subst (λ (p : ℕ). 0 < p) (sym c.before.before.before.product.ensures) (positive x.m y.m x.e y.e c.sum.result s.requires.0 s.requires.1 c.sum.ensures.0), handed c.sum.result 4000 (sum-mag x.m y.m x.e y.e c.sum.result s.requires.0 s.requires.1 c.sum.ensures.0) (omega arith)))
+    (subst (λ (p : ℕ). 0 < p) (sym c.product.ensures) (positive x.m y.m x.e y.e c.sum.result s.requires.0 s.requires.1 c.sum.ensures.0), handed c.sum.result 4000 (sum-mag x.m y.m x.e y.e c.sum.result s.requires.0 s.requires.1 c.sum.ensures.0) (omega arith)))
     (λ c.
     let s = c.before.before.before.before.before.before.before in
     let x = s.args.x in
     let y = s.args.y in
-    let p = c.before.before.before.before.product in
-    let g = c.before.sum in
-    c.round-wide.ensures ∙ ap (to_bits binary64) (rounded x.m y.m x.e y.e g.result s.requires.0 s.requires.1 g.ensures.0 (unlike x.neg y.neg) (both p.result.hi p.result.lo) p.ensures)))
+    let p = c.product in
+    let g = c.sum in
+    c.round_wide.ensures ∙ ap (to_bits binary64) (rounded x.m y.m x.e y.e g.result s.requires.0 s.requires.1 g.ensures.0 (unlike x.neg y.neg) (both p.result.hi p.result.lo) p.ensures)))

@@ -10,19 +10,19 @@ use Rattle.float.proofs.Closest.{closest_exact, closest_none}
 use Rattle.float.proofs.integral.nearest_whole.Statement.{statement}
 use Rattle.float.proofs.integral.nearest_whole.Tie as tie
 
-returns : tie.Need-returns
+returns : tie.Need-returns-then-t-eq0
 returns c =
-    let m = c.before.args.m in
-    sym (ap (λ (t : ℕ). closest m (2 ^ t)) c.if1.true ∙ ap (λ (x : ℕ). closest x 1) (sym (mul-one m)) ∙ closest_exact m 1 (lit< tt))
+    let m = c.args.m in
+    sym (ap (λ (t : ℕ). closest m (2 ^ t)) c.if-t-eq0.true ∙ ap (λ (x : ℕ). closest x 1) (sym (mul-one m)) ∙ closest_exact m 1 (lit< tt))
 
-returns-2 : tie.Need-returns-2
-returns-2 c = let s = c.before.before in sym (closest_none s.args.m s.args.t (omega (arith, s.requires)) c.if2.true)
+returns-2 : tie.Need-returns-then-t-gt63
+returns-2 c = let s = c.before.before in sym (closest_none s.args.m s.args.t (omega (arith, s.requires)) c.if-t-gt63.true)
 
 nearest-requires : tie.Need-nearest-requires
 nearest-requires c κs = search rules
 
-returns-3 : tie.Need-returns-3
+returns-3 : tie.Need-returns
 returns-3 c = c.nearest.ensures
 
-pub nearest-whole-spec : {M : Type 1} → statement M
-nearest-whole-spec = tie.close (tie.spec returns returns-2 nearest-requires returns-3)
+pub nearest_whole_spec : {M : Type 1} → statement M
+nearest_whole_spec = tie.close (tie.spec returns returns-2 nearest-requires returns-3)

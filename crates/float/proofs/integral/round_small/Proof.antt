@@ -33,41 +33,41 @@ module _ (a : ℕ) (neg : Bool) (m : ℕ) (e : ℤ) (t : Unpacked a neg m e) (lo
   pub whole_le : (d : Direction) (k : ℕ) → whole d neg m (2 ^ k) ≤ 2 ^ 53
   whole_le d k = let h = t.hi in omega (arith, h, whole_most d neg m (2 ^ k), div-le_self m (2 ^ k))
 
-unpack-requires : tie.Need-unpack-requires
+unpack-requires : tie.Need-unpack-p-requires
 unpack-requires c κs = search rules
 
-below-point-requires : tie.Need-below-point-requires
+below-point-requires : tie.Need-below_point-requires
 below-point-requires c κs =
-    let u = c.before.unpack in
+    let u = c.unpack-p in
     let s = c.before.before in
     let r = sym (same s.args.a u.result.neg u.result.m u.result.e u.ensures s.requires.1) in
     (subst (λ (z : ℤ). mag z < 1200) r u.ensures.small, subst (λ (z : ℤ). biased z ≤ 8192) r (under s.args.a u.result.neg u.result.m u.result.e u.ensures s.requires.1))
 
 whole-requires : tie.Need-whole-requires
 whole-requires c κs =
-    let u = c.before.before.unpack.ensures in
+    let u = c.unpack-p.ensures in
     (let h = u.lo in omega (arith, h), u.hi)
 
-whole-word-requires : tie.Need-whole-word-requires
+whole-word-requires : tie.Need-whole_word-requires
 whole-word-requires c κs =
-    let u = c.before.before.before.unpack in
+    let u = c.unpack-p in
     let s = c.before.before.before.before in
-    omega (arith, c.whole.ensures, whole_le s.args.a u.result.neg u.result.m u.result.e u.ensures s.requires.1 s.args.d c.before.below-point.result)
+    omega (arith, c.whole.ensures, whole_le s.args.a u.result.neg u.result.m u.result.e u.ensures s.requires.1 s.args.d c.below_point.result)
 
 returns : tie.Need-returns
 returns c =
     let s = c.before.before.before.before.before in
-    let u = c.before.before.before.before.unpack in
+    let u = c.unpack-p in
     let p = u.result in
-    let k = c.before.before.below-point in
+    let k = c.below_point in
     c.whole_word.ensures
-    ∙ ap (λ (n : ℕ). to_bits binary64 (round binary64 p.neg n 1)) c.before.whole.ensures
+    ∙ ap (λ (n : ℕ). to_bits binary64 (round binary64 p.neg n 1)) c.whole.ensures
     ∙ sym (ap (to_bits binary64) (small_word s.args.d s.args.a p.neg p.m p.e k.result u.ensures.value
     (point s.args.a p.neg p.m p.e u.ensures s.requires.1 k.result k.ensures)))
     ∙ number_rounded s.args.d s.args.a (let h = s.requires.1 in omega (arith, h))
 
-pub round-small-spec : {M : Type 1} → statement M
-round-small-spec =
+pub round_small_spec : {M : Type 1} → statement M
+round_small_spec =
     tie.close
     (tie.spec
     unpack-requires

@@ -10,8 +10,8 @@ turned : (s : Bool) (n k : ℕ) → cond (not s) n k ≡ cond s k n
 turned true n k = refl
 turned false n k = refl
 
-pub whole-spec : {M : Type 1} → statement M
-whole-spec =
+pub whole_spec : {M : Type 1} → statement M
+whole_spec =
     tie.close
     (tie.spec
     (λ c. search rules)
@@ -22,7 +22,7 @@ whole-spec =
     (λ c κs. search rules)
     (λ c. search rules)
     (λ c κs. search rules)
-    (λ c. simp c.before.enum_told.given.1 c.nearest-whole.ensures)
-    (λ c. simp c.before.enum-told2.given.1 c.directed.ensures)
-    (λ c. simp c.before.enum-told3.given.1 (c.directed2.ensures ∙ turned c.before.before.before.args.neg _ _))
-    (λ c. simp c.before.enum-told4.given.1 c.directed3.ensures))
+    (λ c. simp c.in-TiesToEven.is c.nearest_whole.ensures)
+    (λ c. simp c.in-TowardNegative.is c.directed.ensures)
+    (λ c. simp c.in-TowardPositive.is (c.directed-in-TowardPositive.ensures ∙ turned c.args.neg _ _))
+    (λ c. simp c.in-TowardZero.is c.directed-in-TowardZero.ensures))

@@ -69,46 +69,46 @@ module _ (n : ℕ) (p : 0 < n) (h : n ≤ 2 ^ 53) where
       ∙ mul_assoc n (2 ^ shift) (up z)
       ∙ ap (λ (x : ℕ). n * x) (mul_comm (2 ^ shift) (up z) ∙ is_pow z 0 shift read_is ∙ one-mul (down z)))
 
-sign-bit-requires : tie.Need-sign-bit-requires
+sign-bit-requires : tie.Need-sign_bit-requires
 sign-bit-requires c κs = search rules
 
-returns : tie.Need-returns
+returns : tie.Need-returns-then-n-eq0
 returns c =
-    let a = c.before.before.args in
-    c.sign_bit.ensures ∙ zero_word a.neg ∙ ap (λ (n : ℕ). to_bits binary64 (round binary64 a.neg n 1)) (sym c.before.if1.true)
+    let a = c.args in
+    c.sign_bit.ensures ∙ zero_word a.neg ∙ ap (λ (n : ℕ). to_bits binary64 (round binary64 a.neg n 1)) (sym c.if-n-eq0.true)
 
 some : (n : ℕ) → (n ≡ 0 → ⊥) → 0 < n
 some n h = omega (arith, h)
 
-sub-z : tie.Need-overflow-sub-z
-sub-z c = let s = c.before in omega (arith, (found s.args.n (some s.args.n c.if1.false) s.requires).1)
+sub-z : tie.Need-overflow_sub-z
+sub-z c = let s = c.before in omega (arith, (found s.args.n (some s.args.n c.if-n-eq0.false) s.requires).1)
 
-cast-pack : tie.Need-overflow-cast-pack
-cast-pack c = let s = c.before in record { fits = omega (arith, shift_le s.args.n (some s.args.n c.if1.false) s.requires) }
+cast-pack : tie.Need-overflow_cast-z
+cast-pack c = let s = c.before in record { fits = omega (arith, shift_le s.args.n (some s.args.n c.if-n-eq0.false) s.requires) }
 
-shl-pack : tie.Need-overflow-shl-pack
-shl-pack c = let s = c.before in omega (arith, shift_le s.args.n (some s.args.n c.if1.false) s.requires)
+shl-pack : tie.Need-overflow_shl-n
+shl-pack c = let s = c.before in omega (arith, shift_le s.args.n (some s.args.n c.if-n-eq0.false) s.requires)
 
-cast-pack-2 : tie.Need-overflow-cast-pack-2
-cast-pack-2 c = let s = c.before in record { sfits = omega (arith, shift_le s.args.n (some s.args.n c.if1.false) s.requires) }
+cast-pack-2 : tie.Need-overflow_cast-z-2
+cast-pack-2 c = let s = c.before in record { sfits = omega (arith, shift_le s.args.n (some s.args.n c.if-n-eq0.false) s.requires) }
 
-sub-pack : tie.Need-overflow-sub-pack
-sub-pack c = let s = c.before in record { sfits = omega (arith, exponent-mag s.args.n (some s.args.n c.if1.false) s.requires) }
+sub-pack : tie.Need-overflow_sub-z-2
+sub-pack c = let s = c.before in record { sfits = omega (arith, exponent-mag s.args.n (some s.args.n c.if-n-eq0.false) s.requires) }
 
 pack-requires : tie.Need-pack-requires
 pack-requires c κs =
     let s = c.before in
     let n = s.args.n in
-    let p = some n c.if1.false in
+    let p = some n c.if-n-eq0.false in
     (word-lo n p s.requires, word-hi n p s.requires, is_mag (read (exponent n p s.requires)) 0 (shift n p s.requires) 8192 (read_is n p s.requires) (omega arith) (omega (arith, shift_le n p s.requires)))
 
-returns-2 : tie.Need-returns-2
+returns-2 : tie.Need-returns
 returns-2 c =
     let s = c.before.before in
     let n = s.args.n in
-    c.pack.ensures ∙ ap (to_bits binary64) (same-value n (some n c.before.if1.false) s.requires s.args.neg)
+    c.pack.ensures ∙ ap (to_bits binary64) (same-value n (some n c.if-n-eq0.false) s.requires s.args.neg)
 
-pub whole-word-spec : {M : Type 1} → statement M
-whole-word-spec =
+pub whole_word_spec : {M : Type 1} → statement M
+whole_word_spec =
     tie.close
     (tie.spec sign-bit-requires returns sub-z cast-pack shl-pack cast-pack-2 sub-pack pack-requires returns-2)

@@ -11,13 +11,13 @@ use Rattle.float.proofs.pack.low_digits.Tie as tie
 pow2-requires : tie.Need-pow2-requires
 pow2-requires c κs = search rules
 
-sub-result : tie.Need-overflow-sub-result
-sub-result c = omega (arith, pow_pos c.before.args.t, c.pow2.ensures)
+sub-result : tie.Need-overflow_sub-result
+sub-result c = omega (arith, pow_pos c.args.t, c.pow2.ensures)
 
 returns : tie.Need-returns
 returns c =
-    let a = c.before.args in
+    let a = c.args in
     ap (λ (x : ℕ). bit_and a.w (x - 1)) c.pow2.ensures ∙ and_mask a.w a.t
 
-pub low-digits-spec : {M : Type 1} → statement M
-low-digits-spec = tie.close (tie.spec pow2-requires sub-result returns)
+pub low_digits_spec : {M : Type 1} → statement M
+low_digits_spec = tie.close (tie.spec pow2-requires sub-result returns)

@@ -88,108 +88,108 @@ word : (neg : Bool) (w : ℕ) (e : ℤ) → 2 ^ 62 ≤ w → w < 2 ^ 63 → mag 
     → to_bits binary64 (round binary64 neg (w * up e) (down e)) ≡ signed neg (min ((biased e + 1084 - 8192) * 2 ^ 52 + closest w (2 ^ (10 + (8192 - (biased e + 1084))))) infinite)
 word neg w e lo hi small = ap (to_bits binary64) (round_pow neg w e (biased e) 8192 (is_biased e small)) ∙ round-word w (biased e) 8192 lo hi neg
 
-sign-bit-requires : tie.Need-sign-bit-requires
+sign-bit-requires : tie.Need-sign_bit-s-requires
 sign-bit-requires c κs = search rules
 
-add-result : tie.Need-overflow-add-result
-add-result c = omega (arith, sign_le c.before.before.args.neg, c.before.sign_bit.ensures)
+add-result : tie.Need-overflow_add-result
+add-result c = omega (arith, sign_le c.args.neg, c.sign_bit-s.ensures)
 
-returns : tie.Need-returns
+returns : tie.Need-returns-then-e-gt961
 returns c =
     let s = c.before.before in
     let a = s.args in
-    let l = large a.e s.requires.2 c.if1.true in
-    ap (λ (x : ℕ). x + infinite) c.before.sign_bit.ensures
+    let l = large a.e s.requires.2 c.if-e-gt961.true in
+    ap (λ (x : ℕ). x + infinite) c.sign_bit-s.ensures
     ∙ sym (word a.neg a.w a.e s.requires.0 s.requires.1 s.requires.2 ∙ ap (signed a.neg) (too_large a.w (biased a.e) s.requires.0 s.requires.1 l))
 
-returns-2 : tie.Need-returns-2
+returns-2 : tie.Need-returns-then-e-ltminus1137
 returns-2 c =
     let s = c.before.before.before in
     let a = s.args in
-    let l = low a.e s.requires.2 c.if2.true in
-    c.before.before.sign_bit.ensures
+    let l = low a.e s.requires.2 c.if-e-ltminus1137.true in
+    c.sign_bit-s.ensures
     ∙ sym (word a.neg a.w a.e s.requires.0 s.requires.1 s.requires.2 ∙ ap (signed a.neg) (too_small a.w (biased a.e) s.requires.0 s.requires.1 l) ∙ add-zero (cond a.neg (2 ^ 63) 0))
 
-sub-nearest : tie.Need-overflow-sub-nearest
+sub-nearest : tie.Need-overflow_sub-e
 sub-nearest c = let s = c.before.before.before.before in record { sfits = gap-mag s.args.e s.requires.2 }
 
-cast-nearest : tie.Need-overflow-cast-nearest
+cast-nearest : tie.Need-overflow_cast-e
 cast-nearest c =
     let s = c.before.before.before.before in
-    let h = sub_low s.args.e s.requires.2 c.if3.true in
+    let h = sub_low s.args.e s.requires.2 c.if-e-ltminus1084.true in
     (gap-nonneg s.args.e s.requires.2 (omega (arith, h)), record { fits = omega (arith, gap-abs s.args.e s.requires.2 (omega (arith, h))) })
 
 nearest-requires : tie.Need-nearest-requires
 nearest-requires c κs =
     let s = c.before.before.before.before in
-    let h = sub_low s.args.e s.requires.2 c.if3.true in
-    let g = not_low s.args.e s.requires.2 c.before.if2.false in
+    let h = sub_low s.args.e s.requires.2 c.if-e-ltminus1084.true in
+    let g = not_low s.args.e s.requires.2 c.if-e-ltminus1137.false in
     let t = gap-abs s.args.e s.requires.2 (omega (arith, h)) in
     (s.requires.1, omega (arith, t, h), omega (arith, t, g))
 
-add-result-2 : tie.Need-overflow-add-result-2
+add-result-2 : tie.Need-overflow_add-result-then-e-ltminus1084
 add-result-2 c =
     let s = c.before.before.before.before.before in
-    let h = sub_low s.args.e s.requires.2 c.before.if3.true in
+    let h = sub_low s.args.e s.requires.2 c.if-e-ltminus1084.true in
     let t = gap-abs s.args.e s.requires.2 (omega (arith, h)) in
     let q = kept-le s.args.w (biased s.args.e) s.requires.0 s.requires.1 (nat_abs (read (gap s.args.e s.requires.2))) (omega (arith, t, h)) in
-    omega (arith, q, c.nearest.ensures, sign_le s.args.neg, c.before.before.before.before.sign_bit.ensures)
+    omega (arith, q, c.nearest.ensures, sign_le s.args.neg, c.sign_bit-s.ensures)
 
-returns-3 : tie.Need-returns-3
+returns-3 : tie.Need-returns-then-e-ltminus1084
 returns-3 c =
     let s = c.before.before.before.before.before in
     let a = s.args in
-    let h = sub_low a.e s.requires.2 c.before.if3.true in
+    let h = sub_low a.e s.requires.2 c.if-e-ltminus1084.true in
     let t = gap-abs a.e s.requires.2 (omega (arith, h)) in
-    ap₂ (λ (x y : ℕ). x + y) c.before.before.before.before.sign_bit.ensures c.nearest.ensures
+    ap₂ (λ (x y : ℕ). x + y) c.sign_bit-s.ensures c.nearest.ensures
     ∙ sym (word a.neg a.w a.e s.requires.0 s.requires.1 s.requires.2 ∙ ap (signed a.neg) (subnormal a.w (biased a.e) s.requires.0 s.requires.1 (nat_abs (read (gap a.e s.requires.2))) h t))
 
-add-result-3 : tie.Need-overflow-add-result-3
+add-result-3 : tie.Need-overflow_add-result-2
 add-result-3 c = let s = c.before.before.before.before in record { sfits = rise-mag s.args.e s.requires.2 }
 
-cast-result : tie.Need-overflow-cast-result
+cast-result : tie.Need-overflow_cast-result
 cast-result c =
     let s = c.before.before.before.before in
-    let h = not-sub s.args.e s.requires.2 c.if3.false in
-    let g = not-large s.args.e s.requires.2 c.before.before.if1.false in
+    let h = not-sub s.args.e s.requires.2 c.if-e-ltminus1084.false in
+    let g = not-large s.args.e s.requires.2 c.if-e-gt961.false in
     (rise-nonneg s.args.e s.requires.2 h, record { fits = omega (arith, rise-abs s.args.e s.requires.2 h, g) })
 
 -- the exponent's field
 field : (e : ℤ) (small : mag e < 8192) → 7108 ≤ biased e → biased e ≤ 9153 → nat_abs (read (rise e small)) * 2 ^ 52 % 2 ^ 64 ≡ (biased e - 7108) * 2 ^ 52
 field e small h g = ap (λ (k : ℕ). k * 2 ^ 52 % 2 ^ 64) (rise-abs e small h) ∙ mod-eq_of_lt (omega arith)
 
-add-result-4 : tie.Need-overflow-add-result-4
+add-result-4 : tie.Need-overflow_add-result-3
 add-result-4 c =
     let s = c.before.before.before.before in
-    let h = not-sub s.args.e s.requires.2 c.if3.false in
-    let g = not-large s.args.e s.requires.2 c.before.before.if1.false in
-    omega (arith, field s.args.e s.requires.2 h g, g, sign_le s.args.neg, c.before.before.before.sign_bit.ensures)
+    let h = not-sub s.args.e s.requires.2 c.if-e-ltminus1084.false in
+    let g = not-large s.args.e s.requires.2 c.if-e-gt961.false in
+    omega (arith, field s.args.e s.requires.2 h g, g, sign_le s.args.neg, c.sign_bit-s.ensures)
 
 nearest-requires-2 : tie.Need-nearest-requires-2
 nearest-requires-2 c κs = search rules
 
-add-result-5 : tie.Need-overflow-add-result-5
+add-result-5 : tie.Need-overflow_add-result-4
 add-result-5 c =
     let s = c.before.before.before.before.before in
     let a = s.args in
-    let h = not-sub a.e s.requires.2 c.before.if3.false in
-    let g = not-large a.e s.requires.2 c.before.before.before.if1.false in
+    let h = not-sub a.e s.requires.2 c.if-e-ltminus1084.false in
+    let g = not-large a.e s.requires.2 c.if-e-gt961.false in
     let n = normal a.w (biased a.e) s.requires.0 s.requires.1 (biased a.e - 7108) g h refl in
-    omega (arith, field a.e s.requires.2 h g, n.0, c.nearest2.ensures, sign_le a.neg, c.before.before.before.before.sign_bit.ensures)
+    omega (arith, field a.e s.requires.2 h g, n.0, c.nearest-2.ensures, sign_le a.neg, c.sign_bit-s.ensures)
 
-returns-4 : tie.Need-returns-4
+returns-4 : tie.Need-returns
 returns-4 c =
     let s = c.before.before.before.before.before in
     let a = s.args in
-    let h = not-sub a.e s.requires.2 c.before.if3.false in
-    let g = not-large a.e s.requires.2 c.before.before.before.if1.false in
+    let h = not-sub a.e s.requires.2 c.if-e-ltminus1084.false in
+    let g = not-large a.e s.requires.2 c.if-e-gt961.false in
     let n = normal a.w (biased a.e) s.requires.0 s.requires.1 (biased a.e - 7108) g h refl in
-    ap₂ (λ (x y : ℕ). x + y) (ap₂ (λ (x y : ℕ). x + y) c.before.before.before.before.sign_bit.ensures (field a.e s.requires.2 h g)) c.nearest2.ensures
+    ap₂ (λ (x y : ℕ). x + y) (ap₂ (λ (x y : ℕ). x + y) c.sign_bit-s.ensures (field a.e s.requires.2 h g)) c.nearest-2.ensures
     ∙ add_assoc (cond a.neg (2 ^ 63) 0) ((biased a.e - 7108) * 2 ^ 52) (closest a.w (2 ^ 10))
     ∙ sym (word a.neg a.w a.e s.requires.0 s.requires.1 s.requires.2 ∙ ap (signed a.neg) n.1)
 
-pub pack-spec : {M : Type 1} → statement M
-pack-spec =
+pub pack_spec : {M : Type 1} → statement M
+pack_spec =
     tie.close
     (tie.spec
     sign-bit-requires

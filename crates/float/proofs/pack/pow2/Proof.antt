@@ -7,11 +7,11 @@ use lib.Pow.{pow-lt}
 use Rattle.float.proofs.pack.pow2.Statement.{statement}
 use Rattle.float.proofs.pack.pow2.Tie as tie
 
-shl-result : tie.Need-overflow-shl-result
+shl-result : tie.Need-overflow_shl-result
 shl-result c = search rules
 
 returns : tie.Need-returns
 returns c = ap (λ (x : ℕ). x % 2 ^ 64) (one-mul (2 ^ c.args.t)) ∙ mod-eq_of_lt (pow-lt c.requires)
 
-pub pow2-spec : {M : Type 1} → statement M
-pow2-spec = tie.close (tie.spec shl-result returns)
+pub pow2_spec : {M : Type 1} → statement M
+pow2_spec = tie.close (tie.spec shl-result returns)

@@ -71,23 +71,23 @@ module _ (a : ℕ) (fine : Fine a) (z0 : expo a ≡ 0) where
       (subst (λ (x : ℕ). 2 ^ 52 ≤ x * 2 ^ shift) f lo) (subst (λ (x : ℕ). x * 2 ^ shift < 2 ^ 53) f hi)
       (is_read exponent 0 (1074 + shift) exponent-mag exponent-is))
 
-sub-z : tie.Need-overflow-sub-z
-sub-z c = omega (arith, (up_by c.before.args.a c.before.requires c.if1.true).1)
+sub-z : tie.Need-overflow_sub-z
+sub-z c = omega (arith, (up_by c.args.a c.requires c.if-x-eq0.true).1)
 
-cast-t10 : tie.Need-overflow-cast-t10
-cast-t10 c = let a = c.before.args.a in let u = up_by a c.before.requires c.if1.true in record { fits = omega (arith, u.1, u.2) }
+cast-t10 : tie.Need-overflow_cast-result
+cast-t10 c = let a = c.args.a in let u = up_by a c.requires c.if-x-eq0.true in record { fits = omega (arith, u.1, u.2) }
 
-shl-t11 : tie.Need-overflow-shl-t11
-shl-t11 c = let a = c.before.args.a in let u = up_by a c.before.requires c.if1.true in omega (arith, u.1, u.2)
+shl-t11 : tie.Need-overflow_shl-result
+shl-t11 c = let a = c.args.a in let u = up_by a c.requires c.if-x-eq0.true in omega (arith, u.1, u.2)
 
-cast-t12 : tie.Need-overflow-cast-t12
-cast-t12 c = let a = c.before.args.a in let u = up_by a c.before.requires c.if1.true in record { sfits = omega (arith, u.1, u.2) }
+cast-t12 : tie.Need-overflow_cast-result-then-x-eq0
+cast-t12 c = let a = c.args.a in let u = up_by a c.requires c.if-x-eq0.true in record { sfits = omega (arith, u.1, u.2) }
 
-sub-t13 : tie.Need-overflow-sub-t13
-sub-t13 c = record { sfits = exponent-mag c.before.args.a c.before.requires c.if1.true }
+sub-t13 : tie.Need-overflow_sub-result
+sub-t13 c = record { sfits = exponent-mag c.args.a c.requires c.if-x-eq0.true }
 
-add-t14 : tie.Need-overflow-add-t14
-add-t14 c = let a = c.before.args.a in record { fits = omega (arith, frac-is a, mod-lt a {m = 2 ^ 52} (lit< tt)) }
+add-t14 : tie.Need-overflow_add-result
+add-t14 c = let a = c.args.a in record { fits = omega (arith, frac-is a, mod-lt a {m = 2 ^ 52} (lit< tt)) }
 
 module _ (a : ℕ) where
   pub expo-lt : expo a < 2 ^ 11
@@ -112,19 +112,19 @@ module _ (a : ℕ) where
       (unpacked_normal a x (read power) h (omega (arith, fine.1, together a, h))
       (is_read power (suc x) 1075 power-mag (subst (λ (y : ℕ). Is power y 1075) e power-is)))
 
-cast-t15 : tie.Need-overflow-cast-t15
-cast-t15 c = record { sfits = omega (arith, expo-lt c.before.args.a) }
+cast-t15 : tie.Need-overflow_cast-result-else-x-eq0
+cast-t15 c = record { sfits = omega (arith, expo-lt c.args.a) }
 
-sub-t16 : tie.Need-overflow-sub-t16
-sub-t16 c = record { sfits = power-mag c.before.args.a }
+sub-t16 : tie.Need-overflow_sub-result-else-x-eq0
+sub-t16 c = record { sfits = power-mag c.args.a }
 
-returns : tie.Need-returns
-returns c = sub-result c.before.args.a c.before.requires c.if1.true
+returns : tie.Need-returns-then-x-eq0
+returns c = sub-result c.args.a c.requires c.if-x-eq0.true
 
-returns-2 : tie.Need-returns-2
-returns-2 c = let a = c.before.args.a in normal-result a (expo a) refl c.before.requires c.if1.false
+returns-2 : tie.Need-returns-else-x-eq0
+returns-2 c = let a = c.args.a in normal-result a (expo a) refl c.requires c.if-x-eq0.false
 
-pub unpack-spec : {M : Type 1} → statement M
-unpack-spec =
+pub unpack_spec : {M : Type 1} → statement M
+unpack_spec =
     tie.close
     (tie.spec sub-z cast-t10 shl-t11 cast-t12 sub-t13 add-t14 cast-t15 sub-t16 returns returns-2)

@@ -4,5 +4,5 @@ use native.Mathlib.Omega.{arith}
 use Rattle.float.proofs.sqrt.apart.Statement.{statement}
 use Rattle.float.proofs.sqrt.apart.Tie as tie
 
-pub apart-spec : {M : Type 1} → statement M
-apart-spec = tie.close (tie.spec (λ c. omega arith) (λ c. inr (omega arith)) (λ c. inl (omega arith)))
+pub apart_spec : {M : Type 1} → statement M
+apart_spec = tie.close (tie.spec (λ c. omega arith) (λ c. inr (omega arith)) (λ c. inl (omega arith)))

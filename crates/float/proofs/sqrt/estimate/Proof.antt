@@ -3,5 +3,5 @@ use native.Mathlib.Omega.{arith}
 use Rattle.float.proofs.sqrt.estimate.Statement.{statement}
 use Rattle.float.proofs.sqrt.estimate.Tie as tie
 
-pub estimate-spec : {M : Type 1} → statement M
-estimate-spec = tie.close (tie.spec (λ c. omega arith) (λ c. omega arith))
+pub estimate_spec : {M : Type 1} → statement M
+estimate_spec = tie.close (tie.spec (λ c. omega arith) (λ c. omega arith))

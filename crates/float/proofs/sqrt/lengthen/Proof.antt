@@ -9,9 +9,9 @@ use Rattle.float.proofs.sqrt.lengthen.Tie as tie
 by : (c : tie.Start) → Divided c.args.m c.args.w
 by c = divided c.args.m c.args.w c.requires.0 (omega (arith, c.requires.1)) (c.requires.2, c.requires.3)
 
-near : (c : tie.After-apart)
-    → let m = c.before.args.m in let w = c.before.args.w in let t = c.apart.result in Close (m * 2 ^ 52) (long m w) (m % w * 2 ^ 25 % w * 2 ^ 27) (t * t)
-near c = let s = c.before in close s.args.m s.args.w c.apart.result (omega (arith, s.requires.1)) (s.requires.2, s.requires.3) (by s) c.apart.ensures
+near : (c : tie.After-apart-t)
+    → let m = c.args.m in let w = c.args.w in let t = c.apart-t.result in Close (m * 2 ^ 52) (long m w) (m % w * 2 ^ 25 % w * 2 ^ 27) (t * t)
+near c = let s = c.before in close s.args.m s.args.w c.apart-t.result (omega (arith, s.requires.1)) (s.requires.2, s.requires.3) (by s) c.apart-t.ensures
 
 returns : tie.Need-returns
 returns c =
@@ -19,8 +19,8 @@ returns c =
     let l = near c in
     (long_is s.args.m s.args.w (omega (arith, s.requires.1)), l.0, l.1, omega (arith, l.2, by s, s.requires.1), omega (arith, by s), search rules)
 
-pub lengthen-spec : {M : Type 1} → statement M
-lengthen-spec =
+pub lengthen_spec : {M : Type 1} → statement M
+lengthen_spec =
     tie.close
     (tie.spec
     (λ c. search rules)

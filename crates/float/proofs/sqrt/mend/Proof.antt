@@ -5,8 +5,8 @@ use borrow.Author.Rules.{rules}
 use Rattle.float.proofs.sqrt.mend.Statement.{statement}
 use Rattle.float.proofs.sqrt.mend.Tie as tie
 
-pub mend-spec : {M : Type 1} → statement M
-mend-spec =
+pub mend_spec : {M : Type 1} → statement M
+mend_spec =
     tie.close
     (tie.spec
     (λ c. search rules)

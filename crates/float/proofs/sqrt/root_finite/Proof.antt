@@ -49,31 +49,31 @@ module _ (a : ℕ) (neg : Bool) (m : ℕ) (e : ℤ) (t : Unpacked a neg m e) (a_
           ∙ sym (by-mends a m e plus),
     )
 
-odd-digit-requires : tie.Need-odd-digit-requires
+odd-digit-requires : tie.Need-odd_digit-requires
 odd-digit-requires c κs =
-    let u = c.before.unpack in
+    let u = c.unpack-p in
     let h = u.ensures.small in
     subst (λ (z : ℤ). mag z < 8192) (sym (read_same u.result.e (omega (arith, h)))) (omega (arith, h))
 
-rounded-root-requires : tie.Need-rounded-root-requires
+rounded-root-requires : tie.Need-rounded_root-root-requires
 rounded-root-requires c κs =
-    let u = c.before.before.before.unpack in
-    let o = c.before.odd-digit in
-    asked c.before.before.before.before.args.a u.result.neg u.result.m u.result.e u.ensures c.before.before.before.before.requires.1 o.result o.ensures
+    let u = c.unpack-p in
+    let o = c.odd_digit in
+    asked c.args.a u.result.neg u.result.m u.result.e u.ensures c.requires.1 o.result o.ensures
 
-both : (c : tie.After-root-field)
-    → let x : ℕ = c.root-field.result * 2 ^ 52 % 2 ^ 64 + c.before.before.rounded-root.result in
-    (x < 2 ^ 64) × (x ≡ Word.root c.before.before.before.before.before.before.before.args.a)
+both : (c : tie.After-root_field)
+    → let x : ℕ = c.root_field.result * 2 ^ 52 % 2 ^ 64 + c.rounded_root-root.result in
+    (x < 2 ^ 64) × (x ≡ Word.root c.args.a)
 both c =
-    let w = c.before.before.rounded-root in
-    let o = c.before.before.before.before.odd-digit in
-    let u = c.before.before.before.before.before.before.unpack in
+    let w = c.rounded_root-root in
+    let o = c.odd_digit in
+    let u = c.unpack-p in
     let s = c.before.before.before.before.before.before.before in
     result s.args.a u.result.neg u.result.m u.result.e u.ensures s.requires.1 o.result o.ensures w.result w.ensures.0 w.ensures.1
-    c.root-field.result c.root-field.ensures
+    c.root_field.result c.root_field.ensures
 
-pub root-finite-spec : {M : Type 1} → statement M
-root-finite-spec =
+pub root_finite_spec : {M : Type 1} → statement M
+root_finite_spec =
     tie.close
     (tie.spec
     (λ c κs. search rules)

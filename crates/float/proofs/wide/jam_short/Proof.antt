@@ -11,13 +11,13 @@ use Rattle.float.proofs.Sticky.{near_more}
 use Rattle.float.proofs.wide.jam_short.Statement.{statement}
 use Rattle.float.proofs.wide.jam_short.Tie as tie
 
-jam-requires : tie.Need-jam-requires
+jam-requires : tie.Need-jam-lo-requires
 jam-requires c κs = search rules
 
-low-digits-requires : tie.Need-low-digits-requires
+low-digits-requires : tie.Need-low_digits-requires
 low-digits-requires c κs = search rules
 
-sub-pow2 : tie.Need-overflow-sub-pow2
+sub-pow2 : tie.Need-overflow_sub-d
 sub-pow2 c = search rules
 
 pow2-requires : tie.Need-pow2-requires
@@ -80,40 +80,40 @@ module _ (hi lo d l : ℕ) (p : 0 < d) (s : d < 64) (h : lo < 2 ^ 64) (n : Near 
           two : a * u * 2 ^ 64 + m * 2 ^ 64 + lo ≡ (a * u + m) * 2 ^ 64 + lo
           two = omega arith
 
-mul-mid : tie.Need-overflow-mul-mid
+mul-mid : tie.Need-overflow_mul-mid
 mul-mid c =
     let s = c.before.before.before in
     let v = s.args.v in
-    let l : v.lo < 2 ^ 64 = omega (arith, s.well-formed) in
+    let l : v.lo < 2 ^ 64 = omega (arith, s.well_formed) in
     record {
       fits =
-          subst₂ (λ (x y : ℕ). x * y < 2 ^ 64) (sym c.before.low-digits.ensures) (sym c.pow2.ensures)
-          (mid-fits v.hi v.lo s.args.d c.before.before.jam.result s.requires.0 s.requires.1 l c.before.before.jam.ensures);
+          subst₂ (λ (x y : ℕ). x * y < 2 ^ 64) (sym c.low_digits.ensures) (sym c.pow2.ensures)
+          (mid-fits v.hi v.lo s.args.d c.jam-lo.result s.requires.0 s.requires.1 l c.jam-lo.ensures);
     }
 
-shr-t6 : tie.Need-overflow-shr-t6
+shr-t6 : tie.Need-overflow_shr-result
 shr-t6 c = search rules
 
-add-t8 : tie.Need-overflow-add-t8
+add-t8 : tie.Need-overflow_add-result
 add-t8 c =
     let s = c.before.before.before.before in
     let v = s.args.v in
-    let l : v.lo < 2 ^ 64 = omega (arith, s.well-formed) in
+    let l : v.lo < 2 ^ 64 = omega (arith, s.well_formed) in
     record {
       fits =
-          subst₂ (λ (x y : ℕ). x * y + c.before.before.before.jam.result < 2 ^ 64) (sym c.before.before.low-digits.ensures) (sym c.before.pow2.ensures)
-          (sum_fits v.hi v.lo s.args.d c.before.before.before.jam.result s.requires.0 s.requires.1 l c.before.before.before.jam.ensures);
+          subst₂ (λ (x y : ℕ). x * y + c.jam-lo.result < 2 ^ 64) (sym c.low_digits.ensures) (sym c.pow2.ensures)
+          (sum_fits v.hi v.lo s.args.d c.jam-lo.result s.requires.0 s.requires.1 l c.jam-lo.ensures);
     }
 
 returns : tie.Need-returns
 returns c =
     let s = c.before.before.before.before in
     let v = s.args.v in
-    let l : v.lo < 2 ^ 64 = omega (arith, s.well-formed) in
-    subst₂ (λ (x y : ℕ). Near (both v.hi v.lo) (both (v.hi / 2 ^ s.args.d) (x * y + c.before.before.before.jam.result)) (2 ^ s.args.d)) (sym c.before.before.low-digits.ensures) (sym c.before.pow2.ensures)
-    (shifted v.hi v.lo s.args.d c.before.before.before.jam.result s.requires.0 s.requires.1 l c.before.before.before.jam.ensures)
+    let l : v.lo < 2 ^ 64 = omega (arith, s.well_formed) in
+    subst₂ (λ (x y : ℕ). Near (both v.hi v.lo) (both (v.hi / 2 ^ s.args.d) (x * y + c.jam-lo.result)) (2 ^ s.args.d)) (sym c.low_digits.ensures) (sym c.pow2.ensures)
+    (shifted v.hi v.lo s.args.d c.jam-lo.result s.requires.0 s.requires.1 l c.jam-lo.ensures)
 
-pub jam-short-spec : {M : Type 1} → statement M
-jam-short-spec =
+pub jam_short_spec : {M : Type 1} → statement M
+jam_short_spec =
     tie.close
     (tie.spec jam-requires low-digits-requires sub-pow2 pow2-requires mul-mid shr-t6 add-t8 returns)

@@ -15,16 +15,16 @@ use Rattle.float.proofs.wide.jam_wide.Tie as tie
 none : (x d : ℕ) → d ≡ 0 → Near x x (2 ^ d)
 none x d e = inl (sym (ap (λ (z : ℕ). x * 2 ^ z) e ∙ mul-one x))
 
-returns : tie.Need-returns
-returns c = let s = c.before in none (both s.args.v.hi s.args.v.lo) s.args.d c.if1.true
+returns : tie.Need-returns-then-d-eq0
+returns c = let s = c.before in none (both s.args.v.hi s.args.v.lo) s.args.d c.if-d-eq0.true
 
-jam-short-requires : tie.Need-jam-short-requires
+jam-short-requires : tie.Need-jam_short-requires
 jam-short-requires c κs = search rules
 
-returns-2 : tie.Need-returns-2
-returns-2 c = c.jam-short.ensures
+returns-2 : tie.Need-returns-then-d-lt64
+returns-2 c = c.jam_short.ensures
 
-jam-word-requires : tie.Need-jam-word-requires
+jam-word-requires : tie.Need-jam_word-w-requires
 jam-word-requires c κs = search rules
 
 jam-requires : tie.Need-jam-requires
@@ -35,11 +35,11 @@ twice x w r d h a b =
     subst₂ (λ (y u : ℕ). Near x y u) (sym (zero-add r)) (sym (pow-add 2 (d - 64) 64) ∙ ap (λ (z : ℕ). 2 ^ z) {x = d - 64 + 64} {y = d} (omega arith))
     (near_trans x w r (2 ^ 64) (2 ^ (d - 64)) (pow_pos 64) a b (pow_pos (d - 64)))
 
-returns-3 : tie.Need-returns-3
+returns-3 : tie.Need-returns-then-d-lt128
 returns-3 c =
     let s = c.before.before.before.before.before in
     let v = s.args.v in
-    twice (both v.hi v.lo) c.before.jam-word.result c.jam.result s.args.d c.before.before.before.if2.false c.before.jam-word.ensures c.jam.ensures
+    twice (both v.hi v.lo) c.jam_word-w.result c.jam.result s.args.d c.if-d-lt64.false c.jam_word-w.ensures c.jam.ensures
 
 all-lost : (x d : ℕ) → 0 < x → x < 2 ^ 128 → 128 ≤ d → Near x 1 (2 ^ d)
 all-lost x d p h l =
@@ -52,16 +52,16 @@ all-lost x d p h l =
     lt2 : (x t u : ℕ) → x < t → t ≤ u → x < 1 * u + u
     lt2 x t u h l = omega arith
 
-returns-4 : tie.Need-returns-4
+returns-4 : tie.Need-returns
 returns-4 c =
     let s = c.before.before.before in
     let v = s.args.v in
-    let a : v.hi < 2 ^ 64 = omega (arith, s.well-formed) in
-    let b : v.lo < 2 ^ 64 = omega (arith, s.well-formed) in
+    let a : v.hi < 2 ^ 64 = omega (arith, s.well_formed) in
+    let b : v.lo < 2 ^ 64 = omega (arith, s.well_formed) in
     let h : both v.hi v.lo < 2 ^ 64 * 2 ^ 64 = digits_lt a b in
-    all-lost (both v.hi v.lo) s.args.d s.requires h c.if3.false
+    all-lost (both v.hi v.lo) s.args.d s.requires h c.if-d-lt128.false
 
-pub jam-wide-spec : {M : Type 1} → statement M
-jam-wide-spec =
+pub jam_wide_spec : {M : Type 1} → statement M
+jam_wide_spec =
     tie.close
     (tie.spec returns jam-short-requires returns-2 jam-word-requires jam-requires returns-3 returns-4)

@@ -10,10 +10,10 @@ use Rattle.float.proofs.Sticky.{jam_near}
 use Rattle.float.proofs.wide.jam_word.Statement.{statement}
 use Rattle.float.proofs.wide.jam_word.Tie as tie
 
-sub-result : tie.Need-overflow-sub-result
+sub-result : tie.Need-overflow_sub-result
 sub-result c = search rules
 
-add-result : tie.Need-overflow-add-result
+add-result : tie.Need-overflow_add-result
 add-result c = search rules
 
 exact : (hi lo : ℕ) → lo ≡ 0 → Near (both hi lo) hi (2 ^ 64)
@@ -24,14 +24,14 @@ jammed hi lo h n =
     subst (λ (q : ℕ). Near (both hi lo) (q + (1 - q % 2)) (2 ^ 64)) (high hi 64 h)
     (jam_near (both hi lo) (2 ^ 64) (pow_pos 64) (λ (e : both hi lo % 2 ^ 64 ≡ 0). n (sym (low hi 64 h) ∙ e)))
 
-returns : tie.Need-returns
-returns c = let v = c.before.before.args.v in exact v.hi v.lo c.if1.true
+returns : tie.Need-returns-then-v-eq0
+returns c = let v = c.args.v in exact v.hi v.lo c.if-v-eq0.true
 
-returns-2 : tie.Need-returns-2
+returns-2 : tie.Need-returns-else-v-eq0
 returns-2 c =
-    let v = c.before.before.before.before.args.v in
+    let v = c.args.v in
     let h : v.lo < 2 ^ 64 = omega arith in
-    jammed v.hi v.lo h c.before.before.if1.false
+    jammed v.hi v.lo h c.if-v-eq0.false
 
-pub jam-word-spec : {M : Type 1} → statement M
-jam-word-spec = tie.close (tie.spec sub-result add-result returns returns-2)
+pub jam_word_spec : {M : Type 1} → statement M
+jam_word_spec = tie.close (tie.spec sub-result add-result returns returns-2)

@@ -34,10 +34,10 @@ module _ (k y z x : ℕ) (K : k ≤ (2 ^ 32 - 1) * (2 ^ 32 - 1)) (Y : y ≤ (2 ^
   pub high : k + (y + x / 2 ^ 32) / 2 ^ 32 + (z + (y + x / 2 ^ 32) % 2 ^ 32) / 2 ^ 32 < 2 ^ 64
   high = omega arith
 
-mul-w0 : tie.Need-overflow-mul-w0
+mul-w0 : tie.Need-overflow_mul-w0
 mul-w0 c = record { fits = omega (arith, bound (c.args.u % 2 ^ 32) (c.args.v % 2 ^ 32) (lower c.args.u) (lower c.args.v)) }
 
-mul-t : tie.Need-overflow-mul-t
+mul-t : tie.Need-overflow_mul-t
 mul-t c = record { fits = omega (arith, bound (c.args.u / 2 ^ 32) (c.args.v % 2 ^ 32) (upper c.args.u c.ranges.u.fits) (lower c.args.v)) }
 
 -- the four products of a place's arguments
@@ -75,28 +75,28 @@ module _ (c : tie.Start) where
   pub high_fits : u1 * v1 + (u1 * v0 + u0 * v0 / 2 ^ 32) / 2 ^ 32 + (u0 * v1 + (u1 * v0 + u0 * v0 / 2 ^ 32) % 2 ^ 32) / 2 ^ 32 < 2 ^ 64
   high_fits = high (u1 * v1) (u1 * v0) (u0 * v1) (u0 * v0) (bound u1 v1 U1 V1) (bound u1 v0 U1 V0) (bound u0 v1 U0 V1) (bound u0 v0 U0 V0)
 
-add-t : tie.Need-overflow-add-t
+add-t : tie.Need-overflow_add-t
 add-t c = record { fits = middle-fits c }
 
-mul-w1 : tie.Need-overflow-mul-w1
+mul-w1 : tie.Need-overflow_mul-w1
 mul-w1 c = record { fits = omega (arith, bound (c.args.u % 2 ^ 32) (c.args.v / 2 ^ 32) (lower c.args.u) (upper c.args.v c.ranges.v.fits)) }
 
-add-w1 : tie.Need-overflow-add-w1
+add-w1 : tie.Need-overflow_add-w1
 add-w1 c = record { fits = next_fits c }
 
-mul-hi : tie.Need-overflow-mul-hi
+mul-hi : tie.Need-overflow_mul-hi
 mul-hi c = record { fits = omega (arith, bound (c.args.u / 2 ^ 32) (c.args.v / 2 ^ 32) (upper c.args.u c.ranges.u.fits) (upper c.args.v c.ranges.v.fits)) }
 
-add-hi : tie.Need-overflow-add-hi
+add-hi : tie.Need-overflow_add-hi
 add-hi c = record { fits = native.Mathlib.Nat.lt_of_le_of_lt (native.Mathlib.Nat.le-add_right _ _) (high_fits c) }
 
-add-hi-2 : tie.Need-overflow-add-hi-2
+add-hi-2 : tie.Need-overflow_add-hi-2
 add-hi-2 c = record { fits = high_fits c }
 
-mul-lo : tie.Need-overflow-mul-lo
+mul-lo : tie.Need-overflow_mul-lo
 mul-lo c = search rules
 
-add-lo : tie.Need-overflow-add-lo
+add-lo : tie.Need-overflow_add-lo
 add-lo c = search rules
 
 returns : tie.Need-returns
@@ -107,7 +107,7 @@ returns c =
     ∙ expand (u / 2 ^ 32) (u % 2 ^ 32) (v / 2 ^ 32) (v % 2 ^ 32)
     ∙ ap₂ (λ (x y : ℕ). x * y) (div-add-mod' u (2 ^ 32)) (div-add-mod' v (2 ^ 32))
 
-pub product-spec : {M : Type 1} → statement M
-product-spec =
+pub product_spec : {M : Type 1} → statement M
+product_spec =
     tie.close
     (tie.spec mul-w0 mul-t add-t mul-w1 add-w1 mul-hi add-hi add-hi-2 mul-lo add-lo returns)

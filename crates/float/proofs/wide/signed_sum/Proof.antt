@@ -50,81 +50,81 @@ module _ (s t : Bool) (a b : ℕ) (e : ℤ) (small : mag e < 4000) where
   pub none : beq s t ≡ false → a ≡ b → 0 ≡ to_bits binary64 (sum binary64 s (a * up e) t (b * up e) (down e))
   none q is = sym (ap (to_bits binary64) (sum-none s t (a * up e) (b * up e) (down e) q (ap (λ (x : ℕ). x * up e) is)) ∙ zero_bits (down e) (down_pos e))
 
-wide-add-requires : tie.Need-wide-add-requires
+wide-add-requires : tie.Need-wide_add-requires
 wide-add-requires c κs = search rules
 
-round-wide-requires : tie.Need-round-wide-requires
+round-wide-requires : tie.Need-round_wide-requires
 round-wide-requires c κs =
     let s = c.before.before in
-    (omega (arith, c.wide-add.ensures, s.requires.0), handed s.args.e 4000 s.requires.3 (omega arith))
+    (omega (arith, c.wide_add.ensures, s.requires.0), handed s.args.e 4000 s.requires.3 (omega arith))
 
-returns : tie.Need-returns
+returns : tie.Need-returns-then-s-t
 returns c =
     let s = c.before.before.before in
     let x = s.args in
-    let w = c.before.wide-add in
-    like x.s x.t (both x.a.hi x.a.lo) (both x.b.hi x.b.lo) x.e s.requires.3 (both w.result.hi w.result.lo) c.round-wide.result c.before.before.if1.true w.ensures c.round-wide.ensures
+    let w = c.wide_add in
+    like x.s x.t (both x.a.hi x.a.lo) (both x.b.hi x.b.lo) x.e s.requires.3 (both w.result.hi w.result.lo) c.round_wide.result c.if-s-t.true w.ensures c.round_wide.ensures
 
-wide-less-requires : tie.Need-wide-less-requires
+wide-less-requires : tie.Need-wide_less-requires
 wide-less-requires c κs = search rules
 
-wide-sub-requires : tie.Need-wide-sub-requires
+wide-sub-requires : tie.Need-wide_sub-requires
 wide-sub-requires c κs =
-    let x = c.before.before.before.args in
-    let l = ltb-true (both x.a.hi x.a.lo) (both x.b.hi x.b.lo) (sym c.before.wide-less.ensures ∙ c.if2.true) in
+    let x = c.args in
+    let l = ltb-true (both x.a.hi x.a.lo) (both x.b.hi x.b.lo) (sym c.wide_less.ensures ∙ c.if-wide_less.true) in
     omega (arith, l)
 
-round-wide-requires-2 : tie.Need-round-wide-requires-2
+round-wide-requires-2 : tie.Need-round_wide-requires-then-wide_less
 round-wide-requires-2 c κs =
     let s = c.before.before.before.before in
     let x = s.args in
-    let l = ltb-true (both x.a.hi x.a.lo) (both x.b.hi x.b.lo) (sym c.before.before.wide-less.ensures ∙ c.before.if2.true) in
-    (omega (arith, c.wide-sub.ensures, l), handed x.e 4000 s.requires.3 (omega arith))
+    let l = ltb-true (both x.a.hi x.a.lo) (both x.b.hi x.b.lo) (sym c.wide_less.ensures ∙ c.if-wide_less.true) in
+    (omega (arith, c.wide_sub.ensures, l), handed x.e 4000 s.requires.3 (omega arith))
 
-returns-2 : tie.Need-returns-2
+returns-2 : tie.Need-returns-then-wide_less
 returns-2 c =
     let s = c.before.before.before.before.before in
     let x = s.args in
-    let w = c.before.wide-sub in
-    let l = ltb-true (both x.a.hi x.a.lo) (both x.b.hi x.b.lo) (sym c.before.before.before.wide-less.ensures ∙ c.before.before.if2.true) in
-    less x.s x.t (both x.a.hi x.a.lo) (both x.b.hi x.b.lo) x.e s.requires.3 (both w.result.hi w.result.lo) c.round-wide2.result c.before.before.before.before.if1.false l w.ensures c.round-wide2.ensures
+    let w = c.wide_sub in
+    let l = ltb-true (both x.a.hi x.a.lo) (both x.b.hi x.b.lo) (sym c.wide_less.ensures ∙ c.if-wide_less.true) in
+    less x.s x.t (both x.a.hi x.a.lo) (both x.b.hi x.b.lo) x.e s.requires.3 (both w.result.hi w.result.lo) c.round_wide-then-wide_less.result c.if-s-t.false l w.ensures c.round_wide-then-wide_less.ensures
 
-wide-less-requires-2 : tie.Need-wide-less-requires-2
+wide-less-requires-2 : tie.Need-wide_less-requires-2
 wide-less-requires-2 c κs = search rules
 
-wide-sub-requires-2 : tie.Need-wide-sub-requires-2
+wide-sub-requires-2 : tie.Need-wide_sub-requires-then-wide_less-2
 wide-sub-requires-2 c κs =
-    let x = c.before.before.before.before.before.args in
-    let l = ltb-true (both x.b.hi x.b.lo) (both x.a.hi x.a.lo) (sym c.before.wide-less2.ensures ∙ c.if3.true) in
+    let x = c.args in
+    let l = ltb-true (both x.b.hi x.b.lo) (both x.a.hi x.a.lo) (sym c.wide_less-2.ensures ∙ c.if-wide_less-2.true) in
     omega (arith, l)
 
-round-wide-requires-3 : tie.Need-round-wide-requires-3
+round-wide-requires-3 : tie.Need-round_wide-requires-then-wide_less-2
 round-wide-requires-3 c κs =
     let s = c.before.before.before.before.before.before in
     let x = s.args in
-    let l = ltb-true (both x.b.hi x.b.lo) (both x.a.hi x.a.lo) (sym c.before.before.wide-less2.ensures ∙ c.before.if3.true) in
-    (omega (arith, c.wide-sub2.ensures, l), handed x.e 4000 s.requires.3 (omega arith))
+    let l = ltb-true (both x.b.hi x.b.lo) (both x.a.hi x.a.lo) (sym c.wide_less-2.ensures ∙ c.if-wide_less-2.true) in
+    (omega (arith, c.wide_sub-then-wide_less-2.ensures, l), handed x.e 4000 s.requires.3 (omega arith))
 
-returns-3 : tie.Need-returns-3
+returns-3 : tie.Need-returns-then-wide_less-2
 returns-3 c =
     let s = c.before.before.before.before.before.before.before in
     let x = s.args in
-    let w = c.before.wide-sub2 in
-    let l = ltb-true (both x.b.hi x.b.lo) (both x.a.hi x.a.lo) (sym c.before.before.before.wide-less2.ensures ∙ c.before.before.if3.true) in
-    more x.s x.t (both x.a.hi x.a.lo) (both x.b.hi x.b.lo) x.e s.requires.3 (both w.result.hi w.result.lo) c.round-wide3.result c.before.before.before.before.before.before.if1.false l w.ensures c.round-wide3.ensures
+    let w = c.wide_sub-then-wide_less-2 in
+    let l = ltb-true (both x.b.hi x.b.lo) (both x.a.hi x.a.lo) (sym c.wide_less-2.ensures ∙ c.if-wide_less-2.true) in
+    more x.s x.t (both x.a.hi x.a.lo) (both x.b.hi x.b.lo) x.e s.requires.3 (both w.result.hi w.result.lo) c.round_wide-then-wide_less-2.result c.if-s-t.false l w.ensures c.round_wide-then-wide_less-2.ensures
 
-returns-4 : tie.Need-returns-4
+returns-4 : tie.Need-returns
 returns-4 c =
     let s = c.before.before.before.before.before in
     let x = s.args in
     let a = both x.a.hi x.a.lo in
     let b = both x.b.hi x.b.lo in
-    let g = ltb-false a b (sym c.before.before.before.wide-less.ensures ∙ c.before.before.if2.false) in
-    let h = ltb-false b a (sym c.before.wide-less2.ensures ∙ c.if3.false) in
-    none x.s x.t a b x.e s.requires.3 c.before.before.before.before.if1.false (le_antisymm h g)
+    let g = ltb-false a b (sym c.wide_less.ensures ∙ c.if-wide_less.false) in
+    let h = ltb-false b a (sym c.wide_less-2.ensures ∙ c.if-wide_less-2.false) in
+    none x.s x.t a b x.e s.requires.3 c.if-s-t.false (le_antisymm h g)
 
-pub signed-sum-spec : {M : Type 1} → statement M
-signed-sum-spec =
+pub signed_sum_spec : {M : Type 1} → statement M
+signed_sum_spec =
     tie.close
     (tie.spec
     wide-add-requires

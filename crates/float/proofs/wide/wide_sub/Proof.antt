@@ -9,10 +9,10 @@ use Rattle.float.proofs.wide.wide_sub.Tie as tie
 
 -- what is known at the start
 b-lo : (s : tie.Start) → s.args.b.lo < 2 ^ 64
-b-lo s = omega (arith, s.well-formed)
+b-lo s = omega (arith, s.well_formed)
 
 a-lo : (s : tie.Start) → s.args.a.lo < 2 ^ 64
-a-lo s = omega (arith, s.well-formed)
+a-lo s = omega (arith, s.well_formed)
 
 plain : (h l k m : ℕ) → l < 2 ^ 64 → both k m ≤ both h l → m ≤ l → both (h - k) (l - m) + both k m ≡ both h l
 plain h l k m L g x = omega arith
@@ -23,26 +23,26 @@ carried h l k m M g x = omega arith
 higher : (h l k m : ℕ) → both k m ≤ both h l → l < m → 1 ≤ h - k
 higher h l k m g x = omega arith
 
-sub-hi : tie.Need-overflow-sub-hi
+sub-hi : tie.Need-overflow_sub-hi
 sub-hi c = search rules
 
-returns : tie.Need-returns
-returns c = let s = c.before.before.before.before.before.before.before in plain s.args.a.hi s.args.a.lo s.args.b.hi s.args.b.lo (a-lo s) s.requires c.before.before.if1.true
+returns : tie.Need-returns-then-b-a
+returns c = let s = c.before.before.before.before.before.before.before in plain s.args.a.hi s.args.a.lo s.args.b.hi s.args.b.lo (a-lo s) s.requires c.if-b-a.true
 
-sub-room : tie.Need-overflow-sub-room
+sub-room : tie.Need-overflow_sub-room
 sub-room c = let s = c.before.before.before.before.before.before in omega (arith, b-lo s)
 
-sub-t7 : tie.Need-overflow-sub-t7
-sub-t7 c = let s = c.before.before.before.before.before.before in higher s.args.a.hi s.args.a.lo s.args.b.hi s.args.b.lo s.requires c.before.if1.false
+sub-t7 : tie.Need-overflow_sub-result-2
+sub-t7 c = let s = c.before.before.before.before.before.before in higher s.args.a.hi s.args.a.lo s.args.b.hi s.args.b.lo s.requires c.if-b-a.false
 
-add-t8 : tie.Need-overflow-add-t8
-add-t8 c = let s = c.before.before.before.before.before.before.before in record { fits = omega (arith, b-lo s, c.before.before.if1.false) }
+add-t8 : tie.Need-overflow_add-result
+add-t8 c = let s = c.before.before.before.before.before.before.before in record { fits = omega (arith, b-lo s, c.if-b-a.false) }
 
-add-t9 : tie.Need-overflow-add-t9
-add-t9 c = let s = c.before.before.before.before.before.before.before in record { fits = omega (arith, b-lo s, c.before.before.if1.false) }
+add-t9 : tie.Need-overflow_add-result-2
+add-t9 c = let s = c.before.before.before.before.before.before.before in record { fits = omega (arith, b-lo s, c.if-b-a.false) }
 
-returns-2 : tie.Need-returns-2
-returns-2 c = let s = c.before.before.before.before.before.before.before in carried s.args.a.hi s.args.a.lo s.args.b.hi s.args.b.lo (b-lo s) s.requires c.before.before.if1.false
+returns-2 : tie.Need-returns
+returns-2 c = let s = c.before.before.before.before.before.before.before in carried s.args.a.hi s.args.a.lo s.args.b.hi s.args.b.lo (b-lo s) s.requires c.if-b-a.false
 
-pub wide-sub-spec : {M : Type 1} → statement M
-wide-sub-spec = tie.close (tie.spec sub-hi returns sub-room sub-t7 add-t8 add-t9 returns-2)
+pub wide_sub_spec : {M : Type 1} → statement M
+wide_sub_spec = tie.close (tie.spec sub-hi returns sub-room sub-t7 add-t8 add-t9 returns-2)

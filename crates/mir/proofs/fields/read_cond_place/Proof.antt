@@ -4,13 +4,13 @@ use Rattle.mir.specs.Field.{cond_place}
 use Rattle.mir.proofs.fields.read_cond_place.Statement.{statement}
 use Rattle.mir.proofs.fields.read_cond_place.Tie as tie
 
-pub read-cond-place-spec : {M : Type 1} → statement M
+pub read_cond_place_spec : {M : Type 1} → statement M
 unfolding cond_place
-read-cond-place-spec =
+read_cond_place_spec =
     tie.close
     (tie.spec
     (λ c κs. search rules) (λ c. search rules) (λ c. search rules) (λ c. search rules) (λ c. search rules) (λ c. search rules)
-    (λ c. simp (← c.before.before.before.before.before.before.read-place.ensures, c.before.before.before.before.before.match.keys1, c.before.before.before.before.loc.given.1, c.before.before.match2.keys1, c.before.loc2.given.1))
-    (λ c. simp (← c.before.before.before.before.before.read-place.ensures, c.before.before.before.before.match.keys1, c.before.before.before.loc.given.1, c.before.match2.keys2, c.enum_told.given.1))
-    (λ c. simp (← c.before.before.before.before.before.read-place.ensures, c.before.before.before.before.match.keys1, c.before.before.before.loc.given.1, c.before.match2.keys3, c.enum-told2.given.1))
-    (λ c. simp (← c.before.before.read-place.ensures, c.before.match.keys2, c.enum-told3.given.1)))
+    (λ c. simp (← c.read_place.ensures, c.in-At.in-At-own.keys1, c.in-At.is, c.in-Stack.in-Stack-own.keys1, c.in-Stack.is))
+    (λ c. simp (← c.read_place.ensures, c.in-At.in-At-own.keys1, c.in-At.is, c.in-Mem.in-Mem-own.keys2, c.in-Mem.is))
+    (λ c. simp (← c.read_place.ensures, c.in-At.in-At-own.keys1, c.in-At.is, c.in-Param.in-Param-own.keys3, c.in-Param.is))
+    (λ c. simp (← c.read_place.ensures, c.in-Bad.in-Bad-own.keys2, c.in-Bad.is)))

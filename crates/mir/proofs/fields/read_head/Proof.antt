@@ -5,17 +5,17 @@ use Rattle.mir.specs.Field.{head_from}
 use Rattle.mir.proofs.fields.read_head.Statement.{statement}
 use Rattle.mir.proofs.fields.read_head.Tie as tie
 
-pub read-head-spec : {M : Type 1} → statement M
+pub read_head_spec : {M : Type 1} → statement M
 unfolding head_from
-read-head-spec =
+read_head_spec =
     tie.close
     (tie.spec
-    (λ c. simp (lt-ltb _ _ c.if1.true))
+    (λ c. simp (lt-ltb _ _ c.if-s-lt4.true))
     (λ c κs. search rules)
-    (λ c. simp (le-ltb _ _ c.before.before.if1.false, ← c.before.u16-at.ensures, lt-ltb _ _ c.if2.true))
+    (λ c. simp (le-ltb _ _ c.if-s-lt4.false, ← c.u16_at-n.ensures, lt-ltb _ _ c.if-n-lt4.true))
     (λ c. search rules)
-    (λ c. simp (le-ltb _ _ c.before.before.before.if1.false, ← c.before.before.u16-at.ensures, le-ltb _ _ c.before.if2.false, lt-ltb _ _ c.if3.true))
+    (λ c. simp (le-ltb _ _ c.if-s-lt4.false, ← c.u16_at-n.ensures, le-ltb _ _ c.if-n-lt4.false, lt-ltb _ _ c.if-s-n.true))
     (λ c κs. search rules) (λ c κs. search rules) (λ c κs. search rules) (λ c. search rules)
-    (λ c. simp (le-ltb _ _ c.before.before.before.before.before.before.before.before.if1.false, ← c.before.before.before.before.before.before.before.u16-at.ensures, le-ltb _ _ c.before.before.before.before.before.before.if2.false, le-ltb _ _ c.before.before.before.before.before.if3.false, ← c.before.before.before.before.u16-at2.ensures, ← c.before.before.before.takes-kind.ensures, c.before.before.if4.true, ← c.before.length-of.ensures, ne_eqb _ _ c.if5.true))
-    (λ c. simp (le-ltb _ _ c.before.before.before.before.before.before.before.before.if1.false, ← c.before.before.before.before.before.before.before.u16-at.ensures, le-ltb _ _ c.before.before.before.before.before.before.if2.false, le-ltb _ _ c.before.before.before.before.before.if3.false, ← c.before.before.before.before.u16-at2.ensures, ← c.before.before.before.takes-kind.ensures, c.before.before.if4.true, ← c.before.length-of.ensures, eq-eqb _ _ c.if5.false))
-    (λ c. simp (le-ltb _ _ c.before.before.before.before.before.before.if1.false, ← c.before.before.before.before.before.u16-at.ensures, le-ltb _ _ c.before.before.before.before.if2.false, le-ltb _ _ c.before.before.before.if3.false, ← c.before.before.u16-at2.ensures, ← c.before.takes-kind.ensures, c.if4.false)))
+    (λ c. simp (le-ltb _ _ c.if-s-lt4.false, ← c.u16_at-n.ensures, le-ltb _ _ c.if-n-lt4.false, le-ltb _ _ c.if-s-n.false, ← c.u16_at-kind.ensures, ← c.takes_kind.ensures, c.if-takes_kind.true, ← c.length_of.ensures, ne_eqb _ _ c.if-length_of-n.true))
+    (λ c. simp (le-ltb _ _ c.if-s-lt4.false, ← c.u16_at-n.ensures, le-ltb _ _ c.if-n-lt4.false, le-ltb _ _ c.if-s-n.false, ← c.u16_at-kind.ensures, ← c.takes_kind.ensures, c.if-takes_kind.true, ← c.length_of.ensures, eq-eqb _ _ c.if-length_of-n.false))
+    (λ c. simp (le-ltb _ _ c.if-s-lt4.false, ← c.u16_at-n.ensures, le-ltb _ _ c.if-n-lt4.false, le-ltb _ _ c.if-s-n.false, ← c.u16_at-kind.ensures, ← c.takes_kind.ensures, c.if-takes_kind.false)))

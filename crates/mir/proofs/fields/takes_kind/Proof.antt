@@ -4,18 +4,18 @@ use Rattle.mir.specs.Field.{takes_kind}
 use Rattle.mir.proofs.fields.takes_kind.Statement.{statement}
 use Rattle.mir.proofs.fields.takes_kind.Tie as tie
 
-pub takes-kind-spec : {M : Type 1} → statement M
+pub takes_kind_spec : {M : Type 1} → statement M
 unfolding takes_kind
-takes-kind-spec =
+takes_kind_spec =
     tie.close
     (tie.spec
     (λ c κs. search rules)
-    (λ c. simp (c.before.before.if1.true, ← c.before.between.ensures, c.if2.true))
+    (λ c. simp (c.if-in_listing.true, ← c.between.ensures, c.if-between.true))
     (λ c κs. search rules)
-    (λ c. simp (c.before.before.before.if1.true, ← c.before.before.between.ensures, c.before.if2.false, ← c.between2.ensures))
+    (λ c. simp (c.if-in_listing.true, ← c.between.ensures, c.if-between.false, ← c.between-then-in_listing.ensures))
     (λ c κs. search rules)
-    (λ c. simp (c.before.before.if1.false, ← c.before.between3.ensures, c.if3.true))
+    (λ c. simp (c.if-in_listing.false, ← c.between-2.ensures, c.if-between-2.true))
     (λ c κs. search rules)
-    (λ c. simp (c.before.before.before.before.if1.false, ← c.before.before.before.between3.ensures, c.before.before.if3.false, ← c.before.between4.ensures, c.if4.true))
+    (λ c. simp (c.if-in_listing.false, ← c.between-2.ensures, c.if-between-2.false, ← c.between-3.ensures, c.if-between-3.true))
     (λ c κs. search rules)
-    (λ c. simp (c.before.before.before.before.before.if1.false, ← c.before.before.before.before.between3.ensures, c.before.before.before.if3.false, ← c.before.before.between4.ensures, c.before.if4.false, ← c.between5.ensures)))
+    (λ c. simp (c.if-in_listing.false, ← c.between-2.ensures, c.if-between-2.false, ← c.between-3.ensures, c.if-between-3.false, ← c.between-4.ensures)))

@@ -4,11 +4,11 @@ use Rattle.mir.specs.Field.{u16_at}
 use Rattle.mir.proofs.fields.u16_at.Statement.{statement}
 use Rattle.mir.proofs.fields.u16_at.Tie as tie
 
-pub u16-at-spec : {M : Type 1} → statement M
+pub u16_at_spec : {M : Type 1} → statement M
 unfolding u16_at
-u16-at-spec =
+u16_at_spec =
     tie.close
     (tie.spec
     (λ c κs. search rules) (λ c. search rules) (λ c κs. search rules) (λ c. search rules) (λ c. search rules) (λ c. search rules)
     (λ c. search rules)
-    (λ c. simp (← c.before.byte.ensures, ← c.byte2.ensures)))
+    (λ c. simp (← c.byte-low.ensures, ← c.byte-high.ensures)))

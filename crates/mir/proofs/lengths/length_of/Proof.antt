@@ -7,11 +7,11 @@ use Rattle.mir.specs.Length.{lengths, length_of}
 use Rattle.mir.proofs.lengths.length_of.Statement.{statement}
 use Rattle.mir.proofs.lengths.length_of.Tie as tie
 
-pub length-of-spec : {M : Type 1} → statement M
+pub length_of_spec : {M : Type 1} → statement M
 unfolding length_of
-length-of-spec =
+length_of_spec =
     tie.close
     (tie.spec
     (λ c. search rules)
     (λ c. refl)
-    (λ c. sym (get_or-eq_default lengths 0 {n = c.before.args.kind} (omega arith))))
+    (λ c. sym (get_or-eq_default lengths 0 {n = c.args.kind} (omega arith))))

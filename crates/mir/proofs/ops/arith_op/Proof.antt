@@ -7,13 +7,13 @@ use Rattle.mir.proofs.Tables.{taken_past}
 use Rattle.mir.proofs.ops.arith_op.Statement.{statement}
 use Rattle.mir.proofs.ops.arith_op.Tie as tie
 
-pub arith-op-spec : {M : Type 1} → statement M
+pub arith_op_spec : {M : Type 1} → statement M
 unfolding arith_ops
-arith-op-spec =
+arith_op_spec =
     tie.close
     (tie.spec
-    (λ c. simp c.match.keys1)
-    (λ c. simp c.match.keys2)
-    (λ c. simp c.match.keys3)
-    (λ c. simp c.match.keys4)
-    (λ c. sym (taken_past takes_arith arith_ops c.before.args.n (omega (arith, c.match.rest.1, c.match.rest.0.1, c.match.rest.0.0.1, c.match.rest.0.0.0.1)))))
+    (λ c. simp c.in-0.is)
+    (λ c. simp c.in-1.is)
+    (λ c. simp c.in-2.is)
+    (λ c. simp c.in-3.is)
+    (λ c. sym (taken_past takes_arith arith_ops c.args.n (omega (arith, c.in_default.in_default-own.rest.1, c.in_default.in_default-own.rest.0.1, c.in_default.in_default-own.rest.0.0.1, c.in_default.in_default-own.rest.0.0.0.1)))))

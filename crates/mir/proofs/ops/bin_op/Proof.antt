@@ -10,12 +10,12 @@ use Rattle.mir.proofs.Tables.{taken_past, taken_at}
 use Rattle.mir.proofs.ops.bin_op.Statement.{statement}
 use Rattle.mir.proofs.ops.bin_op.Tie as tie
 
-pub bin-op-spec : {M : Type 1} → statement M
+pub bin_op_spec : {M : Type 1} → statement M
 unfolding bin_ops
-bin-op-spec =
+bin_op_spec =
     tie.close
     (tie.spec
-    (λ c. let a = c.before.args in sym (taken_past (takes_bin a.in-listing) bin_ops a.n (omega arith)))
+    (λ c. let a = c.args in sym (taken_past (takes_bin a.in_listing) bin_ops a.n (omega arith)))
     (λ c. search rules) (λ c. search rules) (λ c κs. search rules) (λ c. search rules)
-    (λ c. let a = c.before.before.before.before.args in taken_at takes_bin bin_ops a.n BinOp.Plus a.in-listing true (omega arith) (sym c.before.if2.true ∙ c.before.before.is-taken.ensures))
-    (λ c. let a = c.before.before.before.args in taken_at takes_bin bin_ops a.n BinOp.Plus a.in-listing false (omega arith) (sym c.if2.false ∙ c.before.is-taken.ensures)))
+    (λ c. let a = c.args in taken_at takes_bin bin_ops a.n BinOp.Plus a.in_listing true (omega arith) (sym c.if-is_taken.true ∙ c.is_taken.ensures))
+    (λ c. let a = c.args in taken_at takes_bin bin_ops a.n BinOp.Plus a.in_listing false (omega arith) (sym c.if-is_taken.false ∙ c.is_taken.ensures)))

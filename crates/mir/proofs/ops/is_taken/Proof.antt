@@ -2,9 +2,9 @@
 use Rattle.mir.proofs.ops.is_taken.Statement.{statement}
 use Rattle.mir.proofs.ops.is_taken.Tie as tie
 
-pub is-taken-spec : {M : Type 1} → statement M
-is-taken-spec =
+pub is_taken_spec : {M : Type 1} → statement M
+is_taken_spec =
     tie.close
     (tie.spec
-    (λ c. simp c.if1.true)
-    (λ c. simp c.if1.false))
+    (λ c. simp c.if-in_listing.true)
+    (λ c. simp c.if-in_listing.false))

@@ -5,12 +5,12 @@ use Rattle.mir.specs.Register.{im}
 use Rattle.mir.proofs.registers.im.Statement.{statement}
 use Rattle.mir.proofs.registers.im.Tie as tie
 
-pub im-spec : {M : Type 1} → statement M
+pub im_spec : {M : Type 1} → statement M
 unfolding im
-im-spec =
+im_spec =
     tie.close
     (tie.spec
     (λ c. search rules) (λ c. search rules)
-    (λ c. simp (lt-ltb _ _ c.if1.true))
-    (λ c. simp (le-ltb _ _ c.before.if1.false, eq-eqb _ _ c.if2.true))
-    (λ c. simp (le-ltb _ _ c.before.if1.false, ne_eqb _ _ c.if2.false)))
+    (λ c. simp (lt-ltb _ _ c.if-r-lt30.true))
+    (λ c. simp (le-ltb _ _ c.if-r-lt30.false, eq-eqb _ _ c.if-r-eq30.true))
+    (λ c. simp (le-ltb _ _ c.if-r-lt30.false, ne_eqb _ _ c.if-r-eq30.false)))

@@ -5,12 +5,12 @@ use Rattle.mir.specs.Register.{re}
 use Rattle.mir.proofs.registers.re.Statement.{statement}
 use Rattle.mir.proofs.registers.re.Tie as tie
 
-pub re-spec : {M : Type 1} → statement M
+pub re_spec : {M : Type 1} → statement M
 unfolding re
-re-spec =
+re_spec =
     tie.close
     (tie.spec
     (λ c. search rules) (λ c. search rules)
-    (λ c. simp (lt-ltb _ _ c.if1.true))
-    (λ c. simp (le-ltb _ _ c.before.if1.false, eq-eqb _ _ c.if2.true))
-    (λ c. simp (le-ltb _ _ c.before.if1.false, ne_eqb _ _ c.if2.false)))
+    (λ c. simp (lt-ltb _ _ c.if-r-lt30.true))
+    (λ c. simp (le-ltb _ _ c.if-r-lt30.false, eq-eqb _ _ c.if-r-eq30.true))
+    (λ c. simp (le-ltb _ _ c.if-r-lt30.false, ne_eqb _ _ c.if-r-eq30.false)))

@@ -5,10 +5,10 @@ use mathlib.Core.Path.{◌∙◌}
 use Rattle.mir.proofs.writer.push_bi.Statement.{statement}
 use Rattle.mir.proofs.writer.push_bi.Tie as tie
 
-pub push-bi-spec : {M : Type 1} → statement M
+pub push_bi_spec : {M : Type 1} → statement M
 unfolding length_of
-push-bi-spec =
+push_bi_spec =
     tie.close
     (tie.spec
     (λ c κs. search rules) (λ c κs. search rules) (λ c. search rules)
-    (λ c. c.before.before.put.ensures ∙ simp c.before.before.before.before.bin-number.ensures))
+    (λ c. c.put.ensures ∙ simp c.bin_number-n.ensures))

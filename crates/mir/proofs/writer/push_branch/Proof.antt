@@ -4,10 +4,10 @@ use Rattle.mir.specs.Length.{length_of}
 use Rattle.mir.proofs.writer.push_branch.Statement.{statement}
 use Rattle.mir.proofs.writer.push_branch.Tie as tie
 
-pub push-branch-spec : {M : Type 1} → statement M
+pub push_branch_spec : {M : Type 1} → statement M
 unfolding length_of
-push-branch-spec =
+push_branch_spec =
     tie.close
     (tie.spec
     (λ c κs. search rules) (λ c. search rules)
-    (λ c. c.before.before.put.ensures))
+    (λ c. c.put.ensures))

@@ -4,10 +4,10 @@ use Rattle.mir.specs.Length.{length_of}
 use Rattle.mir.proofs.writer.push_branch_if.Statement.{statement}
 use Rattle.mir.proofs.writer.push_branch_if.Tie as tie
 
-pub push-branch-if-spec : {M : Type 1} → statement M
+pub push_branch_if_spec : {M : Type 1} → statement M
 unfolding length_of
-push-branch-if-spec =
+push_branch_if_spec =
     tie.close
     (tie.spec
     (λ c κs. search rules) (λ c κs. search rules) (λ c. search rules)
-    (λ c. simp (← c.before.before.before.before.«flag-byte».ensures) c.before.before.put.ensures))
+    (λ c. simp (← c.flag_byte-e.ensures) c.put.ensures))

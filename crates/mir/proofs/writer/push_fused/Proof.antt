@@ -5,10 +5,10 @@ use mathlib.Core.Path.{◌∙◌}
 use Rattle.mir.proofs.writer.push_fused.Statement.{statement}
 use Rattle.mir.proofs.writer.push_fused.Tie as tie
 
-pub push-fused-spec : {M : Type 1} → statement M
+pub push_fused_spec : {M : Type 1} → statement M
 unfolding length_of
-push-fused-spec =
+push_fused_spec =
     tie.close
     (tie.spec
     (λ c κs. search rules) (λ c κs. search rules) (λ c. search rules)
-    (λ c. c.before.before.put.ensures ∙ simp c.before.before.before.before.fused-number.ensures))
+    (λ c. c.put.ensures ∙ simp c.fused_number-n.ensures))

@@ -5,10 +5,10 @@ use mathlib.Core.Path.{◌∙◌}
 use Rattle.mir.proofs.writer.push_load_complex.Statement.{statement}
 use Rattle.mir.proofs.writer.push_load_complex.Tie as tie
 
-pub push-load-complex-spec : {M : Type 1} → statement M
+pub push_load_complex_spec : {M : Type 1} → statement M
 unfolding length_of
-push-load-complex-spec =
+push_load_complex_spec =
     tie.close
     (tie.spec
     (λ c κs. search rules) (λ c κs. search rules) (λ c κs. search rules) (λ c κs. search rules) (λ c κs. search rules) (λ c. search rules)
-    (λ c. c.before.before.put.ensures ∙ simp (c.before.before.before.before.before.before.before.loc-class.ensures, c.before.before.before.before.before.before.loc-index.ensures, c.before.before.before.before.before.low.ensures, c.before.before.before.before.high.ensures)))
+    (λ c. c.put.ensures ∙ simp (c.loc_class-k.ensures, c.loc_index-i.ensures, c.low-l.ensures, c.high-h.ensures)))

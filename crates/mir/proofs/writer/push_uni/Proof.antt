@@ -5,10 +5,10 @@ use mathlib.Core.Path.{◌∙◌}
 use Rattle.mir.proofs.writer.push_uni.Statement.{statement}
 use Rattle.mir.proofs.writer.push_uni.Tie as tie
 
-pub push-uni-spec : {M : Type 1} → statement M
+pub push_uni_spec : {M : Type 1} → statement M
 unfolding length_of
-push-uni-spec =
+push_uni_spec =
     tie.close
     (tie.spec
     (λ c κs. search rules) (λ c κs. search rules) (λ c. search rules)
-    (λ c. c.before.before.put.ensures ∙ simp c.before.before.before.before.uni-number.ensures))
+    (λ c. c.put.ensures ∙ simp c.uni_number-n.ensures))

@@ -14,12 +14,12 @@ put_spec =
     tie.close
     (tie.spec
     (λ c. search rules)
-    (λ c. let a = c.before.args in omega (arith, longest a.kind (search rules)))
-    (λ c. let a = c.before.before.args in put_full a.out.now a.at a.kind a.t4 (search rules) (search rules) (omega arith))
+    (λ c. let a = c.args in omega (arith, longest a.kind (search rules)))
+    (λ c. let a = c.args in put_full a.out.now a.at a.kind a.f (search rules) (search rules) (omega arith))
     (λ c. search rules)
-    (λ c. let a = c.before.before.before.args in put_full a.out.now a.at a.kind a.t4 (search rules) (search rules) (omega arith))
+    (λ c. let a = c.args in put_full a.out.now a.at a.kind a.f (search rules) (search rules) (omega arith))
     (λ c. search rules) (λ c. search rules) (λ c. search rules) (λ c. search rules) (λ c. search rules) (λ c. search rules)
     (λ c. search rules)
-    (λ c κs. let a = c.before.before.before.before.args in let h = longest a.kind (search rules) in search rules)
+    (λ c κs. let a = c.args in let h = longest a.kind (search rules) in search rules)
     (λ c. search rules) (λ c. search rules)
-    (λ c. let a = c.before.before.before.before.before.before.before.args in put_fits a.out.now _ a.at a.kind a.t4 (search rules) (search rules) (omega arith) c.before.before.store.ensures))
+    (λ c. let a = c.args in put_fits a.out.now _ a.at a.kind a.f (search rules) (search rules) (omega arith) c.store.ensures))

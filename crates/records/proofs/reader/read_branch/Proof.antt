@@ -4,6 +4,6 @@ use Rattle.records.specs.Record.{branch_from}
 use Rattle.records.proofs.reader.read_branch.Statement.{statement}
 use Rattle.records.proofs.reader.read_branch.Tie as tie
 
-pub read-branch-spec : {M : Type 1} → statement M
+pub read_branch_spec : {M : Type 1} → statement M
 unfolding branch_from
-read-branch-spec = tie.close (tie.spec (λ c κs. search rules) (λ c. simp c.byte.ensures))
+read_branch_spec = tie.close (tie.spec (λ c κs. search rules) (λ c. simp c.byte.ensures))

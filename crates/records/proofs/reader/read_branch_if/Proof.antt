@@ -5,14 +5,14 @@ use Rattle.records.specs.Record.{branch_if_from}
 use Rattle.records.proofs.reader.read_branch_if.Statement.{statement}
 use Rattle.records.proofs.reader.read_branch_if.Tie as tie
 
-pub read-branch-if-spec : {M : Type 1} → statement M
+pub read_branch_if_spec : {M : Type 1} → statement M
 unfolding branch_if_from
-read-branch-if-spec =
+read_branch_if_spec =
     tie.close
     (tie.spec
     (λ c κs. search rules)
-    (λ c. simp (← c.before.byte.ensures, lt-ltb _ _ c.if1.true))
+    (λ c. simp (← c.byte-flag.ensures, lt-ltb _ _ c.if-flag-gt1.true))
     (λ c κs. search rules)
-    (λ c. simp (← c.before.before.before.byte.ensures, le-ltb _ _ c.before.before.if1.false, ← c.before.above.ensures, c.if2.true))
+    (λ c. simp (← c.byte-flag.ensures, le-ltb _ _ c.if-flag-gt1.false, ← c.above.ensures, c.if-above.true))
     (λ c κs. search rules) (λ c κs. search rules)
-    (λ c. simp (← c.before.before.before.before.before.byte.ensures, le-ltb _ _ c.before.before.before.before.if1.false, ← c.before.before.before.above.ensures, c.before.before.if2.false, c.before.byte2.ensures, c.byte3.ensures)))
+    (λ c. simp (← c.byte-flag.ensures, le-ltb _ _ c.if-flag-gt1.false, ← c.above.ensures, c.if-above.false, c.byte.ensures, c.byte-2.ensures)))

@@ -10,9 +10,9 @@ use Rattle.records.proofs.Shared as Shared
 use Rattle.records.proofs.reader.read_fields.Statement.{statement}
 use Rattle.records.proofs.reader.read_fields.Tie as tie
 
-pub read-fields-spec : {M : Type 1} → statement M
+pub read_fields_spec : {M : Type 1} → statement M
 unfolding fields_from
-read-fields-spec =
+read_fields_spec =
     tie.close
     (tie.spec
     (λ c κs. search rules) (λ c κs. search rules) (λ c κs. search rules) (λ c κs. search rules)
@@ -22,19 +22,19 @@ read-fields-spec =
     (λ c κs. search rules) (λ c κs. search rules) (λ c κs. search rules) (λ c κs. search rules)
     (λ c κs. search rules) (λ c κs. search rules)
     (λ c κs. search rules) (λ c κs. search rules) (λ c κs. search rules) (λ c κs. search rules) (λ c κs. search rules) (λ c κs. search rules) (λ c κs. search rules)
-    (λ c. simp c.before.before.before.before.match.keys1 (c.record_of.ensures ∙ ap as_record (c.before.read-uni.ensures ∙ uni-found true c.before.before.before.before.before.before.args.s.now c.before.before.uni-op.ensures c.before.before.before.byte.ensures) ∙ Shared.uni c.before.before.before.before.before.before.args.s.now))
-    (λ c. simp c.before.before.before.before.match.keys2 (c.record-of2.ensures ∙ ap as_record (c.before.read-bi.ensures ∙ bi-found true c.before.before.before.before.before.before.args.s.now c.before.before.bin-op.ensures c.before.before.before.byte2.ensures) ∙ Shared.bi c.before.before.before.before.before.before.args.s.now))
-    (λ c. simp c.before.before.match.keys3 (c.record-of3.ensures ∙ ap as_record c.before.read-mov.ensures ∙ Shared.mov c.before.before.before.before.args.s.now))
-    (λ c. simp c.before.before.match.keys4 (c.record-of4.ensures ∙ ap as_record c.before.read-load.ensures ∙ Shared.load c.before.before.before.before.args.s.now))
-    (λ c. simp c.before.before.match.keys5 (c.record-of5.ensures ∙ ap as_record c.before.read-save.ensures ∙ Shared.save c.before.before.before.before.args.s.now))
-    (λ c. simp c.before.before.match.keys6 (c.record-of6.ensures ∙ ap as_record c.before.read-load-const.ensures ∙ Shared.load-const c.before.before.before.before.args.s.now c.before.before.before.before.args.count))
-    (λ c. simp c.before.before.before.before.match.keys7 (c.record-of7.ensures ∙ ap as_record (c.before.read-fused.ensures ∙ fused-found true c.before.before.before.before.before.before.args.s.now c.before.before.fused-op.ensures c.before.before.before.byte3.ensures) ∙ Shared.fused c.before.before.before.before.before.before.args.s.now))
-    (λ c. simp c.before.before.match.keys8 (c.record-of8.ensures ∙ ap as_record c.before.read-if-else.ensures ∙ Shared.if-else c.before.before.before.before.args.s.now))
-    (λ c. simp c.before.match.keys9 c.read-load-complex.ensures)
-    (λ c. simp c.before.match.keys10 c.read-save-complex.ensures)
-    (λ c. simp c.before.match.keys11 c.read-complex-bi.ensures)
-    (λ c. simp c.before.match.keys12 c.read-label.ensures)
-    (λ c. simp c.before.match.keys13 c.read-branch.ensures)
-    (λ c. simp c.before.match.keys14 c.read-call.ensures)
-    (λ c. simp c.before.match.keys15 c.read-branch-if.ensures)
-    (λ c. simp (ne_eqb _ _ c.match.rest.0.0.0.0.0.0.0.0.0.0.0.0.0.0.1, ne_eqb _ _ c.match.rest.0.0.0.0.0.0.0.0.0.0.0.0.0.1, ne_eqb _ _ c.match.rest.0.0.0.0.0.0.0.0.0.0.0.0.1, ne_eqb _ _ c.match.rest.0.0.0.0.0.0.0.0.0.0.0.1, ne_eqb _ _ c.match.rest.0.0.0.0.0.0.0.0.0.0.1, ne_eqb _ _ c.match.rest.0.0.0.0.0.0.0.0.0.1, ne_eqb _ _ c.match.rest.0.0.0.0.0.0.0.0.1, ne_eqb _ _ c.match.rest.0.0.0.0.0.0.0.1, ne_eqb _ _ c.match.rest.0.0.0.0.0.0.1, ne_eqb _ _ c.match.rest.0.0.0.0.0.1, ne_eqb _ _ c.match.rest.0.0.0.0.1, ne_eqb _ _ c.match.rest.0.0.0.1, ne_eqb _ _ c.match.rest.0.0.1, ne_eqb _ _ c.match.rest.0.1, ne_eqb _ _ c.match.rest.1)))
+    (λ c. simp c.in-1.is (c.record_of.ensures ∙ ap as_record (c.read_uni.ensures ∙ uni-found true c.args.s.now c.uni_op.ensures c.byte.ensures) ∙ Shared.uni c.args.s.now))
+    (λ c. simp c.in-2.is (c.record_of-in-2.ensures ∙ ap as_record (c.read_bi.ensures ∙ bi-found true c.args.s.now c.bin_op.ensures c.byte-in-2.ensures) ∙ Shared.bi c.args.s.now))
+    (λ c. simp c.in-3.is (c.record_of-in-3.ensures ∙ ap as_record c.read_mov.ensures ∙ Shared.mov c.args.s.now))
+    (λ c. simp c.in-4.is (c.record_of-in-4.ensures ∙ ap as_record c.read_load.ensures ∙ Shared.load c.args.s.now))
+    (λ c. simp c.in-5.is (c.record_of-in-5.ensures ∙ ap as_record c.read_save.ensures ∙ Shared.save c.args.s.now))
+    (λ c. simp c.in-6.is (c.record_of-in-6.ensures ∙ ap as_record c.read_load_const.ensures ∙ Shared.load-const c.args.s.now c.args.count))
+    (λ c. simp c.in-7.is (c.record_of-in-7.ensures ∙ ap as_record (c.read_fused.ensures ∙ fused-found true c.args.s.now c.fused_op.ensures c.byte-in-7.ensures) ∙ Shared.fused c.args.s.now))
+    (λ c. simp c.in-8.is (c.record_of-in-8.ensures ∙ ap as_record c.read_if_else.ensures ∙ Shared.if-else c.args.s.now))
+    (λ c. simp c.in-11.is c.read_load_complex.ensures)
+    (λ c. simp c.in-12.is c.read_save_complex.ensures)
+    (λ c. simp c.in-13.is c.read_complex_bi.ensures)
+    (λ c. simp c.in-14.is c.read_label.ensures)
+    (λ c. simp c.in-15.is c.read_branch.ensures)
+    (λ c. simp c.in-16.is c.read_call.ensures)
+    (λ c. simp c.in-17.is c.read_branch_if.ensures)
+    (λ c. simp (ne_eqb _ _ c.in_default.in_default-own.rest.0.0.0.0.0.0.0.0.0.0.0.0.0.0.1, ne_eqb _ _ c.in_default.in_default-own.rest.0.0.0.0.0.0.0.0.0.0.0.0.0.1, ne_eqb _ _ c.in_default.in_default-own.rest.0.0.0.0.0.0.0.0.0.0.0.0.1, ne_eqb _ _ c.in_default.in_default-own.rest.0.0.0.0.0.0.0.0.0.0.0.1, ne_eqb _ _ c.in_default.in_default-own.rest.0.0.0.0.0.0.0.0.0.0.1, ne_eqb _ _ c.in_default.in_default-own.rest.0.0.0.0.0.0.0.0.0.1, ne_eqb _ _ c.in_default.in_default-own.rest.0.0.0.0.0.0.0.0.1, ne_eqb _ _ c.in_default.in_default-own.rest.0.0.0.0.0.0.0.1, ne_eqb _ _ c.in_default.in_default-own.rest.0.0.0.0.0.0.1, ne_eqb _ _ c.in_default.in_default-own.rest.0.0.0.0.0.1, ne_eqb _ _ c.in_default.in_default-own.rest.0.0.0.0.1, ne_eqb _ _ c.in_default.in_default-own.rest.0.0.0.1, ne_eqb _ _ c.in_default.in_default-own.rest.0.0.1, ne_eqb _ _ c.in_default.in_default-own.rest.0.1, ne_eqb _ _ c.in_default.in_default-own.rest.1)))

@@ -8,22 +8,22 @@ use Rattle.records.specs.Record.{record_from, as_read}
 use Rattle.records.proofs.reader.read_record.Statement.{statement}
 use Rattle.records.proofs.reader.read_record.Tie as tie
 
-pub read-record-spec : {M : Type 1} → statement M
+pub read_record_spec : {M : Type 1} → statement M
 unfolding record_from head_from
-read-record-spec =
+read_record_spec =
     tie.close
     (tie.spec
-    (λ c. let a = c.before.before.args in sym (next_past (record_from a.count) a.listing.now a.at refl (omega arith)))
+    (λ c. let a = c.args in sym (next_past (record_from a.count) a.listing.now a.at refl (omega arith)))
     (λ c. search rules) (λ c. search rules) (λ c. search rules) (λ c κs. search rules) (λ c. search rules) (λ c κs. search rules)
     (λ c. search rules) (λ c. search rules) (λ c. search rules)
     (λ c.
-    let a = c.before.before.before.before.before.before.before.before.args in
+    let a = c.args in
     sym
     (next-got (record_from a.count) a.listing.now a.at _ _
-    (sym c.before.before.before.before.read_first.ensures ∙ ap as_read c.before.before.«record».given.1)
-    c.u16-at.ensures))
+    (sym c.read_first.ensures ∙ ap as_read c.in-Got.is)
+    c.u16_at-n.ensures))
     (λ c.
-    let a = c.before.before.before.before.before.before.before.args in
+    let a = c.args in
     sym
     (next-refused (record_from a.count) a.listing.now a.at _
-    (sym c.before.before.before.read_first.ensures ∙ ap as_read c.before.n.given.1))))
+    (sym c.read_first.ensures ∙ ap as_read c.in-Refused.is))))

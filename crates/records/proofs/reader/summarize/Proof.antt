@@ -4,11 +4,11 @@ use Rattle.records.specs.Record.{record_from}
 use Rattle.records.proofs.reader.summarize.Statement.{statement}
 use Rattle.records.proofs.reader.summarize.Tie as tie
 
-pub summarize-spec : {M : Type 1} → statement M
+pub summarize_spec : {M : Type 1} → statement M
 unfolding record_from
-summarize-spec =
+summarize_spec =
     tie.close
     (tie.spec
     (λ c κs. search rules) (λ c. search rules) (λ c κs. search rules) (λ c. search rules) (λ c κs. search rules)
-    (λ c. simp (← c.before.before.before.before.read_head.ensures, c.before.before.kind.given.1) c.summarize-fields.ensures)
-    (λ c. simp (← c.before.before.before.before.read_head.ensures, c.before.before.n.given.1) c.summarized.ensures))
+    (λ c. simp (← c.read_head.ensures, c.in-Kind.is) c.summarize_fields.ensures)
+    (λ c. simp (← c.read_head.ensures, c.in-Refused.is) c.summarized.ensures))

@@ -3,18 +3,18 @@ use borrow.Author.Rules.{rules}
 use Rattle.records.proofs.reader.work_of.Statement.{statement}
 use Rattle.records.proofs.reader.work_of.Tie as tie
 
-pub work-of-spec : {M : Type 1} → statement M
-work-of-spec =
+pub work_of_spec : {M : Type 1} → statement M
+work_of_spec =
     tie.close
     (tie.spec
     (λ c. search rules) (λ c. search rules) (λ c. search rules) (λ c. search rules) (λ c. search rules) (λ c. search rules) (λ c. search rules)
     (λ c. search rules) (λ c. search rules) (λ c. search rules) (λ c. search rules) (λ c. search rules) (λ c. search rules) (λ c. search rules)
-    (λ c. simp c.before.i.given.1)
-    (λ c. simp c.before.i2.given.1)
-    (λ c. simp c.before.i3.given.1)
-    (λ c. simp c.before.i4.given.1)
-    (λ c. simp c.before.i5.given.1)
-    (λ c. simp c.before.i6.given.1)
-    (λ c. simp c.before.i7.given.1)
-    (λ c. simp c.before.i8.given.1)
+    (λ c. simp c.in-Uni.is)
+    (λ c. simp c.in-Bi.is)
+    (λ c. simp c.in-Mov.is)
+    (λ c. simp c.in-Load.is)
+    (λ c. simp c.in-Save.is)
+    (λ c. simp c.in-LoadConst.is)
+    (λ c. simp c.in-Fused.is)
+    (λ c. simp c.in-IfElse.is)
     (λ c. search rules) (λ c. search rules) (λ c. search rules) (λ c. search rules) (λ c. search rules) (λ c. search rules))

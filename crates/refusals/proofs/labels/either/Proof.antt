@@ -1,6 +1,6 @@
--- `Either` meets its contract.
-use Rattle.refusals.proofs.labels.Either.Statement.{statement}
-use Rattle.refusals.proofs.labels.Either.Tie as tie
+-- `either` meets its contract.
+use Rattle.refusals.proofs.labels.either.Statement.{statement}
+use Rattle.refusals.proofs.labels.either.Tie as tie
 
 pub either-spec : {M : Type 1} → statement M
 either-spec =

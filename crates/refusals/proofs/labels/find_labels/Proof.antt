@@ -33,7 +33,7 @@ find-labels-spec =
     let w = step-on x.before.before.before.before.before.before.before.args.sheet.now x.before.before.before.before.loop.at (label_here s) (whole_seen s x.before.is-torn.ensures x.if1.false) c.u16-at.result c.u16-at.ensures in omega (arith, w.0, w.1))
     (λ c. let x = c.before.before.before.before.before.before in let l = x.before.before.before.before.loop in let s = from x.before.before.before.before.before.before.before.args.sheet.now l.at in let k = c.before.before.before.before.mark-label.ensures in (
       ap length k.1 ∙ seen-length (label_here s) l.marks ∙ l.invariant.0,
-      halfway-on l.invariant.1 (step-seen x.before.before.before.before.before.before.before.args.sheet.now l.at (label_here s) (whole_seen s x.before.is-torn.ensures x.if1.false) c.u16-at.result c.u16-at.ensures) k.0 k.1 c.before.Either.ensures,
+      halfway-on l.invariant.1 (step-seen x.before.before.before.before.before.before.before.args.sheet.now l.at (label_here s) (whole_seen s x.before.is-torn.ensures x.if1.false) c.u16-at.result c.u16-at.ensures) k.0 k.1 c.before.either.ensures,
     ))
     (λ c. search rules)
     (λ c. let s = c.before.before.before.before.args.sheet.now in let l = c.before.loop in halfway-done l.invariant.1 (ended-none s l.at (omega arith))))

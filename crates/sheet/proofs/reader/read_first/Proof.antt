@@ -4,11 +4,11 @@ use Rattle.sheet.specs.Instruction.{instruction_from}
 use Rattle.sheet.proofs.reader.read_first.Statement.{statement}
 use Rattle.sheet.proofs.reader.read_first.Tie as tie
 
-pub read-first-spec : {M : Type 1} → statement M
+pub read_first_spec : {M : Type 1} → statement M
 unfolding instruction_from
-read-first-spec =
+read_first_spec =
     tie.close
     (tie.spec
     (λ c κs. search rules) (λ c. search rules) (λ c κs. search rules) (λ c. search rules)
-    (λ c. simp (← c.before.before.before.before.read_head.ensures, c.before.before.kind.given.1, ← c.read-fields.ensures))
-    (λ c. simp (← c.before.before.before.read_head.ensures, c.before.n.given.1)))
+    (λ c. simp (← c.read_head.ensures, c.in-Kind.is, ← c.read_fields.ensures))
+    (λ c. simp (← c.read_head.ensures, c.in-Refused.is)))

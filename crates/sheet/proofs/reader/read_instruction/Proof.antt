@@ -9,22 +9,22 @@ use Rattle.sheet.specs.Instruction.{instruction_from}
 use Rattle.sheet.proofs.reader.read_instruction.Statement.{statement}
 use Rattle.sheet.proofs.reader.read_instruction.Tie as tie
 
-pub read-instruction-spec : {M : Type 1} → statement M
+pub read_instruction_spec : {M : Type 1} → statement M
 unfolding instruction_from head_from
-read-instruction-spec =
+read_instruction_spec =
     tie.close
     (tie.spec
-    (λ c. let a = c.before.before.args in sym (next_past (instruction_from a.count) a.sheet.now a.at refl (omega arith)))
+    (λ c. let a = c.args in sym (next_past (instruction_from a.count) a.sheet.now a.at refl (omega arith)))
     (λ c. search rules) (λ c. search rules) (λ c. search rules) (λ c κs. search rules) (λ c. search rules) (λ c κs. search rules)
     (λ c. search rules) (λ c. search rules) (λ c. search rules)
     (λ c.
-    let a = c.before.before.before.before.before.before.before.before.args in
+    let a = c.args in
     sym
     (next-got (instruction_from a.count) a.sheet.now a.at _ _
-    (sym c.before.before.before.before.read_first.ensures ∙ ap as_read c.before.before.instruction.given.1)
-    c.u16-at.ensures))
+    (sym c.read_first.ensures ∙ ap as_read c.in-Got.is)
+    c.u16_at-n.ensures))
     (λ c.
-    let a = c.before.before.before.before.before.before.before.args in
+    let a = c.args in
     sym
     (next-refused (instruction_from a.count) a.sheet.now a.at _
-    (sym c.before.before.before.read_first.ensures ∙ ap as_read c.before.n.given.1))))
+    (sym c.read_first.ensures ∙ ap as_read c.in-Refused.is))))

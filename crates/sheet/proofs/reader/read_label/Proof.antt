@@ -5,11 +5,11 @@ use Rattle.sheet.specs.Instruction.{label_from}
 use Rattle.sheet.proofs.reader.read_label.Statement.{statement}
 use Rattle.sheet.proofs.reader.read_label.Tie as tie
 
-pub read-label-spec : {M : Type 1} → statement M
+pub read_label_spec : {M : Type 1} → statement M
 unfolding label_from
-read-label-spec =
+read_label_spec =
     tie.close
     (tie.spec
     (λ c κs. search rules)
-    (λ c. simp (← c.before.byte.ensures, lt-ltb _ _ c.if1.true))
-    (λ c. simp (← c.before.byte.ensures, le-ltb _ _ c.if1.false)))
+    (λ c. simp (← c.byte-label.ensures, lt-ltb _ _ c.if-label-lt-FIRST_LABEL.true))
+    (λ c. simp (← c.byte-label.ensures, le-ltb _ _ c.if-label-lt-FIRST_LABEL.false)))

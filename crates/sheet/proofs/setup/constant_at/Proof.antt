@@ -8,13 +8,13 @@ use Rattle.sheet.specs.Setup.{constant_at}
 use Rattle.sheet.proofs.setup.constant_at.Statement.{statement}
 use Rattle.sheet.proofs.setup.constant_at.Tie as tie
 
-pub constant-at-spec : {M : Type 1} → statement M
+pub constant_at_spec : {M : Type 1} → statement M
 unfolding constant_at
-constant-at-spec =
+constant_at_spec =
     tie.close
     (tie.spec
-    (λ c. let a = c.before.before.args in sym (past a.sheet.now (73 + 12 * a.i) (omega arith)))
+    (λ c. let a = c.args in sym (past a.sheet.now (73 + 12 * a.i) (omega arith)))
     (λ c. search rules)
-    (λ c. let a = c.before.before.before.args in sym (past a.sheet.now (73 + 12 * a.i) (omega arith)))
+    (λ c. let a = c.args in sym (past a.sheet.now (73 + 12 * a.i) (omega arith)))
     (λ c. search rules) (λ c. search rules) (λ c κs. search rules)
-    (λ c. c.word-at.ensures))
+    (λ c. c.word_at.ensures))

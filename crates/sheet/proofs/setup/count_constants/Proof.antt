@@ -8,52 +8,52 @@ use Rattle.sheet.proofs.Counting.{left, plus_none, left_ended, left-full, left-b
 use Rattle.sheet.proofs.setup.count_constants.Statement.{statement}
 use Rattle.sheet.proofs.setup.count_constants.Tie as tie
 
-abbrev invariant-loop : tie.invariant-loop
-invariant-loop s n₀ at₀ n at = (n ≤ 251) × (at ≤ length s) × (left s n at ≡ constants_from 251 s)
+abbrev invariant-loop-n : tie.invariant-loop-n
+invariant-loop-n s n₀ at₀ n at = (n ≤ 251) × (at ≤ length s) × (left s n at ≡ constants_from 251 s)
 
-abbrev decreases-loop : tie.decreases-loop
-decreases-loop s n₀ at₀ n at = 251 - n
+abbrev decreases-loop-n : tie.decreases-loop-n
+decreases-loop-n s n₀ at₀ n at = 251 - n
 
-pub count-constants-spec : {M : Type 1} → statement M
-count-constants-spec =
+pub count_constants_spec : {M : Type 1} → statement M
+count_constants_spec =
     tie.close
     (tie.spec
-    invariant-loop
-    decreases-loop
-    (λ c. (search rules, search rules, plus_none (constants_from 251 c.before.args.s.now)))
+    invariant-loop-n
+    decreases-loop-n
+    (λ c. (search rules, search rules, plus_none (constants_from 251 c.args.s.now)))
     (λ c. search rules) (λ c. search rules) (λ c. search rules) (λ c κs. search rules) (λ c κs. search rules)
-    (λ c. let s = c.before.before.before.before.before.before.before.before.args.s.now in
-    let l = c.before.before.before.before.before.before.loop in
+    (λ c. let s = c.args.s.now in
+    let l = c.loop-n in
     sym
-    (left-broken s l.n l.at c.before.before.before.before.before.loop-test.true
-    (sym c.before.before.before.is-constant.ensures ∙ c.before.before.if1.true)
-    (sym c.before.is-broken.ensures ∙ c.if2.true))
+    (left-broken s l.n l.at c.loop-n-test.true
+    (sym c.is_constant.ensures ∙ c.if-is_constant.true)
+    (sym c.is_broken.ensures ∙ c.if-is_broken.true))
     ∙ l.invariant.2)
-    (λ c. let s = c.before.before.before.before.before.before.args.s.now in
-    let l = c.before.before.before.before.loop in
-    sym (left_ended s l.n l.at (sym c.before.is-constant.ensures ∙ c.if1.false)) ∙ l.invariant.2)
+    (λ c. let s = c.args.s.now in
+    let l = c.loop-n in
+    sym (left_ended s l.n l.at (sym c.is_constant.ensures ∙ c.if-is_constant.false)) ∙ l.invariant.2)
     (λ c. search rules)
-    (λ c. let s = c.before.before.before.before.before.before.before.before.args.s.now in
-    let l = c.before.before.before.before.before.before.loop in
-    let h = whole s l.n l.at (sym c.before.is-broken.ensures ∙ c.if2.false) in
+    (λ c. let s = c.args.s.now in
+    let l = c.loop-n in
+    let h = whole s l.n l.at (sym c.is_broken.ensures ∙ c.if-is_broken.false) in
     search rules)
     (λ c. search rules)
-    (λ c. let s = c.before.before.before.before.before.before.before.before.args.s.now in
-    let l = c.before.before.before.before.before.before.loop in
-    let f = sym c.before.is-broken.ensures ∙ c.if2.false in (
+    (λ c. let s = c.args.s.now in
+    let l = c.loop-n in
+    let f = sym c.is_broken.ensures ∙ c.if-is_broken.false in (
       search rules,
       whole s l.n l.at f,
       sym
-          (left-more s l.n l.at c.before.before.before.before.before.loop-test.true
-          (sym c.before.before.before.is-constant.ensures ∙ c.before.before.if1.true)
+          (left-more s l.n l.at c.loop-n-test.true
+          (sym c.is_constant.ensures ∙ c.if-is_constant.true)
           f)
           ∙ l.invariant.2,
     ))
     (λ c. search rules) (λ c. search rules) (λ c. search rules) (λ c κs. search rules)
-    (λ c. let s = c.before.before.before.before.before.before.args.s.now in
-    let l = c.before.before.before.before.loop in
-    sym (left-full s l.n l.at c.before.before.before.loop-test.false (sym c.before.is-constant2.ensures ∙ c.if3.true))
+    (λ c. let s = c.args.s.now in
+    let l = c.loop-n in
+    sym (left-full s l.n l.at c.loop-n-test.false (sym c.is_constant-2.ensures ∙ c.if-is_constant-2.true))
     ∙ l.invariant.2)
-    (λ c. let s = c.before.before.before.before.before.before.args.s.now in
-    let l = c.before.before.before.before.loop in
-    sym (left_ended s l.n l.at (sym c.before.is-constant2.ensures ∙ c.if3.false)) ∙ l.invariant.2))
+    (λ c. let s = c.args.s.now in
+    let l = c.loop-n in
+    sym (left_ended s l.n l.at (sym c.is_constant-2.ensures ∙ c.if-is_constant-2.false)) ∙ l.invariant.2))

@@ -4,10 +4,10 @@ use borrow.Author.Tests.{le-leb, lt-leb}
 use Rattle.sheet.proofs.setup.is_constant.Statement.{statement}
 use Rattle.sheet.proofs.setup.is_constant.Tie as tie
 
-pub is-constant-spec : {M : Type 1} → statement M
-is-constant-spec =
+pub is_constant_spec : {M : Type 1} → statement M
+is_constant_spec =
     tie.close
     (tie.spec
     (λ c κs. search rules)
-    (λ c. simp (le-leb _ _ c.before.if1.true, ← c.u16-at.ensures))
-    (λ c. simp (lt-leb _ _ c.if1.false)))
+    (λ c. simp (le-leb _ _ c.if-s-ge4.true, ← c.u16_at-kind.ensures))
+    (λ c. simp (lt-leb _ _ c.if-s-ge4.false)))

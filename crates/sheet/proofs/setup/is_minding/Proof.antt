@@ -3,11 +3,11 @@ use borrow.Author.Rules.{rules}
 use Rattle.sheet.proofs.setup.is_minding.Statement.{statement}
 use Rattle.sheet.proofs.setup.is_minding.Tie as tie
 
-pub is-minding-spec : {M : Type 1} → statement M
-is-minding-spec =
+pub is_minding_spec : {M : Type 1} → statement M
+is_minding_spec =
     tie.close
     (tie.spec
     (λ c. search rules) (λ c. search rules) (λ c. search rules)
-    (λ c. simp c.enum_told.given.1)
-    (λ c. simp c.enum-told2.given.1)
-    (λ c. simp c.enum-told3.given.1))
+    (λ c. simp c.in-Plain.is)
+    (λ c. simp c.in-Stable.is)
+    (λ c. simp c.in-Minding.is))

@@ -7,10 +7,10 @@ use Rattle.text.proofs.Whole.{prints}
 use Rattle.text.proofs.lines.constant_line.Statement.{statement}
 use Rattle.text.proofs.lines.constant_line.Tie as tie
 
-pub constant-line-spec : {M : Type 1} → statement M
+pub constant_line_spec : {M : Type 1} → statement M
 unfolding constant_line
-constant-line-spec =
+constant_line_spec =
     tie.close
     (tie.spec
     (λ c κs. search rules) (λ c κs. search rules) (λ c κs. search rules) (λ c κs. search rules) (λ c κs. search rules)
-    (λ c. prints c.before.before.before.before.empty-line.ensures ((c.before.before.before.decimal.ensures ▹ (c.before.before.byte.ensures ▹ c.before.hex.ensures)) ▹ c.byte2.ensures) (constant_short c.before.before.before.before.before.args.index c.before.before.before.before.before.args.word)))
+    (λ c. prints c.empty_line.ensures ((c.decimal.ensures ▹ (c.byte.ensures ▹ c.hex.ensures)) ▹ c.byte-2.ensures) (constant_short c.args.index c.args.word)))

@@ -7,10 +7,10 @@ use Rattle.text.proofs.Whole.{prints}
 use Rattle.text.proofs.lines.constants_heading.Statement.{statement}
 use Rattle.text.proofs.lines.constants_heading.Tie as tie
 
-pub constants-heading-spec : {M : Type 1} → statement M
+pub constants_heading_spec : {M : Type 1} → statement M
 unfolding ascii constants_heading
-constants-heading-spec =
+constants_heading_spec =
     tie.close
     (tie.spec
     (λ c κs. search rules) (λ c. search rules) (λ c κs. search rules) (λ c κs. search rules) (λ c κs. search rules)
-    (λ c. prints c.before.before.before.before.empty-line.ensures (c.before.before.text.ensures ▹ c.before.number.ensures ▹ c.byte.ensures) (constants_heading_short c.before.before.before.before.before.args.count)))
+    (λ c. prints c.empty_line.ensures (c.text.ensures ▹ c.number.ensures ▹ c.byte.ensures) (constants_heading_short c.args.count)))

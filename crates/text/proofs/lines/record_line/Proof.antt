@@ -8,17 +8,17 @@ use Rattle.text.proofs.Whole.{prints}
 use Rattle.text.proofs.lines.record_line.Statement.{statement}
 use Rattle.text.proofs.lines.record_line.Tie as tie
 
-pub record-line-spec : {M : Type 1} → statement M
+pub record_line_spec : {M : Type 1} → statement M
 unfolding record_line record_text
-record-line-spec =
+record_line_spec =
     tie.close
     (tie.spec
     (λ c κs. search rules) (λ c κs. search rules) (λ c κs. search rules) (λ c κs. search rules) (λ c κs. search rules)
     (λ c.
-    let r = c.before.before.before.before.before.args.«record» in
-    let h = c.before.record-operands.ensures.1 in
-    let p = prints c.before.before.before.before.empty-line.ensures
-    (c.before.before.before.record-name.ensures ▹ (c.before.before.byte.ensures ▹ c.before.record-operands.ensures.0) ▹ c.byte2.ensures)
+    let r = c.args.record in
+    let h = c.record_operands.ensures.1 in
+    let p = prints c.empty_line.ensures
+    (c.record_name.ensures ▹ (c.byte.ensures ▹ c.record_operands.ensures.0) ▹ c.byte-2.ensures)
     (record_short r h) in
     let k = p.whole.count in
     let l = record_line_short r h in

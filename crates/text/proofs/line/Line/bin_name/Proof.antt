@@ -5,10 +5,10 @@ use Rattle.text.proofs.Words.{by_name}
 use Rattle.text.proofs.line.Line.bin_name.Statement.{statement}
 use Rattle.text.proofs.line.Line.bin_name.Tie as tie
 
-pub bin-name-spec : {M : Type 1} → statement M
+pub bin_name_spec : {M : Type 1} → statement M
 unfolding ascii bin_name
-bin-name-spec =
+bin_name_spec =
     tie.close
     (tie.spec
     (λ c. search rules) (λ c κs. search rules) (λ c. search rules) (λ c κs. search rules)
-    (λ c. by_name bin_names tt c.before.bin-number.ensures c.word_in.ensures))
+    (λ c. by_name bin_names tt c.bin_number.ensures c.word_in.ensures))

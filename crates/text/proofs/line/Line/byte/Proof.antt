@@ -5,11 +5,11 @@ use Rattle.text.specs.Line.{added}
 use Rattle.text.proofs.line.Line.byte.Statement.{statement}
 use Rattle.text.proofs.line.Line.byte.Tie as tie
 
-pub byte-spec : {M : Type 1} → statement M
+pub byte_spec : {M : Type 1} → statement M
 unfolding added
-byte-spec =
+byte_spec =
     tie.close
     (tie.spec
     (λ c. search rules) (λ c. search rules)
-    (λ c. record { same = simp (lt-ltb _ _ c.before.if1.true) })
-    (λ c. record { same = simp (le-ltb _ _ c.if1.false) }))
+    (λ c. record { same = simp (lt-ltb _ _ c.if-len-lt80.true) })
+    (λ c. record { same = simp (le-ltb _ _ c.if-len-lt80.false) }))

@@ -13,63 +13,63 @@ use Rattle.text.proofs.Digits.{found, all}
 use Rattle.text.proofs.line.Line.decimal.Statement.{statement}
 use Rattle.text.proofs.line.Line.decimal.Tie as tie
 
-abbrev invariant-loop : tie.invariant-loop
-invariant-loop self n digits₀ at₀ rest₀ digits at rest =
+abbrev invariant-loop-at : tie.invariant-loop-at
+invariant-loop-at self n digits₀ at₀ rest₀ digits at rest =
     (at ≤ 19) × (length digits ≡ 20) × (decimal_in at rest ++ drop (at + 1) digits ≡ decimal n)
 
-abbrev decreases-loop : tie.decreases-loop
-decreases-loop self n digits₀ at₀ rest₀ digits at rest = at
+abbrev decreases-loop-at : tie.decreases-loop-at
+decreases-loop-at self n digits₀ at₀ rest₀ digits at rest = at
 
-loop-holds : tie.Need-loop-init invariant-loop decreases-loop
+loop-holds : tie.Need-loop-at-init invariant-loop-at decreases-loop-at
 loop-holds c = (search rules, search rules, append-nil _)
 
-add-digits : tie.Need-overflow-add-digits invariant-loop decreases-loop
+add-digits : tie.Need-overflow_add-digits invariant-loop-at decreases-loop-at
 add-digits c = search rules
 
-cast-digits : tie.Need-overflow-cast-digits invariant-loop decreases-loop
+cast-digits : tie.Need-overflow_cast-digits invariant-loop-at decreases-loop-at
 cast-digits c = search rules
 
-array-write-digits : tie.Need-array-write-digits invariant-loop decreases-loop
+array-write-digits : tie.Need-bounds-digits-at invariant-loop-at decreases-loop-at
 array-write-digits c = search rules
 
-sub_at : tie.Need-overflow-sub-at invariant-loop decreases-loop
+sub_at : tie.Need-overflow_sub-at invariant-loop-at decreases-loop-at
 sub_at c = search rules
 
-loop-less : tie.Need-loop-smaller invariant-loop decreases-loop
+loop-less : tie.Need-loop-at-smaller invariant-loop-at decreases-loop-at
 loop-less c = search rules
 
-loop-again : tie.Need-loop-preserved invariant-loop decreases-loop
+loop-again : tie.Need-loop-at-preserved invariant-loop-at decreases-loop-at
 loop-again c =
-    let v = c.before.before.loop in
-    (search rules, search rules, found v.digits v.at v.rest (omega arith) (leb-true 10 v.rest c.if1.true) (omega arith) ∙ v.invariant.2)
+    let v = c.loop-at in
+    (search rules, search rules, found v.digits v.at v.rest (omega arith) (leb-true 10 v.rest c.if-rest-ge10.true) (omega arith) ∙ v.invariant.2)
 
-add-digits-2 : tie.Need-overflow-add-digits-2 invariant-loop decreases-loop
+add-digits-2 : tie.Need-overflow_add-digits-2 invariant-loop-at decreases-loop-at
 add-digits-2 c = search rules
 
-cast-digits-2 : tie.Need-overflow-cast-digits-2 invariant-loop decreases-loop
+cast-digits-2 : tie.Need-overflow_cast-digits-2 invariant-loop-at decreases-loop-at
 cast-digits-2 c = search rules
 
-array-write-digits-2 : tie.Need-array-write-digits-2 invariant-loop decreases-loop
+array-write-digits-2 : tie.Need-bounds-digits-at-2 invariant-loop-at decreases-loop-at
 array-write-digits-2 c = search rules
 
-sub-text : tie.Need-overflow-sub-text invariant-loop decreases-loop
+sub-text : tie.Need-slice_bounds-text-count invariant-loop-at decreases-loop-at
 sub-text c = search rules
 
-part-text-start : tie.Need-slice-bounds-text-start invariant-loop decreases-loop
+part-text-start : tie.Need-slice-bounds-text-start invariant-loop-at decreases-loop-at
 part-text-start c = search rules
 
-part-text-end : tie.Need-slice-bounds-text-end invariant-loop decreases-loop
+part-text-end : tie.Need-slice-bounds-text-end invariant-loop-at decreases-loop-at
 part-text-end c = simp length-set (omega arith)
 
-text-requires : tie.Need-text-requires invariant-loop decreases-loop
+text-requires : tie.Need-text-requires invariant-loop-at decreases-loop-at
 text-requires c κs = search rules
 
-returns : tie.Need-returns invariant-loop decreases-loop
+returns : tie.Need-returns invariant-loop-at decreases-loop-at
 returns c =
-    let a = c.before.before.before.before.before.args in
-    let v = c.before.before.before.before.loop in
+    let a = c.args in
+    let v = c.loop-at in
     let few : 0 < v.at → v.rest < 10 =
-    λ h. ⊎_elim (λ w. leb-false 10 v.rest w.1.left) (λ w. let z = w.left in omega arith) c.before.before.before.loop-test.branch
+    λ h. ⊎_elim (λ w. leb-false 10 v.rest w.1.left) (λ w. let z = w.left in omega arith) c.loop-at-test.branch
     in
     record {
       same =
@@ -79,12 +79,12 @@ returns c =
           (all v.digits v.at v.rest few (omega arith) (omega arith) ∙ v.invariant.2);
     }
 
-pub decimal-spec : {M : Type 1} → statement M
-decimal-spec =
+pub decimal_spec : {M : Type 1} → statement M
+decimal_spec =
     tie.close
     (tie.spec
-    invariant-loop
-    decreases-loop
+    invariant-loop-at
+    decreases-loop-at
     loop-holds
     add-digits
     cast-digits

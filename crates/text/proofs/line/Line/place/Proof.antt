@@ -6,14 +6,14 @@ use Rattle.text.specs.Text.{ascii, place}
 use Rattle.text.proofs.line.Line.place.Statement.{statement}
 use Rattle.text.proofs.line.Line.place.Tie as tie
 
-pub place-spec : {M : Type 1} → statement M
+pub place_spec : {M : Type 1} → statement M
 unfolding ascii place
-place-spec =
+place_spec =
     tie.close
     (tie.spec
     (λ c. search rules) (λ c. search rules) (λ c κs. search rules) (λ c. search rules) (λ c κs. search rules) (λ c. search rules)
     (λ c. search rules) (λ c κs. search rules) (λ c. search rules) (λ c κs. search rules) (λ c. search rules) (λ c. search rules)
     (λ c κs. search rules) (λ c. search rules) (λ c κs. search rules)
-    (λ c. simp c.before.before.before.before.loc.given.1 (c.before.text.ensures ▹ c.number.ensures, omega arith))
-    (λ c. simp c.before.before.before.before.loc2.given.1 (c.before.text2.ensures ▹ c.number2.ensures, omega arith))
-    (λ c. simp c.before.before.before.before.loc3.given.1 (c.before.text3.ensures ▹ c.number3.ensures, omega arith)))
+    (λ c. simp c.in-Stack.is (c.text.ensures ▹ c.number.ensures, omega arith))
+    (λ c. simp c.in-Mem.is (c.text-in-Mem.ensures ▹ c.number-in-Mem.ensures, omega arith))
+    (λ c. simp c.in-Param.is (c.text-in-Param.ensures ▹ c.number-in-Param.ensures, omega arith)))

@@ -10,48 +10,48 @@ use Rattle.text.proofs.Adding.{turn_register, ended_registers}
 use Rattle.text.proofs.line.Line.registers.Statement.{statement}
 use Rattle.text.proofs.line.Line.registers.Tie as tie
 
-abbrev invariant-loop : tie.invariant-loop
-invariant-loop rs line₀ i₀ line i = (i ≤ length rs) × (add_all line (registers (drop i rs)) ≡ add_all line₀ (registers rs))
+abbrev invariant-loop-i : tie.invariant-loop-i
+invariant-loop-i rs line₀ i₀ line i = (i ≤ length rs) × (add_all line (registers (drop i rs)) ≡ add_all line₀ (registers rs))
 
-abbrev decreases-loop : tie.decreases-loop
-decreases-loop rs line₀ i₀ line i = length rs - i
+abbrev decreases-loop-i : tie.decreases-loop-i
+decreases-loop-i rs line₀ i₀ line i = length rs - i
 
-loop-holds : tie.Need-loop-init invariant-loop decreases-loop
+loop-holds : tie.Need-loop-i-init invariant-loop-i decreases-loop-i
 loop-holds c = (search rules, refl)
 
-shared-slice-read-r : tie.Need-shared-slice-read-r invariant-loop decreases-loop
+shared-slice-read-r : tie.Need-bounds-rs-i invariant-loop-i decreases-loop-i
 shared-slice-read-r c = search rules
 
-byte-requires : tie.Need-byte-requires invariant-loop decreases-loop
+byte-requires : tie.Need-byte-requires invariant-loop-i decreases-loop-i
 byte-requires c κs = search rules
 
-register-requires : tie.Need-register-requires invariant-loop decreases-loop
+register-requires : tie.Need-register-line-requires invariant-loop-i decreases-loop-i
 register-requires c κs = search rules
 
-add-i : tie.Need-overflow-add-i invariant-loop decreases-loop
+add-i : tie.Need-overflow_add-i invariant-loop-i decreases-loop-i
 add-i c = search rules
 
-loop-less : tie.Need-loop-smaller invariant-loop decreases-loop
+loop-less : tie.Need-loop-i-smaller invariant-loop-i decreases-loop-i
 loop-less c = search rules
 
-loop-again : tie.Need-loop-preserved invariant-loop decreases-loop
+loop-again : tie.Need-loop-i-preserved invariant-loop-i decreases-loop-i
 loop-again c =
-    let a = c.before.before.before.before.before.before.args in
-    let v = c.before.before.before.before.loop in
-    (search rules, turn_register a.rs.now v.i (omega arith) c.before.byte.ensures c.register.ensures ∙ v.invariant.1)
+    let a = c.args in
+    let v = c.loop-i in
+    (search rules, turn_register a.rs.now v.i (omega arith) c.byte.ensures c.register-line.ensures ∙ v.invariant.1)
 
-returns : tie.Need-returns invariant-loop decreases-loop
+returns : tie.Need-returns invariant-loop-i decreases-loop-i
 returns c =
-    let a = c.before.before.before.args in
-    let v = c.before.loop in
+    let a = c.args in
+    let v = c.loop-i in
     record { same = sym (ended_registers v.line a.rs.now v.i (omega arith)) ∙ v.invariant.1 }
 
-pub registers-spec : {M : Type 1} → statement M
-registers-spec =
+pub registers_spec : {M : Type 1} → statement M
+registers_spec =
     tie.close
     (tie.spec
-    invariant-loop
-    decreases-loop
+    invariant-loop-i
+    decreases-loop-i
     loop-holds
     shared-slice-read-r
     byte-requires

@@ -10,35 +10,35 @@ use Rattle.text.proofs.Words.{past_words, byte-before, end_before, byte_of, end_
 use Rattle.text.proofs.line.Line.word_in.Statement.{statement}
 use Rattle.text.proofs.line.Line.word_in.Tie as tie
 
-abbrev invariant-loop : tie.invariant-loop
-invariant-loop words n line₀ left₀ i₀ line left i = (i ≤ length words) × (add_all line (word_in (drop i words) left) ≡ add_all line₀ (word_in words n))
+abbrev invariant-loop-i : tie.invariant-loop-i
+invariant-loop-i words n line₀ left₀ i₀ line left i = (i ≤ length words) × (add_all line (word_in (drop i words) left) ≡ add_all line₀ (word_in words n))
 
-abbrev decreases-loop : tie.decreases-loop
-decreases-loop words n line₀ left₀ i₀ line left i = length words - i
+abbrev decreases-loop-i : tie.decreases-loop-i
+decreases-loop-i words n line₀ left₀ i₀ line left i = length words - i
 
-pub word-in-spec : {M : Type 1} → statement M
-word-in-spec =
+pub word_in_spec : {M : Type 1} → statement M
+word_in_spec =
     tie.close
     (tie.spec
-    invariant-loop
-    decreases-loop
+    invariant-loop-i
+    decreases-loop-i
     (λ c. (search rules, refl))
     (λ c. search rules) (λ c. search rules) (λ c. search rules) (λ c. search rules)
     (λ c.
-    let v = c.before.before.before.before.loop in
-    (search rules, end_before _ _ v.i (omega arith) v.left (omega arith) c.if2.true ∙ v.invariant.1))
+    let v = c.loop-i in
+    (search rules, end_before _ _ v.i (omega arith) v.left (omega arith) c.if-b-eq47.true ∙ v.invariant.1))
     (λ c. search rules)
     (λ c.
-    let v = c.before.before.before.before.loop in
-    (search rules, byte-before _ _ v.i (omega arith) v.left (omega arith) c.if2.false ∙ v.invariant.1))
+    let v = c.loop-i in
+    (search rules, byte-before _ _ v.i (omega arith) v.left (omega arith) c.if-b-eq47.false ∙ v.invariant.1))
     (λ c.
-    let v = c.before.before.before.before.loop in
-    record { same = sym (end_of _ _ v.i (omega arith) v.left (omega arith) c.if3.true) ∙ v.invariant.1 })
+    let v = c.loop-i in
+    record { same = sym (end_of _ _ v.i (omega arith) v.left (omega arith) c.if-b-eq47-2.true) ∙ v.invariant.1 })
     (λ c κs. search rules) (λ c. search rules)
     (λ c.
-    let a = c.before.before.before.before.before.before.before.args in
-    let v = c.before.before.before.before.before.loop in
-    (search rules, ap (λ l. add_all l (word_in (drop (v.i + 1) a.words.now) v.left)) c.byte.ensures.same ∙ byte_of v.line _ v.i (omega arith) v.left (omega arith) c.before.if3.false ∙ v.invariant.1))
+    let a = c.args in
+    let v = c.loop-i in
+    (search rules, ap (λ l. add_all l (word_in (drop (v.i + 1) a.words.now) v.left)) c.byte-line.ensures.same ∙ byte_of v.line _ v.i (omega arith) v.left (omega arith) c.if-b-eq47-2.false ∙ v.invariant.1))
     (λ c.
-    let v = c.before.loop in
+    let v = c.loop-i in
     record { same = sym (past_words v.line _ v.i v.left (omega arith)) ∙ v.invariant.1 }))

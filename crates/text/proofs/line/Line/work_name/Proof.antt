@@ -4,9 +4,9 @@ use Rattle.text.specs.Text.{ascii, work_name}
 use Rattle.text.proofs.line.Line.work_name.Statement.{statement}
 use Rattle.text.proofs.line.Line.work_name.Tie as tie
 
-pub work-name-spec : {M : Type 1} → statement M
+pub work_name_spec : {M : Type 1} → statement M
 unfolding ascii work_name
-work-name-spec =
+work_name_spec =
     tie.close
     (tie.spec
     (λ c. search rules) (λ c κs. search rules) (λ c. search rules) (λ c κs. search rules) (λ c. search rules) (λ c. search rules)
@@ -14,14 +14,14 @@ work-name-spec =
     (λ c κs. search rules) (λ c. search rules) (λ c. search rules) (λ c κs. search rules) (λ c. search rules) (λ c κs. search rules)
     (λ c. search rules) (λ c. search rules) (λ c κs. search rules) (λ c. search rules) (λ c. search rules) (λ c κs. search rules)
     (λ c. search rules) (λ c. search rules) (λ c κs. search rules) (λ c. search rules) (λ c κs. search rules)
-    (λ c. simp c.before.before.work.given.1 c.uni-name.ensures)
-    (λ c. simp c.before.before.work2.given.1 c.bin-name.ensures)
-    (λ c. simp c.before.before.enum_told.given.1 c.text.ensures)
-    (λ c. simp c.before.before.enum-told2.given.1 c.text2.ensures)
-    (λ c. simp c.before.before.enum-told3.given.1 c.text3.ensures)
-    (λ c. simp c.before.before.enum-told4.given.1 c.text4.ensures)
-    (λ c. simp c.before.before.work3.given.1 c.fused-name.ensures)
-    (λ c. simp c.before.before.enum-told5.given.1 c.text5.ensures)
-    (λ c. simp c.before.before.enum-told6.given.1 c.text6.ensures)
-    (λ c. simp c.before.before.enum-told7.given.1 c.text7.ensures)
-    (λ c. simp c.before.before.work4.given.1 c.complex-name.ensures))
+    (λ c. simp c.in-Uni.is c.uni_name.ensures)
+    (λ c. simp c.in-Bi.is c.bin_name.ensures)
+    (λ c. simp c.in-Mov.is c.text.ensures)
+    (λ c. simp c.in-Load.is c.text-in-Load.ensures)
+    (λ c. simp c.in-Save.is c.text-in-Save.ensures)
+    (λ c. simp c.in-LoadConst.is c.text-in-LoadConst.ensures)
+    (λ c. simp c.in-Fused.is c.fused_name.ensures)
+    (λ c. simp c.in-IfElse.is c.text-in-IfElse.ensures)
+    (λ c. simp c.in-LoadComplex.is c.text-in-LoadComplex.ensures)
+    (λ c. simp c.in-SaveComplex.is c.text-in-SaveComplex.ensures)
+    (λ c. simp c.in-ComplexBi.is c.complex_name.ensures))
