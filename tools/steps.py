@@ -125,7 +125,7 @@ def steps(text: str, names: dict) -> str:
                 i += known[1]
             elif key in joins and after not in ("true", "false"):
                 out.append(joins[key])
-            elif key in table and (sure or key not in variables and name not in new_names):
+            elif key in table and (sure or key not in variables and name not in new_names and table[key] != key + "-1"):
                 out.append(table[key])
             elif name == "pre":
                 out.append("requires")

@@ -10,12 +10,12 @@ use Rattle.lowering.proofs.RecordStored.{both_stored}
 use Rattle.lowering.proofs.bytes.record_bytes.Statement.{statement}
 use Rattle.lowering.proofs.bytes.record_bytes.Tie as tie
 
-pub record-bytes-spec : {M : Type 1} → statement M
-record-bytes-spec =
+pub record_bytes_spec : {M : Type 1} → statement M
+record_bytes_spec =
     tie.close
     (tie.spec
     (λ c. search rules) (λ c. search rules) (λ c κs. search rules) (λ c. search rules) (λ c. search rules) (λ c κs. search rules)
-    (λ c. let ρ = c.before.before.before.before.before.before.before.before.before.before.args.real in let h : length ρ.regs ≡ 32 = search rules in let k : length ρ.places ≡ 64 = search rules in let n = length-map ρ.regs flag_byte in
-    c.before.put-bytes.ensures
+    (λ c. let ρ = c.args.real in let h : length ρ.regs ≡ 32 = search rules in let k : length ρ.places ≡ 64 = search rules in let n = length-map ρ.regs flag_byte in
+    c.put_bytes.ensures
     ∙ both_stored (replicate 96 0) (map flag_byte ρ.regs) ρ.places 32 (n ∙ h) (omega (arith, k))
-    (c.before.before.before.before.before.before.put-flags.ensures ∙ stored_fits (replicate 96 0) 0 (map flag_byte ρ.regs) (omega (arith, h, n)))))
+    (c.put_flags.ensures ∙ stored_fits (replicate 96 0) 0 (map flag_byte ρ.regs) (omega (arith, h, n)))))

@@ -7,11 +7,11 @@ use mathlib.Core.Path.{◌≡◌}
 use Rattle.lowering.proofs.realness.bit_at.Statement.{statement}
 use Rattle.lowering.proofs.realness.bit_at.Tie as tie
 
-pub bit-at-spec : {M : Type 1} → statement M
-bit-at-spec =
+pub bit_at_spec : {M : Type 1} → statement M
+bit_at_spec =
     tie.close
     (tie.spec
     (λ c κs. search rules) (λ c. search rules)
-    (λ c. some _ _ c.power-of.ensures)
-    (λ c. bit c.before.before.args.t1 c.before.before.args.i _ c.power-of.ensures)
-    (λ c. let h : length c.before.args.t1 ≡ 64 = search rules in no-bit c.before.args.t1 c.before.args.i (omega arith)))
+    (λ c. some _ _ c.power_of-power.ensures)
+    (λ c. bit c.args.places c.args.i _ c.power_of-power.ensures)
+    (λ c. let h : length c.args.places ≡ 64 = search rules in no-bit c.args.places c.args.i (omega arith)))

@@ -6,8 +6,8 @@ use Prim.Native.Nat.{◌%◌}
 use Rattle.lowering.proofs.realness.power_of.Statement.{statement}
 use Rattle.lowering.proofs.realness.power_of.Tie as tie
 
-pub power-of-spec : {M : Type 1} → statement M
-power-of-spec =
+pub power_of_spec : {M : Type 1} → statement M
+power_of_spec =
     tie.close
     (tie.spec
     (λ c. search rules)

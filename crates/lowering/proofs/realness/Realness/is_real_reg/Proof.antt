@@ -6,10 +6,10 @@ use mathlib.Core.Path.{◌≡◌, sym, refl}
 use Rattle.lowering.proofs.realness.Realness.is_real_reg.Statement.{statement}
 use Rattle.lowering.proofs.realness.Realness.is_real_reg.Tie as tie
 
-pub is-real-reg-spec : {M : Type 1} → statement M
-is-real-reg-spec =
+pub is_real_reg_spec : {M : Type 1} → statement M
+is_real_reg_spec =
     tie.close
     (tie.spec
     (λ c. search rules)
     (λ c. refl)
-    (λ c. let h : length c.before.args.t1.regs ≡ 32 = search rules in sym (get_or-eq_default c.before.args.t1.regs _ {n = c.before.args.r} (omega arith))))
+    (λ c. let h : length c.args.self.regs ≡ 32 = search rules in sym (get_or-eq_default c.args.self.regs _ {n = c.args.r} (omega arith))))

@@ -5,13 +5,13 @@ use mathlib.Core.Path.{◌∙◌}
 use Rattle.lowering.proofs.realness.Realness.set_loc_complex.Statement.{statement}
 use Rattle.lowering.proofs.realness.Realness.set_loc_complex.Tie as tie
 
-pub set-loc-complex-spec : {M : Type 1} → statement M
+pub set_loc_complex_spec : {M : Type 1} → statement M
 unfolding without_loc
-set-loc-complex-spec =
+set_loc_complex_spec =
     tie.close
     (tie.spec
     (λ c. search rules) (λ c. search rules) (λ c κs. search rules) (λ c. search rules) (λ c. search rules) (λ c. search rules)
     (λ c. search rules) (λ c κs. search rules)
-    (λ c. simp (c.before.before.loc.given.1, c.clear_at.ensures))
-    (λ c. simp c.enum_told.given.1)
-    (λ c. simp (c.before.before.loc2.given.1, c.clear-at2.ensures)))
+    (λ c. simp (c.in-Stack.is, c.clear_at-left.ensures))
+    (λ c. simp c.in-Mem.is)
+    (λ c. simp (c.in-Param.is, c.clear_at-left-in-Param.ensures)))

@@ -7,10 +7,10 @@ use mathlib.Core.Path.{◌≡◌, sym, refl}
 use Rattle.lowering.proofs.realness.Realness.set_reg.Statement.{statement}
 use Rattle.lowering.proofs.realness.Realness.set_reg.Tie as tie
 
-pub set-reg-spec : {M : Type 1} → statement M
-set-reg-spec =
+pub set_reg_spec : {M : Type 1} → statement M
+set_reg_spec =
     tie.close
     (tie.spec
     (λ c. search rules)
     (λ c. refl)
-    (λ c. let h : length c.before.args.t1.regs ≡ 32 = search rules in simp (set_out c.before.args.t1.regs c.before.args.r c.before.args.real (omega arith))))
+    (λ c. let h : length c.args.self.regs ≡ 32 = search rules in simp (set_out c.args.self.regs c.args.r c.args.real (omega arith))))
