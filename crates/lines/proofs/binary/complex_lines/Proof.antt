@@ -5,10 +5,10 @@ use Rattle.lowering.specs.Lines.{complex_lines}
 use Rattle.lines.proofs.binary.complex_lines.Statement.{statement}
 use Rattle.lines.proofs.binary.complex_lines.Tie as tie
 
-pub complex-lines-spec : {M : Type 1} → statement M
+pub complex_lines_spec : {M : Type 1} → statement M
 unfolding complex_lines
-complex-lines-spec =
+complex_lines_spec =
     tie.close
     (tie.spec
     (λ c κs. search rules) (λ c κs. search rules) (λ c. search rules)
-    (λ c. c.before.before.before.before.before.before.mov.ensures ▹ c.before.before.mov2.ensures))
+    (λ c. c.mov-at.ensures ▹ c.mov.ensures))

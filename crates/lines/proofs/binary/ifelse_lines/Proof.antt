@@ -5,10 +5,10 @@ use Rattle.lowering.specs.Lines.{ifelse_lines}
 use Rattle.lines.proofs.binary.ifelse_lines.Statement.{statement}
 use Rattle.lines.proofs.binary.ifelse_lines.Tie as tie
 
-pub ifelse-lines-spec : {M : Type 1} → statement M
+pub ifelse_lines_spec : {M : Type 1} → statement M
 unfolding ifelse_lines
-ifelse-lines-spec =
+ifelse_lines_spec =
     tie.close
     (tie.spec
     (λ c κs. search rules) (λ c κs. search rules) (λ c. search rules)
-    (λ c. c.before.before.before.before.before.before.if-else.ensures ▹ c.before.before.if-else2.ensures))
+    (λ c. c.if_else-at.ensures ▹ c.if_else.ensures))

@@ -4,10 +4,10 @@ use Rattle.lowering.specs.Lines.{order_lines}
 use Rattle.lines.proofs.binary.order_lines.Statement.{statement}
 use Rattle.lines.proofs.binary.order_lines.Tie as tie
 
-pub order-lines-spec : {M : Type 1} → statement M
+pub order_lines_spec : {M : Type 1} → statement M
 unfolding order_lines
-order-lines-spec =
+order_lines_spec =
     tie.close
     (tie.spec
     (λ c κs. search rules) (λ c. search rules)
-    (λ c. c.before.before.bi.ensures))
+    (λ c. c.bi.ensures))

@@ -5,16 +5,16 @@ use Rattle.lowering.specs.Lines.{times_lines}
 use Rattle.lines.proofs.binary.times_lines.Statement.{statement}
 use Rattle.lines.proofs.binary.times_lines.Tie as tie
 
-pub times-lines-spec : {M : Type 1} → statement M
+pub times_lines_spec : {M : Type 1} → statement M
 unfolding times_lines
-times-lines-spec =
+times_lines_spec =
     tie.close
     (tie.spec
     (λ c κs. search rules) (λ c. search rules)
-    (λ c. simp (c.before.before.before.before.before.if1.true, c.before.before.before.before.if2.true) c.before.before.bi.ensures)
+    (λ c. simp (c.if-x.true, c.if-y.true) c.bi.ensures)
     (λ c κs. search rules) (λ c κs. search rules) (λ c. search rules)
-    (λ c. simp (c.before.before.before.before.before.before.before.before.before.if1.true, c.before.before.before.before.before.before.before.before.if2.false) (c.before.before.before.before.before.before.bi2.ensures ▹ c.before.before.bi3.ensures))
+    (λ c. simp (c.if-x.true, c.if-y.false) (c.bi-at.ensures ▹ c.bi-then-x.ensures))
     (λ c κs. search rules) (λ c κs. search rules) (λ c. search rules)
-    (λ c. simp (c.before.before.before.before.before.before.before.before.before.if1.false, c.before.before.before.before.before.before.before.before.if3.true) (c.before.before.before.before.before.before.bi4.ensures ▹ c.before.before.bi5.ensures))
+    (λ c. simp (c.if-x.false, c.if-y-2.true) (c.bi-at-then-y-2.ensures ▹ c.bi-then-y-2.ensures))
     (λ c κs. search rules) (λ c. search rules)
-    (λ c. simp (c.before.before.before.before.before.if1.false, c.before.before.before.before.if3.false) c.before.before.complex-bi.ensures))
+    (λ c. simp (c.if-x.false, c.if-y-2.false) c.complex_bi.ensures))

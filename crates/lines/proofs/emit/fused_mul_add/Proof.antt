@@ -4,9 +4,9 @@ use mathlib.Core.Path.{◌∙◌}
 use Rattle.lines.proofs.emit.fused_mul_add.Statement.{statement}
 use Rattle.lines.proofs.emit.fused_mul_add.Tie as tie
 
-pub fused-mul-add-spec : {M : Type 1} → statement M
-fused-mul-add-spec =
+pub fused_mul_add_spec : {M : Type 1} → statement M
+fused_mul_add_spec =
     tie.close
     (tie.spec
     (λ c κs. search rules) (λ c κs. search rules) (λ c κs. search rules) (λ c κs. search rules) (λ c κs. search rules) (λ c. search rules)
-    (λ c. record { same = c.before.before.push-fused.ensures ∙ simp (c.before.before.before.before.before.before.before.number.ensures, c.before.before.before.before.before.before.number2.ensures, c.before.before.before.before.before.number3.ensures, c.before.before.before.before.number4.ensures) }))
+    (λ c. record { same = c.push_fused.ensures ∙ simp (c.number-d.ensures, c.number-x.ensures, c.number-y.ensures, c.number-z.ensures) }))

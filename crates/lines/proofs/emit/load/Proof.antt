@@ -9,4 +9,4 @@ load_spec =
     tie.close
     (tie.spec
     (λ c κs. search rules) (λ c κs. search rules) (λ c. search rules)
-    (λ c. record { same = c.before.before.push-load.ensures ∙ simp c.before.before.before.before.number.ensures }))
+    (λ c. record { same = c.push_load.ensures ∙ simp c.number-d.ensures }))

@@ -4,9 +4,9 @@ use mathlib.Core.Path.{◌∙◌}
 use Rattle.lines.proofs.emit.save.Statement.{statement}
 use Rattle.lines.proofs.emit.save.Tie as tie
 
-pub save-spec : {M : Type 1} → statement M
-save-spec =
+pub save_spec : {M : Type 1} → statement M
+save_spec =
     tie.close
     (tie.spec
     (λ c κs. search rules) (λ c κs. search rules) (λ c. search rules)
-    (λ c. record { same = c.before.before.push-save.ensures ∙ simp c.before.before.before.before.number.ensures }))
+    (λ c. record { same = c.push_save.ensures ∙ simp c.number-s.ensures }))

@@ -5,11 +5,11 @@ use Rattle.lowering.specs.Lines.{ensure_lines}
 use Rattle.lines.proofs.moves.ensure_lines.Statement.{statement}
 use Rattle.lines.proofs.moves.ensure_lines.Tie as tie
 
-pub ensure-lines-spec : {M : Type 1} → statement M
+pub ensure_lines_spec : {M : Type 1} → statement M
 unfolding ensure_lines
-ensure-lines-spec =
+ensure_lines_spec =
     tie.close
     (tie.spec
     (λ c κs. search rules) (λ c. search rules)
-    (λ c. simp c.before.before.before.before.if1.true c.before.before.bi.ensures)
-    (λ c. simp c.if1.false (none)))
+    (λ c. simp c.if-x.true c.bi.ensures)
+    (λ c. simp c.if-x.false (none)))

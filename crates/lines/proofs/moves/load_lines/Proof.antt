@@ -4,12 +4,12 @@ use Rattle.lowering.specs.Lines.{load_lines}
 use Rattle.lines.proofs.moves.load_lines.Statement.{statement}
 use Rattle.lines.proofs.moves.load_lines.Tie as tie
 
-pub load-lines-spec : {M : Type 1} → statement M
+pub load_lines_spec : {M : Type 1} → statement M
 unfolding load_lines
-load-lines-spec =
+load_lines_spec =
     tie.close
     (tie.spec
     (λ c κs. search rules) (λ c. search rules)
-    (λ c. simp c.before.before.before.before.if1.true c.before.before.load.ensures)
+    (λ c. simp c.if-x.true c.load.ensures)
     (λ c κs. search rules) (λ c. search rules)
-    (λ c. simp c.before.before.before.before.if1.false c.before.before.load-complex.ensures))
+    (λ c. simp c.if-x.false c.load_complex.ensures))

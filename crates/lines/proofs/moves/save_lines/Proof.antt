@@ -4,10 +4,10 @@ use Rattle.lowering.specs.Lines.{save_lines}
 use Rattle.lines.proofs.moves.save_lines.Statement.{statement}
 use Rattle.lines.proofs.moves.save_lines.Tie as tie
 
-pub save-lines-spec : {M : Type 1} → statement M
+pub save_lines_spec : {M : Type 1} → statement M
 unfolding save_lines
-save-lines-spec =
+save_lines_spec =
     tie.close
     (tie.spec
     (λ c κs. search rules) (λ c. search rules)
-    (λ c. c.before.before.save-complex.ensures))
+    (λ c. c.save_complex.ensures))

@@ -5,12 +5,12 @@ use Rattle.lowering.specs.Lines.{abs2_lines}
 use Rattle.lines.proofs.unary.abs2_lines.Statement.{statement}
 use Rattle.lines.proofs.unary.abs2_lines.Tie as tie
 
-pub abs2-lines-spec : {M : Type 1} → statement M
+pub abs2_lines_spec : {M : Type 1} → statement M
 unfolding abs2_lines
-abs2-lines-spec =
+abs2_lines_spec =
     tie.close
     (tie.spec
     (λ c κs. search rules) (λ c. search rules)
-    (λ c. simp c.before.before.before.before.if1.true c.before.before.bi.ensures)
+    (λ c. simp c.if-x.true c.bi.ensures)
     (λ c κs. search rules) (λ c κs. search rules) (λ c κs. search rules) (λ c κs. search rules) (λ c. search rules)
-    (λ c. simp c.before.before.before.before.before.before.before.before.before.before.before.before.before.before.before.before.if1.false (c.before.before.before.before.before.before.before.before.before.before.before.before.before.before.bi2.ensures ▹ c.before.before.before.before.before.before.before.before.before.before.bi3.ensures ▹ c.before.before.before.before.before.before.bi4.ensures ▹ c.before.before.bi5.ensures)))
+    (λ c. simp c.if-x.false (c.bi-at.ensures ▹ c.bi-at-2.ensures ▹ c.bi-at-3.ensures ▹ c.bi-2.ensures)))

@@ -5,12 +5,12 @@ use Rattle.lowering.specs.Lines.{abs_lines}
 use Rattle.lines.proofs.unary.abs_lines.Statement.{statement}
 use Rattle.lines.proofs.unary.abs_lines.Tie as tie
 
-pub abs-lines-spec : {M : Type 1} → statement M
+pub abs_lines_spec : {M : Type 1} → statement M
 unfolding abs_lines
-abs-lines-spec =
+abs_lines_spec =
     tie.close
     (tie.spec
     (λ c κs. search rules) (λ c. search rules)
-    (λ c. simp c.before.before.before.before.if1.true c.before.before.uni.ensures)
+    (λ c. simp c.if-x.true c.uni.ensures)
     (λ c κs. search rules) (λ c κs. search rules) (λ c κs. search rules) (λ c κs. search rules) (λ c κs. search rules) (λ c. search rules)
-    (λ c. simp c.before.before.before.before.before.before.before.before.before.before.before.before.before.before.before.before.before.before.before.before.if1.false (c.before.before.before.before.before.before.before.before.before.before.before.before.before.before.before.before.before.before.bi.ensures ▹ c.before.before.before.before.before.before.before.before.before.before.before.before.before.before.bi2.ensures ▹ c.before.before.before.before.before.before.before.before.before.before.bi3.ensures ▹ c.before.before.before.before.before.before.uni2.ensures ▹ c.before.before.bi4.ensures)))
+    (λ c. simp c.if-x.false (c.bi-at.ensures ▹ c.bi-at-2.ensures ▹ c.bi-at-3.ensures ▹ c.uni-at.ensures ▹ c.bi.ensures)))

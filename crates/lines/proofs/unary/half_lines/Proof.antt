@@ -5,10 +5,10 @@ use Rattle.lowering.specs.Lines.{half_lines}
 use Rattle.lines.proofs.unary.half_lines.Statement.{statement}
 use Rattle.lines.proofs.unary.half_lines.Tie as tie
 
-pub half-lines-spec : {M : Type 1} → statement M
+pub half_lines_spec : {M : Type 1} → statement M
 unfolding half_lines
-half-lines-spec =
+half_lines_spec =
     tie.close
     (tie.spec
     (λ c κs. search rules) (λ c κs. search rules) (λ c. search rules)
-    (λ c. c.before.before.before.before.before.before.uni.ensures ▹ c.before.before.uni2.ensures))
+    (λ c. c.uni-at.ensures ▹ c.uni.ensures))

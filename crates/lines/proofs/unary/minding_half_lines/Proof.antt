@@ -4,12 +4,12 @@ use Rattle.lowering.specs.Lines.{minding_half_lines}
 use Rattle.lines.proofs.unary.minding_half_lines.Statement.{statement}
 use Rattle.lines.proofs.unary.minding_half_lines.Tie as tie
 
-pub minding-half-lines-spec : {M : Type 1} → statement M
+pub minding_half_lines_spec : {M : Type 1} → statement M
 unfolding minding_half_lines
-minding-half-lines-spec =
+minding_half_lines_spec =
     tie.close
     (tie.spec
     (λ c κs. search rules) (λ c. search rules)
-    (λ c. simp c.before.before.before.before.if1.true c.before.before.uni.ensures)
+    (λ c. simp c.if-x.true c.uni.ensures)
     (λ c κs. search rules) (λ c. search rules)
-    (λ c. simp c.before.before.before.before.if1.false c.before.before.half-lines.ensures))
+    (λ c. simp c.if-x.false c.half_lines.ensures))

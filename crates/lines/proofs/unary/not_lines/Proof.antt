@@ -4,10 +4,10 @@ use Rattle.lowering.specs.Lines.{not_lines}
 use Rattle.lines.proofs.unary.not_lines.Statement.{statement}
 use Rattle.lines.proofs.unary.not_lines.Tie as tie
 
-pub not-lines-spec : {M : Type 1} → statement M
+pub not_lines_spec : {M : Type 1} → statement M
 unfolding not_lines
-not-lines-spec =
+not_lines_spec =
     tie.close
     (tie.spec
     (λ c κs. search rules) (λ c. search rules)
-    (λ c. c.before.before.uni.ensures))
+    (λ c. c.uni.ensures))

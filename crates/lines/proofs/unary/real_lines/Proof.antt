@@ -5,10 +5,10 @@ use Rattle.lowering.specs.Lines.{real_lines}
 use Rattle.lines.proofs.unary.real_lines.Statement.{statement}
 use Rattle.lines.proofs.unary.real_lines.Tie as tie
 
-pub real-lines-spec : {M : Type 1} → statement M
+pub real_lines_spec : {M : Type 1} → statement M
 unfolding real_lines
-real-lines-spec =
+real_lines_spec =
     tie.close
     (tie.spec
     (λ c κs. search rules) (λ c κs. search rules) (λ c. search rules)
-    (λ c. c.before.before.before.before.before.before.mov.ensures ▹ c.before.before.bi.ensures))
+    (λ c. c.mov-at.ensures ▹ c.bi.ensures))

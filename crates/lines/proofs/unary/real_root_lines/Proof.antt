@@ -4,10 +4,10 @@ use Rattle.lowering.specs.Lines.{real_root_lines}
 use Rattle.lines.proofs.unary.real_root_lines.Statement.{statement}
 use Rattle.lines.proofs.unary.real_root_lines.Tie as tie
 
-pub real-root-lines-spec : {M : Type 1} → statement M
+pub real_root_lines_spec : {M : Type 1} → statement M
 unfolding real_root_lines
-real-root-lines-spec =
+real_root_lines_spec =
     tie.close
     (tie.spec
     (λ c κs. search rules) (λ c. search rules)
-    (λ c. c.before.before.uni.ensures))
+    (λ c. c.uni.ensures))

@@ -5,12 +5,12 @@ use Rattle.lowering.specs.Lines.{recip_lines}
 use Rattle.lines.proofs.unary.recip_lines.Statement.{statement}
 use Rattle.lines.proofs.unary.recip_lines.Tie as tie
 
-pub recip-lines-spec : {M : Type 1} → statement M
+pub recip_lines_spec : {M : Type 1} → statement M
 unfolding recip_lines
-recip-lines-spec =
+recip_lines_spec =
     tie.close
     (tie.spec
     (λ c κs. search rules) (λ c. search rules)
-    (λ c. simp c.before.before.before.before.if1.true c.before.before.uni.ensures)
+    (λ c. simp c.if-x.true c.uni.ensures)
     (λ c κs. search rules) (λ c κs. search rules) (λ c κs. search rules) (λ c κs. search rules) (λ c κs. search rules) (λ c. search rules)
-    (λ c. simp c.before.before.before.before.before.before.before.before.before.before.before.before.before.before.before.before.before.before.before.before.if1.false (c.before.before.before.before.before.before.before.before.before.before.before.before.before.before.before.before.before.before.bi.ensures ▹ c.before.before.before.before.before.before.before.before.before.before.before.before.before.before.fused-mul-add.ensures ▹ c.before.before.before.before.before.before.before.before.before.before.bi2.ensures ▹ c.before.before.before.before.before.before.bi3.ensures ▹ c.before.before.uni2.ensures)))
+    (λ c. simp c.if-x.false (c.bi-at.ensures ▹ c.fused_mul_add-at.ensures ▹ c.bi-at-2.ensures ▹ c.bi-at-3.ensures ▹ c.uni-2.ensures)))

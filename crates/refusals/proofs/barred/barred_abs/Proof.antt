@@ -4,11 +4,11 @@ use borrow.Author.Tests.{eq-eqb, ne_eqb}
 use Rattle.refusals.proofs.barred.barred_abs.Statement.{statement}
 use Rattle.refusals.proofs.barred.barred_abs.Tie as tie
 
-pub barred-abs-spec : {M : Type 1} → statement M
-barred-abs-spec =
+pub barred_abs_spec : {M : Type 1} → statement M
+barred_abs_spec =
     tie.close
     (tie.spec
     (λ c κs. search rules)
-    (λ c. simp (c.before.if1.true, eq-eqb _ _ c.if2.true, c.before.before.is-real-reg.ensures))
-    (λ c. simp (c.before.if1.true, ne_eqb _ _ c.if2.false))
-    (λ c. simp c.if1.false))
+    (λ c. simp (c.if-stable.true, eq-eqb _ _ c.if-a-eq-RET.true, c.is_real_reg-x.ensures))
+    (λ c. simp (c.if-stable.true, ne_eqb _ _ c.if-a-eq-RET.false))
+    (λ c. simp c.if-stable.false))

@@ -3,11 +3,11 @@ use borrow.Author.Tests.{le-ltb, lt-ltb}
 use Rattle.refusals.proofs.barred.barred_divide.Statement.{statement}
 use Rattle.refusals.proofs.barred.barred_divide.Tie as tie
 
-pub barred-divide-spec : {M : Type 1} → statement M
-barred-divide-spec =
+pub barred_divide_spec : {M : Type 1} → statement M
+barred_divide_spec =
     tie.close
     (tie.spec
-    (λ c. simp (c.before.if1.true, c.if2.true))
-    (λ c. simp (c.before.before.if1.true, c.before.if2.false, lt-ltb _ _ c.if3.true))
-    (λ c. simp (c.before.before.if1.true, c.before.if2.false, le-ltb _ _ c.if3.false))
-    (λ c. simp c.if1.false))
+    (λ c. simp (c.if-stable.true, c.if-real.true))
+    (λ c. simp (c.if-stable.true, c.if-real.false, lt-ltb _ _ c.if-a-lt30.true))
+    (λ c. simp (c.if-stable.true, c.if-real.false, le-ltb _ _ c.if-a-lt30.false))
+    (λ c. simp c.if-stable.false))

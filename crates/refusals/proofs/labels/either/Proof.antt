@@ -2,9 +2,9 @@
 use Rattle.refusals.proofs.labels.either.Statement.{statement}
 use Rattle.refusals.proofs.labels.either.Tie as tie
 
-pub either-spec : {M : Type 1} → statement M
-either-spec =
+pub either_spec : {M : Type 1} → statement M
+either_spec =
     tie.close
     (tie.spec
-    (λ c. simp c.if1.true)
-    (λ c. simp c.if1.false))
+    (λ c. simp c.if-x.true)
+    (λ c. simp c.if-x.false))

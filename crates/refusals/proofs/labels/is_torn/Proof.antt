@@ -6,10 +6,10 @@ use Rattle.refusals.proofs.Searching.{head_read, head_refused}
 use Rattle.refusals.proofs.labels.is_torn.Statement.{statement}
 use Rattle.refusals.proofs.labels.is_torn.Tie as tie
 
-pub is-torn-spec : {M : Type 1} → statement M
-is-torn-spec =
+pub is_torn_spec : {M : Type 1} → statement M
+is_torn_spec =
     tie.close
     (tie.spec
     (λ c κs. search rules) (λ c. search rules) (λ c. search rules)
-    (λ c. head_read _ _ (sym c.before.before.before.read_head.ensures ∙ ap as_head c.before.kind.given.1))
-    (λ c. head_refused _ _ (sym c.before.before.before.read_head.ensures ∙ ap as_head c.before.number.given.1)))
+    (λ c. head_read _ _ (sym c.read_head.ensures ∙ ap as_head c.in-Kind.is))
+    (λ c. head_refused _ _ (sym c.read_head.ensures ∙ ap as_head c.in-Refused.is)))

@@ -8,15 +8,15 @@ use Rattle.refusals.proofs.Directing.{at-headed, at-torn, at_low, at-past}
 use Rattle.refusals.proofs.labels.pass_at.Statement.{statement}
 use Rattle.refusals.proofs.labels.pass_at.Tie as tie
 
-pub pass-at-spec : {M : Type 1} → statement M
-pass-at-spec =
+pub pass_at_spec : {M : Type 1} → statement M
+pass_at_spec =
     tie.close
     (tie.spec
-    (λ c n. let a = c.before.before.before.before.args in let h = c.if1.true in passed_as (at-past n a.sheet.now a.at (omega (arith, h))) (works-passed (search rules) (search rules) _ _))
+    (λ c n. let a = c.args in let h = c.if-sheet-at.true in passed_as (at-past n a.sheet.now a.at (omega (arith, h))) (works-passed (search rules) (search rules) _ _))
     (λ c. search rules) (λ c. search rules) (λ c. search rules) (λ c κs. search rules)
-    (λ c n. let a = c.before.before.before.before.before.before.before.args in passed_as (at_low n a.sheet.now a.at c.before.u16-at.ensures c.if2.true) (works-passed (search rules) (search rules) _ _))
+    (λ c n. let a = c.args in passed_as (at_low n a.sheet.now a.at c.u16_at.ensures c.if-u16_at-lt14.true) (works-passed (search rules) (search rules) _ _))
     (λ c κs. search rules) (λ c. search rules) (λ c κs. search rules) (λ c. search rules) (λ c. search rules) (λ c. search rules)
-    (λ c n. let a = c.before.before.before.before.before.before.before.before.before.before.before.before.before.before.before.before.before.before.args in
-    passed_as (at-headed n a.sheet.now a.at _ (sym c.before.before.before.before.before.before.before.before.before.before.read_head.ensures ∙ ap as_head c.before.before.before.before.before.before.before.before.kind.given.1)) (c.before.before.before.before.pass-kind.ensures n))
-    (λ c n. let a = c.before.before.before.before.before.before.before.before.before.before.before.args in
-    passed_as (at-torn n a.sheet.now a.at _ (sym c.before.before.before.read_head.ensures ∙ ap as_head c.before.number.given.1)) (works-passed (search rules) (search rules) _ _)))
+    (λ c n. let a = c.args in
+    passed_as (at-headed n a.sheet.now a.at _ (sym c.read_head.ensures ∙ ap as_head c.in-Kind.is)) (c.pass_kind.ensures n))
+    (λ c n. let a = c.args in
+    passed_as (at-torn n a.sheet.now a.at _ (sym c.read_head.ensures ∙ ap as_head c.in-Refused.is)) (works-passed (search rules) (search rules) _ _)))

@@ -6,18 +6,18 @@ use Rattle.refusals.proofs.Marking.{branch-none, branch-stood, branch-ahead, bra
 use Rattle.refusals.proofs.labels.pass_branch.Statement.{statement}
 use Rattle.refusals.proofs.labels.pass_branch.Tie as tie
 
-pub pass-branch-spec : {M : Type 1} → statement M
-pass-branch-spec =
+pub pass_branch_spec : {M : Type 1} → statement M
+pass_branch_spec =
     tie.close
     (tie.spec
     (λ c κs. search rules) (λ c. search rules)
-    (λ c. let a = c.before.before.before.before.before.args in let h : length a.real.regs ≡ 32 = search rules in let k : length a.real.places ≡ 64 = search rules in
-    passed-refused h k 10 refl (branch-none a.label a.real a.marks.now a.rows.now (sym c.before.byte.ensures ∙ c.if1.true)))
+    (λ c. let a = c.args in let h : length a.real.regs ≡ 32 = search rules in let k : length a.real.places ≡ 64 = search rules in
+    passed-refused h k 10 refl (branch-none a.label a.real a.marks.now a.rows.now (sym c.byte-mark.ensures ∙ c.if-mark-eq0.true)))
     (λ c. search rules)
-    (λ c. let a = c.before.before.before.before.before.before.args in let h : length a.real.regs ≡ 32 = search rules in let k : length a.real.places ≡ 64 = search rules in
-    passed-refused h k 10 refl (branch-stood a.label a.real a.marks.now a.rows.now (sym c.before.before.byte.ensures ∙ c.if2.true)))
+    (λ c. let a = c.args in let h : length a.real.regs ≡ 32 = search rules in let k : length a.real.places ≡ 64 = search rules in
+    passed-refused h k 10 refl (branch-stood a.label a.real a.marks.now a.rows.now (sym c.byte-mark.ensures ∙ c.if-mark-eq-STOOD.true)))
     (λ c κs. search rules) (λ c κs. search rules) (λ c. search rules) (λ c. search rules)
-    (λ c. let a = c.before.before.before.before.before.before.before.before.before.before.before.before.before.before.args in let h : length a.real.regs ≡ 32 = search rules in let k : length a.real.places ≡ 64 = search rules in
-    let m = c.before.before.before.before.before.before.before.before.before.before.byte.ensures in
-    branch-passed h k (branch-ahead a.label a.real a.marks.now a.rows.now (λ e. c.before.before.before.before.before.before.before.before.before.if1.false (m ∙ e)) (λ e. c.before.before.before.before.before.before.before.before.if2.false (m ∙ e)))
-    c.before.before.before.before.before.before.before.record-bytes.ensures c.before.before.before.before.note-branch.ensures))
+    (λ c. let a = c.args in let h : length a.real.regs ≡ 32 = search rules in let k : length a.real.places ≡ 64 = search rules in
+    let m = c.byte-mark.ensures in
+    branch-passed h k (branch-ahead a.label a.real a.marks.now a.rows.now (λ e. c.if-mark-eq0.false (m ∙ e)) (λ e. c.if-mark-eq-STOOD.false (m ∙ e)))
+    c.record_bytes.ensures c.note_branch.ensures))

@@ -12,26 +12,26 @@ use Rattle.refusals.proofs.Marking.{compared_same, compared-apart, compared_all}
 use Rattle.refusals.proofs.labels.row_is.Statement.{statement}
 use Rattle.refusals.proofs.labels.row_is.Tie as tie
 
-abbrev invariant-loop : tie.invariant-loop
-invariant-loop rows label bytes at i₀ i =
+abbrev invariant-loop-i : tie.invariant-loop-i
+invariant-loop-i rows label bytes at i₀ i =
     (i ≤ 96) × (bytes_same (bytes_at rows (at + i) (96 - i)) (drop i bytes) ≡ bytes_same (row label rows) bytes)
 
-abbrev decreases-loop : tie.decreases-loop
-decreases-loop rows label bytes at i₀ i = 96 - i
+abbrev decreases-loop-i : tie.decreases-loop-i
+decreases-loop-i rows label bytes at i₀ i = 96 - i
 
-pub row-is-spec : {M : Type 1} → statement M
-row-is-spec =
+pub row_is_spec : {M : Type 1} → statement M
+row_is_spec =
     tie.close
     (tie.spec
-    invariant-loop
-    decreases-loop
+    invariant-loop-i
+    decreases-loop-i
     (λ c. search rules)
-    (λ c. let a = c.before.args in (omega arith, ap (λ k. bytes_same (bytes_at a.rows.now k 96) a.t3) (add-zero (96 * a.label))))
+    (λ c. let a = c.args in (omega arith, ap (λ k. bytes_same (bytes_at a.rows.now k 96) a.bytes) (add-zero (96 * a.label))))
     (λ c. search rules) (λ c κs. search rules) (λ c. search rules)
-    (λ c. let l = c.before.before.before.loop in let a = c.before.before.before.before.before.args in let n : length a.t3 ≡ 96 = search rules in
-    sym (compared-apart a.rows.now a.t3 (96 * a.label) 96 l.i (omega arith) n (λ e. c.if1.true (c.before.byte.ensures ∙ e))) ∙ l.invariant.1)
+    (λ c. let l = c.loop-i in let a = c.args in let n : length a.bytes ≡ 96 = search rules in
+    sym (compared-apart a.rows.now a.bytes (96 * a.label) 96 l.i (omega arith) n (λ e. c.if-byte-bytes.true (c.byte.ensures ∙ e))) ∙ l.invariant.1)
     (λ c. search rules) (λ c. search rules)
-    (λ c. let l = c.before.before.before.loop in let a = c.before.before.before.before.before.args in let n : length a.t3 ≡ 96 = search rules in
-    (omega arith, compared_same a.rows.now a.t3 (96 * a.label) 96 l.i (omega arith) n (sym c.before.byte.ensures ∙ c.if1.false) ∙ l.invariant.1))
-    (λ c. let l = c.before.loop in let a = c.before.before.before.args in let n : length a.t3 ≡ 96 = search rules in
-    sym (compared_all a.rows.now a.t3 (96 * a.label) 96 l.i (omega arith) n) ∙ l.invariant.1))
+    (λ c. let l = c.loop-i in let a = c.args in let n : length a.bytes ≡ 96 = search rules in
+    (omega arith, compared_same a.rows.now a.bytes (96 * a.label) 96 l.i (omega arith) n (sym c.byte.ensures ∙ c.if-byte-bytes.false) ∙ l.invariant.1))
+    (λ c. let l = c.loop-i in let a = c.args in let n : length a.bytes ≡ 96 = search rules in
+    sym (compared_all a.rows.now a.bytes (96 * a.label) 96 l.i (omega arith) n) ∙ l.invariant.1))
