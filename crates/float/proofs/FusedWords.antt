@@ -13,7 +13,6 @@ use lib.Signed.{mag}
 use lib.Ieee.{Float, nan, inf, fin, binary64, up, down, unlike, add, mul, sum, round, is_nan, of_bits}
 use lib.Ieee.Fits.{down_pos}
 use lib.Ieee.Exact.{HasValue}
-use lib.Ieee.Scale.{round_same}
 use Rattle.float.specs.Unpacked.{Unpacked}
 use Rattle.float.specs.Biased.{biased}
 use Rattle.float.specs.Fused.{none, infinite, product, plus_product, fused_multiply_add}
@@ -21,7 +20,6 @@ use Rattle.float.proofs.Nan.{above_nan}
 use Rattle.float.proofs.Marks.{sum_number}
 use Rattle.float.proofs.Fields.{word_zero, word_infinite, word_finite, rescale}
 use Rattle.float.proofs.Signed.{is_biased, is_pow}
-use Rattle.float.proofs.RoundWord.{round_pow, shifts}
 use Rattle.float.proofs.Sums.{sum_like, sum_more}
 use Rattle.float.proofs.FusedSum.{sum_same, crossed, fused_at}
 

@@ -7,7 +7,7 @@ use native.Mathlib.Omega.{arith}
 use lib.Ieee.{Float, nan, inf, fin, binary64, down, size, to_bits}
 use lib.Ieee.Exact.{HasValue}
 use lib.Ieee.Fits.{down_pos}
-use Rattle.float.specs.Laws.{NearestRoot, OneRoot}
+use Rattle.float.specs.Laws.{OneRoot}
 use Rattle.float.proofs.Closest.{Cmp, cmp}
 
 -- a value has one size

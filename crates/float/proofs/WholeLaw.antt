@@ -9,7 +9,7 @@ use borrow.Author.Tests.{eqb-true, eqb-false, ltb-true, ltb-false}
 use lib.Dec.{leb, ltb, eqb, lit<}
 use lib.IntN.{ℤ}
 use lib.Pow.{pow_mono, pow_pos, shl_lt}
-use lib.Ieee.{Float, nan, inf, fin, binary64, up, down, nearest, round, of_bits}
+use lib.Ieee.{Float, nan, inf, fin, binary64, up, down, nearest, round}
 use lib.Ieee.Exact.{HasValue, round_exact}
 use lib.Ieee.Fits.{down_pos}
 use lib.Ieee.Nearest.{closest}

@@ -1,5 +1,7 @@
 // The player's arithmetic: IEEE 754 binary64 on 64-bit words, each function from bit patterns to a bit pattern.
 // A NaN that is computed keeps the mark of the first NaN among its operands.
+#![tactic(auto)]
+
 ghost use Rattle.std.specs.Prelude.{◌+◌, ◌-◌, ◌*◌, ◌/◌, ◌^◌, ◌<◌, ◌≡◌, [], ◌∷◌};
 ghost use Rattle.std.specs.Float.{binary64};
 ghost use Rattle.std.specs.Float.Ieee.{nan_bits};

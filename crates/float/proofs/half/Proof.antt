@@ -11,4 +11,4 @@ half_spec =
     (tie.spec
     (λ c κs. tt)
     (λ c κs. tt)
-    (λ c. unfold of_bits in computed (mul binary64) _ 0x3fe0_0000_0000_0000 c.write.ensures c.read.ensures refl))
+    (λ c. unfold of_bits in computed (mul binary64) c.args.a 0x3fe0_0000_0000_0000 c.write.ensures c.read.ensures refl))

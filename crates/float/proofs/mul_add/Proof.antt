@@ -9,8 +9,8 @@ use lib.Ieee.{binary64, of_bits, add, mul}
 use Rattle.float.proofs.FusedWords.{Huge, huge_word, exact_product, huge_addend, finite_word}
 use Rattle.float.specs.Word.{value, word}
 use borrow.Author.Rules.{rules}
-use borrow.Author.Tests.{leb-true, leb-false}
 use Rattle.float.proofs.mul_add.Statement.{statement}
+use Rattle.float.proofs.mul_add.Lts.{then-abs-ge-INFINITY-via-then-abs-ge-INFINITY, then-abs-ge-INFINITY-via-else-abs-ge-INFINITY+then-abs-ge-INFINITY-2}
 use Rattle.float.proofs.mul_add.Tie as tie
 
 abs-requires : tie.Need-abs-requires
@@ -24,8 +24,8 @@ either : (j : tie.Joined-then-abs-ge-INFINITY) → Huge (of_bits binary64 j.args
 either j =
     let a = j.args in
     elim j.then-abs-ge-INFINITY.branch [
-      | inl y ↦ inl (huge_word a.a (omega (arith, j.abs.ensures, y.taken)))
-      | inr z ↦ inr (huge_word a.b (omega (arith, z.1.ensures, leb-true (2047 * 2 ^ 52) z.1.result z.2.taken)))
+      | then-abs-ge-INFINITY-via-then-abs-ge-INFINITY w ↦ inl (huge_word a.a (omega (arith, j.abs.ensures, w.if-abs-ge-INFINITY.true)))
+      | then-abs-ge-INFINITY-via-else-abs-ge-INFINITY+then-abs-ge-INFINITY-2 w ↦ inr (huge_word a.b (omega (arith, w.abs-else-abs-ge-INFINITY.ensures, w.if-abs-ge-INFINITY-2.true)))
     ]
 
 returns : tie.Need-returns-then-abs-ge-INFINITY
@@ -46,7 +46,7 @@ abs-requires-3 c κs = search rules
 finite : (c : tie.Else-abs-ge-INFINITY-2) → (c.args.a % 2 ^ 63 < 2047 * 2 ^ 52) × (c.args.b % 2 ^ 63 < 2047 * 2 ^ 52)
 finite c =
     let d = c.before.before in
-    (omega (arith, d.abs.ensures, d.if-abs-ge-INFINITY.false), omega (arith, c.abs-else-abs-ge-INFINITY.ensures, leb-false (2047 * 2 ^ 52) c.abs-else-abs-ge-INFINITY.result c.if-abs-ge-INFINITY-2.false))
+    (omega (arith, d.abs.ensures, d.if-abs-ge-INFINITY.false), omega (arith, c.abs-else-abs-ge-INFINITY.ensures, c.if-abs-ge-INFINITY-2.false))
 
 returns-2 : tie.Need-returns-then-abs-ge-INFINITY-3
 returns-2 c =

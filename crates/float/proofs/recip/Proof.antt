@@ -11,4 +11,4 @@ recip_spec =
     (tie.spec
     (λ c κs. tt)
     (λ c κs. tt)
-    (λ c. unfold of_bits in computed (div binary64) 0x3ff0_0000_0000_0000 _ c.write.ensures refl c.read.ensures))
+    (λ c. unfold of_bits in computed (div binary64) 0x3ff0_0000_0000_0000 c.args.a c.write.ensures refl c.read.ensures))

@@ -6,14 +6,14 @@ use mathlib.Core.Logic.{◌⊎◌, inl, inr}
 use Prim.Native.Nat.{ℕ, ◌%◌, ◌^◌}
 use native.Mathlib.Omega.{arith}
 use lib.Bits.{bit_xor}
-use lib.Ieee.{Float, binary64, add, is_nan, to_bits}
+use lib.Ieee.{Float, binary64, is_nan, to_bits}
 use borrow.Author.Rules.{rules}
-use borrow.Author.Tests.{eqb-true, eqb-false}
 use Rattle.float.specs.Word.{value, word, mul_add}
 use Rattle.float.specs.Fused.{fused_multiply_add}
 use Rattle.float.proofs.Marks.{number_word}
 use Rattle.float.proofs.FusedWords.{zero_words, fused-number, unpacked_product, unpacked_sum}
 use Rattle.float.proofs.fused.fused_finite.Statement.{statement}
+use Rattle.float.proofs.fused.fused_finite.Lts.{then-abs-eq0-via-then-abs-eq0, then-abs-eq0-via-else-abs-eq0+then-abs-eq0-2}
 use Rattle.float.proofs.fused.fused_finite.Tie as tie
 
 module _ (s : tie.Start) where
@@ -34,8 +34,8 @@ module _ (s : tie.Start) where
 -- a or b is zero
 either : (j : tie.Joined-then-abs-eq0) → (j.args.a % 2 ^ 63 ≡ 0) ⊎ (j.args.b % 2 ^ 63 ≡ 0)
 either j = elim j.then-abs-eq0.branch [
-  | inl y ↦ inl (sym j.abs.ensures ∙ y.taken)
-  | inr z ↦ inr (sym z.1.ensures ∙ eqb-true z.1.result 0 z.2.taken)
+  | then-abs-eq0-via-then-abs-eq0 w ↦ inl (sym j.abs.ensures ∙ w.if-abs-eq0.true)
+  | then-abs-eq0-via-else-abs-eq0+then-abs-eq0-2 w ↦ inr (sym w.abs-else-abs-eq0.ensures ∙ w.if-abs-eq0-2.true)
 ]
 
 pub fused_finite_spec : {M : Type 1} → statement M
@@ -59,7 +59,7 @@ fused_finite_spec =
     (λ c κs. search rules)
     (λ c κs.
     let d = c.before in
-    (omega (arith, d.abs-else-abs-eq0.ensures, eqb-false d.abs-else-abs-eq0.result 0 d.if-abs-eq0-2.false), d.requires.1))
+    (omega (arith, d.abs-else-abs-eq0.ensures, d.if-abs-eq0-2.false), d.requires.1))
     (λ c κs. tt)
     (λ c κs. search rules)
     (λ c.

@@ -9,7 +9,6 @@ use lib.Signed.{mag}
 use lib.Pow.{pow_pos}
 use lib.Ieee.{binary64, to_bits, round, unlike, up, down}
 use lib.Ieee.Scale.{round_same}
-use borrow.Author.Rules.{rules}
 use Rattle.float.specs.Near.{both}
 use Rattle.float.specs.Biased.{biased}
 use Rattle.float.specs.Unpacked.{Normalized}
