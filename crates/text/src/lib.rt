@@ -1,4 +1,6 @@
 // Listings as text.
+#![tactic(auto)]
+
 pub mod fields;
 pub mod line;
 pub mod lines;

@@ -3,14 +3,13 @@ use borrow.Author.Rules.{rules}
 use Prim.Native.Nat.{◌≤◌, ◌<◌, ◌+◌}
 use mathlib.Core.Path.{◌≡◌, ap, ◌∙◌}
 use mathlib.Core.List.{◌++◌, append-nil}
-use mathlib.Core.Logic.{⊎_elim}
 use native.Mathlib.Omega.{arith}
-use borrow.Author.Tests.{leb-true, leb-false}
 use lib.ListN.{length, drop, length-set}
 use Rattle.text.specs.Line.{add_all}
 use Rattle.text.specs.Text.{decimal_in, decimal}
 use Rattle.text.proofs.Digits.{found, all}
 use Rattle.text.proofs.line.Line.decimal.Statement.{statement}
+use Rattle.text.proofs.line.Line.decimal.Lts.{then-loop-at-test+else-rest-ge10, else-loop-at-test}
 use Rattle.text.proofs.line.Line.decimal.Tie as tie
 
 abbrev invariant-loop-at : tie.invariant-loop-at
@@ -41,7 +40,7 @@ loop-less c = search rules
 loop-again : tie.Need-loop-at-preserved invariant-loop-at decreases-loop-at
 loop-again c =
     let v = c.loop-at in
-    (search rules, search rules, found v.digits v.at v.rest (omega arith) (leb-true 10 v.rest c.if-rest-ge10.true) (omega arith) ∙ v.invariant.2)
+    (search rules, search rules, found v.digits v.at v.rest (omega arith) c.if-rest-ge10.true (omega arith) ∙ v.invariant.2)
 
 add-digits-2 : tie.Need-overflow_add-digits-2 invariant-loop-at decreases-loop-at
 add-digits-2 c = search rules
@@ -55,10 +54,10 @@ array-write-digits-2 c = search rules
 sub-text : tie.Need-slice_bounds-text-count invariant-loop-at decreases-loop-at
 sub-text c = search rules
 
-part-text-start : tie.Need-slice-bounds-text-start invariant-loop-at decreases-loop-at
+part-text-start : tie.Need-slice_bounds-text-start invariant-loop-at decreases-loop-at
 part-text-start c = search rules
 
-part-text-end : tie.Need-slice-bounds-text-end invariant-loop-at decreases-loop-at
+part-text-end : tie.Need-slice_bounds-text-end invariant-loop-at decreases-loop-at
 part-text-end c = simp length-set (omega arith)
 
 text-requires : tie.Need-text-requires invariant-loop-at decreases-loop-at
@@ -69,7 +68,7 @@ returns c =
     let a = c.args in
     let v = c.loop-at in
     let few : 0 < v.at → v.rest < 10 =
-    λ h. ⊎_elim (λ w. leb-false 10 v.rest w.1.left) (λ w. let z = w.left in omega arith) c.loop-at-test.branch
+    λ h. elim c.loop-at-test.branch [ then-loop-at-test+else-rest-ge10 w ↦ omega arith | else-loop-at-test w ↦ omega arith ]
     in
     record {
       same =

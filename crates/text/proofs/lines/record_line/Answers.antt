@@ -1,25 +1,18 @@
 -- `text::lines::record_line` meets its contract.
-use borrow.Author.Rules.{rules}
 use native.Mathlib.Omega.{arith}
 use Rattle.text.specs.Line.{◌▹◌}
 use Rattle.text.specs.Text.{record_text, record_line}
 use Rattle.text.proofs.Short.{record_short, record_line_short}
 use Rattle.text.proofs.Whole.{prints}
-use Rattle.text.proofs.lines.record_line.Statement.{statement}
-use Rattle.text.proofs.lines.record_line.Tie as tie
+use Rattle.text.proofs.lines.record_line.Goals as goal
 
-pub record_line_spec : {M : Type 1} → statement M
+pub returns : goal.returns
 unfolding record_line record_text
-record_line_spec =
-    tie.close
-    (tie.spec
-    (λ c κs. search rules) (λ c κs. search rules) (λ c κs. search rules) (λ c κs. search rules) (λ c κs. search rules)
-    (λ c.
-    let r = c.args.record in
+returns c = let r = c.args.record in
     let h = c.record_operands.ensures.1 in
     let p = prints c.empty_line.ensures
     (c.record_name.ensures ▹ (c.byte.ensures ▹ c.record_operands.ensures.0) ▹ c.byte-2.ensures)
     (record_short r h) in
     let k = p.whole.count in
     let l = record_line_short r h in
-    (p, omega (arith, k, l))))
+    (p, omega (arith, k, l))
