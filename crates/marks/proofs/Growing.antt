@@ -43,6 +43,7 @@ noted_own l A ways i h = go (eqb l l) (eqb_refl l) h
   where
     go : (q : Bool) → T q → T (cond q (λ (i : ℕ). ways l i && A i) (ways l) i) → T (A i)
     go true t h = and_right (ways l i) (A i) h
+    go false t h = elim t [ ]
 
 pub noted_less : (l : ℕ) (A : Set) (ways : ℕ → Set) (m i : ℕ) → T (noted l A ways m i) → T (ways m i)
 noted_less l A ways m i h = go (eqb m l) h

@@ -24,6 +24,7 @@ Not a = T (not a)
 
 not_and_l : (a b : Bool) → Not a → Not (a && b)
 not_and_l false b h = tt
+not_and_l true b h = elim h [ ]
 
 not_and_r : (a b : Bool) → Not b → Not (a && b)
 not_and_r true b h = h
@@ -31,12 +32,15 @@ not_and_r false b h = tt
 
 not-or : (a b : Bool) → Not a → Not b → Not (a || b)
 not-or false b h k = k
+not-or true b h k = elim h [ ]
 
 and-not : (a b : Bool) → T a → Not b → T (a && not b)
 and-not true b h k = k
+and-not false b h k = elim h [ ]
 
 pub or-none : (a : Bool) → T (a || false) → T a
 or-none true h = tt
+or-none false h = elim h [ ]
 
 pub clash : (a : Bool) → T a → Not a → ⊥
 clash true t h = h
@@ -49,19 +53,24 @@ not-below false b f h = tt
 
 nor_l : (a b : Bool) → Not (a || b) → Not a
 nor_l false b h = tt
+nor_l true b h = elim h [ ]
 
 nor_r : (a b : Bool) → Not (a || b) → Not b
 nor_r false b h = h
+nor_r true b h = elim h [ ]
 
 both_off : (a b : Bool) → T b → (a || b) ≡ false → ⊥
 both_off true b h e = true≢false e
 both_off false true h e = true≢false e
+both_off false false h e = elim h [ ]
 
 either_true : (q : Bool) (A B : Type 0) → T q → A → Either q A B
 either_true true A B t a = a
+either_true false A B t a = elim t [ ]
 
 bit_on : (q : Bool) → T q → bit q ≡ 1
 bit_on true t = refl
+bit_on false t = elim t [ ]
 
 -- the first record breaks no rule, and what follows keeps them
 once_by : (before : List Record) (r : Record) (rs : List Record) (q : Bool) → breaks before r rs ≡ q
@@ -95,6 +104,7 @@ module _ (b : List Work) (i : ℕ) where
       through_more ws (working w s) i (or_r (s.drawn i) (without (among (draws w)) s.filled i) (and-not (among (draws w) i) (s.filled i) d n))
   through-first (w ∷ ws) s (inr p) n =
       through-first ws (working w s) p.1 (not-or (s.filled i) (among (fills w) i) n p.0)
+  through-first [] s x'' n = elim x'' [ ]
 
   through-none : (ws : List Work) (s : Marking) → NoneFilled i ws → Not (s.filled i) → Not ((through ws s).filled i)
   through-none [] s p n = n
@@ -108,9 +118,11 @@ module _ (b : List Work) (i : ℕ) where
 
   kept : (q : Bool) (F : Set) → Not q → Not (F i) → Not (cond {A = Set} q everything F i)
   kept false F h n = n
+  kept true F h n = elim h [ ]
 
   un-kept : (q : Bool) (F : Set) → Not (cond {A = Set} q everything F i) → Not q × Not (F i)
   un-kept false F n = (tt, n)
+  un-kept true F n = elim n [ ]
 
   leads-marked : (rs : List Record) (way : Way) (s : Marking) → Leads b i way rs → Unfilled way s → T ((scan b rs s).drawn i)
   unfolding Leads step scan

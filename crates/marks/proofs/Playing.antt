@@ -42,6 +42,7 @@ module _ (D : ℕ → Type 0) where
         where
           both : (a : Bool) → T a → T (a && true)
           both true t = tt
+          both false t = elim t [ ]
 
   module _ (constants : List ℕ) where
     working-agree : (w : Work) (s : Marking) {σ τ : Store} → Below (working w s).drawn → Agree (Known s.filled) σ τ

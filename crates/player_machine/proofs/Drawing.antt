@@ -19,6 +19,20 @@ xor-zero x = xor_self x
 
 xor_is : (op : BinOp) → T (is_xor op) → op ≡ BinOp.Xor
 xor_is BinOp.Xor h = refl
+xor_is BinOp.Plus h = elim h [ ]
+xor_is BinOp.Minus h = elim h [ ]
+xor_is BinOp.Times h = elim h [ ]
+xor_is BinOp.Divide h = elim h [ ]
+xor_is BinOp.GreaterThan h = elim h [ ]
+xor_is BinOp.GreaterThanEqual h = elim h [ ]
+xor_is BinOp.LittleThan h = elim h [ ]
+xor_is BinOp.LittleThanEqual h = elim h [ ]
+xor_is BinOp.Equal h = elim h [ ]
+xor_is BinOp.NotEqual h = elim h [ ]
+xor_is BinOp.And h = elim h [ ]
+xor_is BinOp.AndNot h = elim h [ ]
+xor_is BinOp.Or h = elim h [ ]
+xor_is BinOp.Complex h = elim h [ ]
 
 -- operands that are drawn on, or not for being equal ones of a Xor
 bi_depends : (op : BinOp) (a b : ℕ) (σ τ : Store) (x y : Bool) → eqb a b ≡ x → is_xor op ≡ y → AgreeAt σ τ (cond (x && y) [] (a ∷ b ∷ []))

@@ -8,37 +8,37 @@ use Rattle.player.proofs.Answering.{turned-away, let-in}
 use Rattle.player.proofs.judge.Statement.{statement}
 use Rattle.player.proofs.judge.Tie as tie
 
-pub judge-spec : {M : Type 1} → statement M
+pub judge_spec : {M : Type 1} → statement M
 unfolding refusal
-judge-spec =
+judge_spec =
     tie.close
     (tie.spec
     (λ c κs. search rules)
-    (λ c. turned-away c.refuse.ensures (λ z. omega (arith, z)) (simp (lt-ltb _ _ c.before.if1.true)))
+    (λ c. turned-away c.refuse.ensures (λ z. omega (arith, z)) (simp (lt-ltb _ _ c.if-listing-gt65536.true)))
     (λ c κs. search rules)
-    (λ c. turned-away c.refuse2.ensures (λ z. omega (arith, z)) (simp (le-ltb _ _ c.before.before.if1.false, lt-ltb _ _ c.before.if2.true)))
+    (λ c. turned-away c.refuse-then-constants-gt256.ensures (λ z. omega (arith, z)) (simp (le-ltb _ _ c.if-listing-gt65536.false, lt-ltb _ _ c.if-constants-gt256.true)))
     (λ c κs. search rules)
-    (λ c. turned-away c.refuse3.ensures (λ z. omega (arith, z)) (simp (le-ltb _ _ c.before.before.before.if1.false, le-ltb _ _ c.before.before.if2.false, ne_eqb _ _ c.before.if3.true)))
+    (λ c. turned-away c.refuse-then-words-ne1602.ensures (λ z. omega (arith, z)) (simp (le-ltb _ _ c.if-listing-gt65536.false, le-ltb _ _ c.if-constants-gt256.false, ne_eqb _ _ c.if-words-ne1602.true)))
     (λ c κs. search rules) (λ c κs. search rules)
     (λ c.
-    let e = c.before.before.before.examine.ensures in
-    turned-away c.refuse4.ensures c.before.if4.true (simp (le-ltb _ _ c.before.before.before.before.before.before.if1.false, le-ltb _ _ c.before.before.before.before.before.if2.false, eq-eqb _ _ c.before.before.before.before.if3.false, ← e.number, ← e.index, ne_eqb _ _ c.before.if4.true)))
+    let e = c.examine-x.ensures in
+    turned-away c.refuse-then-x-ne0.ensures c.if-x-ne0.true (simp (le-ltb _ _ c.if-listing-gt65536.false, le-ltb _ _ c.if-constants-gt256.false, eq-eqb _ _ c.if-words-ne1602.false, ← e.number, ← e.index, ne_eqb _ _ c.if-x-ne0.true)))
     (λ c κs. search rules)
     (λ c.
-    let e = c.before.before.before.before.before.examine.ensures in
-    turned-away c.refuse5.ensures (λ z. omega (arith, z)) (simp (le-ltb _ _ c.before.before.before.before.before.before.before.before.if1.false, le-ltb _ _ c.before.before.before.before.before.before.before.if2.false, eq-eqb _ _ c.before.before.before.before.before.before.if3.false, ← e.number, ← e.index, eq-eqb _ _ c.before.before.before.if4.false, lt-ltb _ _ c.before.if5.true)))
+    let e = c.examine-x.ensures in
+    turned-away c.refuse-then-x-start.ensures (λ z. omega (arith, z)) (simp (le-ltb _ _ c.if-listing-gt65536.false, le-ltb _ _ c.if-constants-gt256.false, eq-eqb _ _ c.if-words-ne1602.false, ← e.number, ← e.index, eq-eqb _ _ c.if-x-ne0.false, lt-ltb _ _ c.if-x-start.true)))
     (λ c κs.
-    let e = c.before.before.before.before.examine.ensures in
-    (c.before.before.before.before.before.before.before.if1.false, record { count = c.before.before.before.before.before.before.before.before.before.args.constants; none = sym e.number ∙ c.before.before.if4.false }))
+    let e = c.examine-x.ensures in
+    (c.if-listing-gt65536.false, record { count = c.args.constants; none = sym e.number ∙ c.if-x-ne0.false }))
     (λ c κs. search rules)
     (λ c.
-    let e = c.before.before.before.before.before.before.before.before.examine.ensures in
-    let b = c.before.before.before.breach-of.ensures _ e (sym e.number ∙ c.before.before.before.before.before.before.if4.false) in
-    turned-away c.refuse6.ensures (λ z. omega (arith, z)) (simp (le-ltb _ _ c.before.before.before.before.before.before.before.before.before.before.before.if1.false, le-ltb _ _ c.before.before.before.before.before.before.before.before.before.before.if2.false, eq-eqb _ _ c.before.before.before.before.before.before.before.before.before.if3.false, ← e.number, ← e.index, eq-eqb _ _ c.before.before.before.before.before.before.if4.false, le-ltb _ _ c.before.before.before.before.if5.false, ← b, lt-ltb _ _ c.before.if6.true)))
+    let e = c.examine-x.ensures in
+    let b = c.breach_of-breach.ensures _ e (sym e.number ∙ c.if-x-ne0.false) in
+    turned-away c.refuse-then-breach-x.ensures (λ z. omega (arith, z)) (simp (le-ltb _ _ c.if-listing-gt65536.false, le-ltb _ _ c.if-constants-gt256.false, eq-eqb _ _ c.if-words-ne1602.false, ← e.number, ← e.index, eq-eqb _ _ c.if-x-ne0.false, le-ltb _ _ c.if-x-start.false, ← b, lt-ltb _ _ c.if-breach-x.true)))
     (λ c κs.
-    let e = c.before.before.before.before.before.before.before.examine.ensures in
-    record { count = c.before.before.before.before.before.before.before.before.before.before.before.before.args.constants; none = sym e.number ∙ c.before.before.before.before.before.if4.false })
+    let e = c.examine-x.ensures in
+    record { count = c.args.constants; none = sym e.number ∙ c.if-x-ne0.false })
     (λ c.
-    let e = c.before.before.before.before.before.before.before.before.examine.ensures in
-    let b = c.before.before.before.breach-of.ensures _ e (sym e.number ∙ c.before.before.before.before.before.before.if4.false) in
-    let-in c.before.before.before.before.before.before.before.before.before.before.before.if1.false c.before.before.before.before.before.before.before.before.before.before.if2.false c.before.before.before.before.before.before.before.before.before.if3.false e c.before.before.before.before.before.before.if4.false c.before.before.before.before.if5.false b c.before.if6.false c.skip.ensures))
+    let e = c.examine-x.ensures in
+    let b = c.breach_of-breach.ensures _ e (sym e.number ∙ c.if-x-ne0.false) in
+    let-in c.if-listing-gt65536.false c.if-constants-gt256.false c.if-words-ne1602.false e c.if-x-ne0.false c.if-x-start.false b c.if-breach-x.false c.skip.ensures))

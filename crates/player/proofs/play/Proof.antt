@@ -5,21 +5,21 @@ use Rattle.player.proofs.Answering.{judged, refused-play, answered}
 use Rattle.player.proofs.play.Statement.{statement}
 use Rattle.player.proofs.play.Tie as tie
 
-pub play-spec : {M : Type 1} → statement M
-play-spec =
+pub play_spec : {M : Type 1} → statement M
+play_spec =
     tie.close
     (tie.spec
     (λ c κs. search rules)
     (λ c.
-    let a = c.before.before.before.before.before.before.args in
-    refused-play a.constants.now a.listing.now a.start a.store.now c.before.before.judge.ensures c.if1.true)
+    let a = c.args in
+    refused-play a.constants.now a.listing.now a.start a.store.now c.judge-v.ensures c.if-v-ne0.true)
     (λ c κs.
-    let a = c.before.before.before.before.before.before.before.args in
-    let v = c.before.before.before.judge.ensures in
-    let z = c.before.if1.false in
+    let a = c.args in
+    let v = c.judge-v.ensures in
+    let z = c.if-v-ne0.false in
     let p = judged v z in
     (p.short, ((v.body z).sound p.sound, (v.from z).sound (length a.constants.now) p.sound)))
     (λ c. search rules)
     (λ c.
-    let a = c.before.before.before.before.before.before.before.before.before.before.args in
-    answered a.constants.now a.listing.now a.start a.store.now c.before.before.before.before.before.before.judge.ensures c.before.before.before.before.if1.false c.before.before.run.ensures))
+    let a = c.args in
+    answered a.constants.now a.listing.now a.start a.store.now c.judge-v.ensures c.if-v-ne0.false c.run-played.ensures))

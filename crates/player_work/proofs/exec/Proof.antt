@@ -5,33 +5,33 @@ use Rattle.player_work.specs.Encoded.{encoded}
 use Rattle.player_work.proofs.exec.Statement.{statement}
 use Rattle.player_work.proofs.exec.Tie as tie
 
-pub exec-spec : {M : Type 1} → statement M
+pub exec_spec : {M : Type 1} → statement M
 unfolding encoded
-exec-spec =
+exec_spec =
     tie.close
     (tie.spec
     (λ c κs. search rules) (λ c κs. search rules) (λ c κs. search rules) (λ c κs. search rules) (λ c κs. search rules)
     (λ c κs. search rules) (λ c κs. search rules) (λ c κs. search rules) (λ c κs. search rules) (λ c κs. search rules)
     (λ c κs. search rules) (λ c κs. search rules) (λ c. search rules)
-    (λ c. (simp (← c.before.before.before.before.before.u16-at.ensures, c.before.before.before.before.match.keys1) c.before.before.play-uni.ensures.0, simp (← c.before.before.before.before.before.u16-at.ensures, c.before.before.before.before.match.keys1) (c.before.before.play-uni.ensures.1 c.before.before.before.before.before.before.before.before.before.args.constants.now)))
+    (λ c. (simp (← c.u16_at.ensures, c.in-1.is) c.play_uni.ensures.0, simp (← c.u16_at.ensures, c.in-1.is) (c.play_uni.ensures.1 c.args.constants.now)))
     (λ c. search rules)
-    (λ c. (simp (← c.before.before.before.before.before.u16-at.ensures, c.before.before.before.before.match.keys2) c.before.before.play-bi.ensures.0, simp (← c.before.before.before.before.before.u16-at.ensures, c.before.before.before.before.match.keys2) (c.before.before.play-bi.ensures.1 c.before.before.before.before.before.before.before.before.before.args.constants.now)))
+    (λ c. (simp (← c.u16_at.ensures, c.in-2.is) c.play_bi.ensures.0, simp (← c.u16_at.ensures, c.in-2.is) (c.play_bi.ensures.1 c.args.constants.now)))
     (λ c. search rules)
-    (λ c. (simp (← c.before.before.before.before.before.u16-at.ensures, c.before.before.before.before.match.keys3) c.before.before.play-mov.ensures.0, simp (← c.before.before.before.before.before.u16-at.ensures, c.before.before.before.before.match.keys3) (c.before.before.play-mov.ensures.1 c.before.before.before.before.before.before.before.before.before.args.constants.now)))
+    (λ c. (simp (← c.u16_at.ensures, c.in-3.is) c.play_mov.ensures.0, simp (← c.u16_at.ensures, c.in-3.is) (c.play_mov.ensures.1 c.args.constants.now)))
     (λ c. search rules)
-    (λ c. (simp (← c.before.before.before.before.before.u16-at.ensures, c.before.before.before.before.match.keys4) c.before.before.play-load.ensures.0, simp (← c.before.before.before.before.before.u16-at.ensures, c.before.before.before.before.match.keys4) (c.before.before.play-load.ensures.1 c.before.before.before.before.before.before.before.before.before.args.constants.now)))
+    (λ c. (simp (← c.u16_at.ensures, c.in-4.is) c.play_load.ensures.0, simp (← c.u16_at.ensures, c.in-4.is) (c.play_load.ensures.1 c.args.constants.now)))
     (λ c. search rules)
-    (λ c. (simp (← c.before.before.before.before.before.u16-at.ensures, c.before.before.before.before.match.keys5) c.before.before.play-save.ensures.0, simp (← c.before.before.before.before.before.u16-at.ensures, c.before.before.before.before.match.keys5) (c.before.before.play-save.ensures.1 c.before.before.before.before.before.before.before.before.before.args.constants.now)))
+    (λ c. (simp (← c.u16_at.ensures, c.in-5.is) c.play_save.ensures.0, simp (← c.u16_at.ensures, c.in-5.is) (c.play_save.ensures.1 c.args.constants.now)))
     (λ c. search rules)
-    (λ c. (simp (← c.before.before.before.before.before.u16-at.ensures, c.before.before.before.before.match.keys6) c.before.before.play-load-const.ensures.0, simp (← c.before.before.before.before.before.u16-at.ensures, c.before.before.before.before.match.keys6) c.before.before.play-load-const.ensures.1))
+    (λ c. (simp (← c.u16_at.ensures, c.in-6.is) c.play_load_const.ensures.0, simp (← c.u16_at.ensures, c.in-6.is) c.play_load_const.ensures.1))
     (λ c. search rules)
-    (λ c. (simp (← c.before.before.before.before.before.u16-at.ensures, c.before.before.before.before.match.keys7) c.before.before.play-fused.ensures.0, simp (← c.before.before.before.before.before.u16-at.ensures, c.before.before.before.before.match.keys7) (c.before.before.play-fused.ensures.1 c.before.before.before.before.before.before.before.before.before.args.constants.now)))
+    (λ c. (simp (← c.u16_at.ensures, c.in-7.is) c.play_fused.ensures.0, simp (← c.u16_at.ensures, c.in-7.is) (c.play_fused.ensures.1 c.args.constants.now)))
     (λ c. search rules)
-    (λ c. (simp (← c.before.before.before.before.before.u16-at.ensures, c.before.before.before.before.match.keys8) c.before.before.play-if-else.ensures.0, simp (← c.before.before.before.before.before.u16-at.ensures, c.before.before.before.before.match.keys8) (c.before.before.play-if-else.ensures.1 c.before.before.before.before.before.before.before.before.before.args.constants.now)))
+    (λ c. (simp (← c.u16_at.ensures, c.in-8.is) c.play_if_else.ensures.0, simp (← c.u16_at.ensures, c.in-8.is) (c.play_if_else.ensures.1 c.args.constants.now)))
     (λ c. search rules)
-    (λ c. (simp (← c.before.before.before.before.before.u16-at.ensures, c.before.before.before.before.match.keys9) c.before.before.play-load-complex.ensures.0, simp (← c.before.before.before.before.before.u16-at.ensures, c.before.before.before.before.match.keys9) (c.before.before.play-load-complex.ensures.1 c.before.before.before.before.before.before.before.before.before.args.constants.now)))
+    (λ c. (simp (← c.u16_at.ensures, c.in-11.is) c.play_load_complex.ensures.0, simp (← c.u16_at.ensures, c.in-11.is) (c.play_load_complex.ensures.1 c.args.constants.now)))
     (λ c. search rules)
-    (λ c. (simp (← c.before.before.before.before.before.u16-at.ensures, c.before.before.before.before.match.keys10) c.before.before.play-save-complex.ensures.0, simp (← c.before.before.before.before.before.u16-at.ensures, c.before.before.before.before.match.keys10) (c.before.before.play-save-complex.ensures.1 c.before.before.before.before.before.before.before.before.before.args.constants.now)))
+    (λ c. (simp (← c.u16_at.ensures, c.in-12.is) c.play_save_complex.ensures.0, simp (← c.u16_at.ensures, c.in-12.is) (c.play_save_complex.ensures.1 c.args.constants.now)))
     (λ c. search rules)
-    (λ c. (simp (← c.before.before.before.before.before.u16-at.ensures, c.before.before.before.before.match.keys11) c.before.before.play-complex-bi.ensures.0, simp (← c.before.before.before.before.before.u16-at.ensures, c.before.before.before.before.match.keys11) (c.before.before.play-complex-bi.ensures.1 c.before.before.before.before.before.before.before.before.before.args.constants.now)))
-    (λ c. (simp (← c.before.u16-at.ensures, ne_eqb _ _ c.match.rest.0.0.0.0.0.0.0.0.0.0.1, ne_eqb _ _ c.match.rest.0.0.0.0.0.0.0.0.0.1, ne_eqb _ _ c.match.rest.0.0.0.0.0.0.0.0.1, ne_eqb _ _ c.match.rest.0.0.0.0.0.0.0.1, ne_eqb _ _ c.match.rest.0.0.0.0.0.0.1, ne_eqb _ _ c.match.rest.0.0.0.0.0.1, ne_eqb _ _ c.match.rest.0.0.0.0.1, ne_eqb _ _ c.match.rest.0.0.0.1, ne_eqb _ _ c.match.rest.0.0.1, ne_eqb _ _ c.match.rest.0.1, ne_eqb _ _ c.match.rest.1), simp (← c.before.u16-at.ensures, ne_eqb _ _ c.match.rest.0.0.0.0.0.0.0.0.0.0.1, ne_eqb _ _ c.match.rest.0.0.0.0.0.0.0.0.0.1, ne_eqb _ _ c.match.rest.0.0.0.0.0.0.0.0.1, ne_eqb _ _ c.match.rest.0.0.0.0.0.0.0.1, ne_eqb _ _ c.match.rest.0.0.0.0.0.0.1, ne_eqb _ _ c.match.rest.0.0.0.0.0.1, ne_eqb _ _ c.match.rest.0.0.0.0.1, ne_eqb _ _ c.match.rest.0.0.0.1, ne_eqb _ _ c.match.rest.0.0.1, ne_eqb _ _ c.match.rest.0.1, ne_eqb _ _ c.match.rest.1))))
+    (λ c. (simp (← c.u16_at.ensures, c.in-13.is) c.play_complex_bi.ensures.0, simp (← c.u16_at.ensures, c.in-13.is) (c.play_complex_bi.ensures.1 c.args.constants.now)))
+    (λ c. (simp (← c.u16_at.ensures, ne_eqb _ _ c.in_default.in_default-own.rest.0.0.0.0.0.0.0.0.0.0.1, ne_eqb _ _ c.in_default.in_default-own.rest.0.0.0.0.0.0.0.0.0.1, ne_eqb _ _ c.in_default.in_default-own.rest.0.0.0.0.0.0.0.0.1, ne_eqb _ _ c.in_default.in_default-own.rest.0.0.0.0.0.0.0.1, ne_eqb _ _ c.in_default.in_default-own.rest.0.0.0.0.0.0.1, ne_eqb _ _ c.in_default.in_default-own.rest.0.0.0.0.0.1, ne_eqb _ _ c.in_default.in_default-own.rest.0.0.0.0.1, ne_eqb _ _ c.in_default.in_default-own.rest.0.0.0.1, ne_eqb _ _ c.in_default.in_default-own.rest.0.0.1, ne_eqb _ _ c.in_default.in_default-own.rest.0.1, ne_eqb _ _ c.in_default.in_default-own.rest.1), simp (← c.u16_at.ensures, ne_eqb _ _ c.in_default.in_default-own.rest.0.0.0.0.0.0.0.0.0.0.1, ne_eqb _ _ c.in_default.in_default-own.rest.0.0.0.0.0.0.0.0.0.1, ne_eqb _ _ c.in_default.in_default-own.rest.0.0.0.0.0.0.0.0.1, ne_eqb _ _ c.in_default.in_default-own.rest.0.0.0.0.0.0.0.1, ne_eqb _ _ c.in_default.in_default-own.rest.0.0.0.0.0.0.1, ne_eqb _ _ c.in_default.in_default-own.rest.0.0.0.0.0.1, ne_eqb _ _ c.in_default.in_default-own.rest.0.0.0.0.1, ne_eqb _ _ c.in_default.in_default-own.rest.0.0.0.1, ne_eqb _ _ c.in_default.in_default-own.rest.0.0.1, ne_eqb _ _ c.in_default.in_default-own.rest.0.1, ne_eqb _ _ c.in_default.in_default-own.rest.1))))

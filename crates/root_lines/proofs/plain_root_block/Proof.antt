@@ -6,10 +6,10 @@ use Rattle.root_lines.specs.RootBlock.{root_mask, root_halves}
 use Rattle.root_lines.proofs.plain_root_block.Statement.{statement}
 use Rattle.root_lines.proofs.plain_root_block.Tie as tie
 
-pub plain-root-block-spec : {M : Type 1} → statement M
+pub plain_root_block_spec : {M : Type 1} → statement M
 unfolding root_block plain_root_magnitude root_mask root_halves
-plain-root-block-spec =
+plain_root_block_spec =
     tie.close
     (tie.spec
     (λ c κs. search rules) (λ c κs. search rules) (λ c κs. search rules) (λ c. search rules)
-    (λ c. c.before.before.before.before.before.before.before.before.before.before.root-mask.ensures ▹ c.before.before.before.before.before.before.plain-root-magnitude.ensures ▹ c.before.before.root-halves.ensures))
+    (λ c. c.root_mask-at.ensures ▹ c.plain_root_magnitude-at.ensures ▹ c.root_halves.ensures))

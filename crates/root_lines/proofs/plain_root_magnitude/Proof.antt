@@ -7,12 +7,12 @@ use Rattle.lowering.specs.Lines.{plain_root_magnitude}
 use Rattle.root_lines.proofs.plain_root_magnitude.Statement.{statement}
 use Rattle.root_lines.proofs.plain_root_magnitude.Tie as tie
 
-pub plain-root-magnitude-spec : {M : Type 1} → statement M
+pub plain_root_magnitude_spec : {M : Type 1} → statement M
 unfolding plain_root_magnitude re im
-plain-root-magnitude-spec =
+plain_root_magnitude_spec =
     tie.close
     (tie.spec
     (λ c κs. search rules) (λ c κs. search rules) (λ c κs. search rules) (λ c κs. search rules) (λ c κs. search rules)
     (λ c κs. search rules) (λ c κs. search rules)
-    (λ c. omega (arith, c.before.before.before.before.before.before.before.before.before.before.before.before.before.before.before.before.before.before.before.before.before.before.before.before.before.before.bi.auto.0, c.before.before.before.before.before.before.before.before.before.before.before.before.before.before.before.before.before.before.before.before.before.before.fused-mul-add.auto.0, c.before.before.before.before.before.before.before.before.before.before.before.before.before.before.before.before.before.before.uni.auto.0, c.before.before.before.before.before.before.before.before.before.before.before.before.before.before.uni2.auto.0, c.before.before.before.before.before.before.before.before.before.before.bi2.auto.0, c.before.before.before.before.before.before.uni3.auto.0, c.before.before.uni4.auto.0))
-    (λ c. c.before.before.before.before.before.before.before.before.before.before.before.before.before.before.before.before.before.before.before.before.before.before.before.before.before.before.bi.ensures ▹ c.before.before.before.before.before.before.before.before.before.before.before.before.before.before.before.before.before.before.before.before.before.before.fused-mul-add.ensures ▹ c.before.before.before.before.before.before.before.before.before.before.before.before.before.before.before.before.before.before.uni.ensures ▹ c.before.before.before.before.before.before.before.before.before.before.before.before.before.before.uni2.ensures ▹ c.before.before.before.before.before.before.before.before.before.before.bi2.ensures ▹ c.before.before.before.before.before.before.uni3.ensures ▹ c.before.before.uni4.ensures))
+    (λ c. search rules)
+    (λ c. c.bi-at.ensures ▹ c.fused_mul_add-at.ensures ▹ c.uni-at.ensures ▹ c.uni-at-2.ensures ▹ c.bi-at-2.ensures ▹ c.uni-at-3.ensures ▹ c.uni.ensures))

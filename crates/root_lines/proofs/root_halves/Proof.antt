@@ -7,12 +7,12 @@ use Rattle.root_lines.specs.RootBlock.{root_halves}
 use Rattle.root_lines.proofs.root_halves.Statement.{statement}
 use Rattle.root_lines.proofs.root_halves.Tie as tie
 
-pub root-halves-spec : {M : Type 1} → statement M
+pub root_halves_spec : {M : Type 1} → statement M
 unfolding root_halves re im
-root-halves-spec =
+root_halves_spec =
     tie.close
     (tie.spec
     (λ c κs. search rules) (λ c κs. search rules) (λ c κs. search rules) (λ c κs. search rules) (λ c κs. search rules)
     (λ c κs. search rules) (λ c κs. search rules) (λ c κs. search rules) (λ c κs. search rules)
-    (λ c. omega (arith, c.before.before.before.before.before.before.before.before.before.before.before.before.before.before.before.before.before.before.before.before.before.before.before.before.before.before.before.before.before.before.before.before.before.before.bi.auto.0, c.before.before.before.before.before.before.before.before.before.before.before.before.before.before.before.before.before.before.before.before.before.before.before.before.before.before.before.before.before.before.uni.auto.0, c.before.before.before.before.before.before.before.before.before.before.before.before.before.before.before.before.before.before.before.before.before.before.before.before.before.before.bi2.auto.0, c.before.before.before.before.before.before.before.before.before.before.before.before.before.before.before.before.before.before.before.before.before.before.bi3.auto.0, c.before.before.before.before.before.before.before.before.before.before.before.before.before.before.before.before.before.before.if-else.auto.0, c.before.before.before.before.before.before.before.before.before.before.before.before.before.before.if-else2.auto.0, c.before.before.before.before.before.before.before.before.before.before.uni2.auto.0, c.before.before.before.before.before.before.bi4.auto.0, c.before.before.bi5.auto.0))
-    (λ c. c.before.before.before.before.before.before.before.before.before.before.before.before.before.before.before.before.before.before.before.before.before.before.before.before.before.before.before.before.before.before.before.before.before.before.bi.ensures ▹ c.before.before.before.before.before.before.before.before.before.before.before.before.before.before.before.before.before.before.before.before.before.before.before.before.before.before.before.before.before.before.uni.ensures ▹ c.before.before.before.before.before.before.before.before.before.before.before.before.before.before.before.before.before.before.before.before.before.before.before.before.before.before.bi2.ensures ▹ c.before.before.before.before.before.before.before.before.before.before.before.before.before.before.before.before.before.before.before.before.before.before.bi3.ensures ▹ c.before.before.before.before.before.before.before.before.before.before.before.before.before.before.before.before.before.before.if-else.ensures ▹ c.before.before.before.before.before.before.before.before.before.before.before.before.before.before.if-else2.ensures ▹ c.before.before.before.before.before.before.before.before.before.before.uni2.ensures ▹ c.before.before.before.before.before.before.bi4.ensures ▹ c.before.before.bi5.ensures))
+    (λ c. search rules)
+    (λ c. c.bi-at.ensures ▹ c.uni-at.ensures ▹ c.bi-at-2.ensures ▹ c.bi-at-3.ensures ▹ c.if_else-at.ensures ▹ c.if_else-at-2.ensures ▹ c.uni-at-2.ensures ▹ c.bi-at-4.ensures ▹ c.bi.ensures))

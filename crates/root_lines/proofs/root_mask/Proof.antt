@@ -6,10 +6,10 @@ use Rattle.root_lines.specs.RootBlock.{root_mask}
 use Rattle.root_lines.proofs.root_mask.Statement.{statement}
 use Rattle.root_lines.proofs.root_mask.Tie as tie
 
-pub root-mask-spec : {M : Type 1} → statement M
+pub root_mask_spec : {M : Type 1} → statement M
 unfolding root_mask re im
-root-mask-spec =
+root_mask_spec =
     tie.close
     (tie.spec
     (λ c κs. search rules) (λ c κs. search rules) (λ c κs. search rules) (λ c. search rules)
-    (λ c. c.before.before.before.before.before.before.before.before.before.before.bi.ensures ▹ c.before.before.before.before.before.before.bi2.ensures ▹ c.before.before.save.ensures))
+    (λ c. c.bi-at.ensures ▹ c.bi-at-2.ensures ▹ c.save.ensures))

@@ -5,10 +5,10 @@ use Rattle.lowering.specs.Lines.{root_block, stable_root_magnitude, stable_expon
 use Rattle.root_lines.proofs.stable_around_block.Statement.{statement}
 use Rattle.root_lines.proofs.stable_around_block.Tie as tie
 
-pub stable-around-block-spec : {M : Type 1} → statement M
+pub stable_around_block_spec : {M : Type 1} → statement M
 unfolding root_block stable_root_magnitude stable_exponent
-stable-around-block-spec =
+stable_around_block_spec =
     tie.close
     (tie.spec
     (λ c κs. search rules) (λ c κs. search rules) (λ c κs. search rules) (λ c κs. search rules) (λ c κs. search rules) (λ c. search rules)
-    (λ c. c.before.before.before.before.before.before.before.before.before.before.before.before.before.before.before.before.before.before.branch.ensures ▹ c.before.before.before.before.before.before.before.before.before.before.before.before.before.before.label.ensures ▹ c.before.before.before.before.before.before.before.before.before.before.stable-root-block.ensures ▹ c.before.before.before.before.before.before.branch2.ensures ▹ c.before.before.label2.ensures))
+    (λ c. c.branch-at.ensures ▹ c.label-at.ensures ▹ c.stable_root_block-at.ensures ▹ c.branch-at-2.ensures ▹ c.label.ensures))

@@ -6,14 +6,14 @@ use Rattle.lowering.specs.Lines.{scaled_divide}
 use Rattle.stable_lines.proofs.scaled_divide.Statement.{statement}
 use Rattle.stable_lines.proofs.scaled_divide.Tie as tie
 
-pub scaled-divide-spec : {M : Type 1} → statement M
+pub scaled_divide_spec : {M : Type 1} → statement M
 unfolding scaled_divide
-scaled-divide-spec =
+scaled_divide_spec =
     tie.close
     (tie.spec
     (λ c κs. search rules) (λ c κs. search rules) (λ c κs. search rules) (λ c κs. search rules) (λ c κs. search rules)
     (λ c κs. search rules) (λ c κs. search rules) (λ c κs. search rules) (λ c κs. search rules) (λ c κs. search rules)
-    (λ c. omega (arith, c.before.before.before.before.before.before.before.before.before.before.before.before.before.before.before.before.before.before.before.before.before.before.before.before.before.before.before.before.before.before.before.before.before.before.before.before.before.before.bi.auto.0, c.before.before.before.before.before.before.before.before.before.before.before.before.before.before.before.before.before.before.before.before.before.before.before.before.before.before.before.before.before.before.before.before.before.before.bi2.auto.0, c.before.before.before.before.before.before.before.before.before.before.before.before.before.before.before.before.before.before.before.before.before.before.before.before.before.before.before.before.before.before.bi3.auto.0, c.before.before.before.before.before.before.before.before.before.before.before.before.before.before.before.before.before.before.before.before.before.before.before.before.before.before.bi4.auto.0, c.before.before.before.before.before.before.before.before.before.before.before.before.before.before.before.before.before.before.before.before.before.before.bi5.auto.0, c.before.before.before.before.before.before.before.before.before.before.before.before.before.before.before.before.before.before.bi6.auto.0, c.before.before.before.before.before.before.before.before.before.before.before.before.before.before.fused-mul-add.auto.0, c.before.before.before.before.before.before.before.before.before.before.uni.auto.0, c.before.before.before.before.before.before.bi7.auto.0, c.before.before.bi8.auto.0))
-    (λ c. simp c.before.before.before.before.before.before.before.before.before.before.before.before.before.before.before.before.before.before.before.before.before.before.before.before.before.before.before.before.before.before.before.before.before.before.before.before.before.before.before.before.if1.true (c.before.before.before.before.before.before.before.before.before.before.before.before.before.before.before.before.before.before.before.before.before.before.before.before.before.before.before.before.before.before.before.before.before.before.before.before.before.before.bi.ensures ▹ c.before.before.before.before.before.before.before.before.before.before.before.before.before.before.before.before.before.before.before.before.before.before.before.before.before.before.before.before.before.before.before.before.before.before.bi2.ensures ▹ c.before.before.before.before.before.before.before.before.before.before.before.before.before.before.before.before.before.before.before.before.before.before.before.before.before.before.before.before.before.before.bi3.ensures ▹ c.before.before.before.before.before.before.before.before.before.before.before.before.before.before.before.before.before.before.before.before.before.before.before.before.before.before.bi4.ensures ▹ c.before.before.before.before.before.before.before.before.before.before.before.before.before.before.before.before.before.before.before.before.before.before.bi5.ensures ▹ c.before.before.before.before.before.before.before.before.before.before.before.before.before.before.before.before.before.before.bi6.ensures ▹ c.before.before.before.before.before.before.before.before.before.before.before.before.before.before.fused-mul-add.ensures ▹ c.before.before.before.before.before.before.before.before.before.before.uni.ensures ▹ c.before.before.before.before.before.before.bi7.ensures ▹ c.before.before.bi8.ensures))
+    (λ c. search rules)
+    (λ c. simp c.if-x.true (c.bi-at.ensures ▹ c.bi-at-then-x.ensures ▹ c.bi-at-then-x-2.ensures ▹ c.bi-at-then-x-3.ensures ▹ c.bi-at-then-x-4.ensures ▹ c.bi-at-then-x-5.ensures ▹ c.fused_mul_add-at.ensures ▹ c.uni-at.ensures ▹ c.bi-at-then-x-6.ensures ▹ c.bi.ensures))
     (λ c κs. search rules) (λ c κs. search rules) (λ c κs. search rules) (λ c κs. search rules) (λ c κs. search rules) (λ c. search rules)
-    (λ c. simp c.before.before.before.before.before.before.before.before.before.before.before.before.before.before.before.before.before.before.before.before.if1.false (c.before.before.before.before.before.before.before.before.before.before.before.before.before.before.before.before.before.before.bi9.ensures ▹ c.before.before.before.before.before.before.before.before.before.before.before.before.before.before.bi10.ensures ▹ c.before.before.before.before.before.before.before.before.before.before.bi11.ensures ▹ c.before.before.before.before.before.before.bi12.ensures ▹ c.before.before.complex-bi.ensures)))
+    (λ c. simp c.if-x.false (c.bi-at-2.ensures ▹ c.bi-at-3.ensures ▹ c.bi-at-4.ensures ▹ c.bi-at-5.ensures ▹ c.complex_bi.ensures)))

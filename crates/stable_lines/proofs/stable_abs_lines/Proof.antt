@@ -7,13 +7,13 @@ use Rattle.lowering.specs.Lines.{stable_abs_lines, stable_exponent}
 use Rattle.stable_lines.proofs.stable_abs_lines.Statement.{statement}
 use Rattle.stable_lines.proofs.stable_abs_lines.Tie as tie
 
-pub stable-abs-lines-spec : {M : Type 1} → statement M
+pub stable_abs_lines_spec : {M : Type 1} → statement M
 unfolding stable_abs_lines stable_exponent re im
-stable-abs-lines-spec =
+stable_abs_lines_spec =
     tie.close
     (tie.spec
     (λ c κs. search rules) (λ c κs. search rules) (λ c κs. search rules) (λ c κs. search rules) (λ c κs. search rules)
     (λ c κs. search rules) (λ c κs. search rules) (λ c κs. search rules) (λ c κs. search rules) (λ c κs. search rules)
     (λ c κs. search rules) (λ c κs. search rules)
-    (λ c. omega (arith, c.before.before.before.before.before.before.before.before.before.before.before.before.before.before.before.before.before.before.before.before.before.before.before.before.before.before.before.before.before.before.before.before.before.before.before.before.before.before.before.before.before.before.before.before.before.before.stable-exponent.auto.0, c.before.before.before.before.before.before.before.before.before.before.before.before.before.before.before.before.before.before.before.before.before.before.before.before.before.before.before.before.before.before.before.before.before.before.before.before.before.before.before.before.before.before.load-const.auto.0, c.before.before.before.before.before.before.before.before.before.before.before.before.before.before.before.before.before.before.before.before.before.before.before.before.before.before.before.before.before.before.before.before.before.before.before.before.before.before.bi.auto.0, c.before.before.before.before.before.before.before.before.before.before.before.before.before.before.before.before.before.before.before.before.before.before.before.before.before.before.before.before.before.before.before.before.before.before.uni.auto.0, c.before.before.before.before.before.before.before.before.before.before.before.before.before.before.before.before.before.before.before.before.before.before.before.before.before.before.before.before.before.before.bi2.auto.0, c.before.before.before.before.before.before.before.before.before.before.before.before.before.before.before.before.before.before.before.before.before.before.before.before.before.before.bi3.auto.0, c.before.before.before.before.before.before.before.before.before.before.before.before.before.before.before.before.before.before.before.before.before.before.bi4.auto.0, c.before.before.before.before.before.before.before.before.before.before.before.before.before.before.before.before.before.before.bi5.auto.0, c.before.before.before.before.before.before.before.before.before.before.before.before.before.before.bi6.auto.0, c.before.before.before.before.before.before.before.before.before.before.uni2.auto.0, c.before.before.before.before.before.before.bi7.auto.0, c.before.before.bi8.auto.0))
-    (λ c. c.before.before.before.before.before.before.before.before.before.before.before.before.before.before.before.before.before.before.before.before.before.before.before.before.before.before.before.before.before.before.before.before.before.before.before.before.before.before.before.before.before.before.before.before.before.before.stable-exponent.ensures ▹ c.before.before.before.before.before.before.before.before.before.before.before.before.before.before.before.before.before.before.before.before.before.before.before.before.before.before.before.before.before.before.before.before.before.before.before.before.before.before.before.before.before.before.load-const.ensures ▹ c.before.before.before.before.before.before.before.before.before.before.before.before.before.before.before.before.before.before.before.before.before.before.before.before.before.before.before.before.before.before.before.before.before.before.before.before.before.before.bi.ensures ▹ c.before.before.before.before.before.before.before.before.before.before.before.before.before.before.before.before.before.before.before.before.before.before.before.before.before.before.before.before.before.before.before.before.before.before.uni.ensures ▹ c.before.before.before.before.before.before.before.before.before.before.before.before.before.before.before.before.before.before.before.before.before.before.before.before.before.before.before.before.before.before.bi2.ensures ▹ c.before.before.before.before.before.before.before.before.before.before.before.before.before.before.before.before.before.before.before.before.before.before.before.before.before.before.bi3.ensures ▹ c.before.before.before.before.before.before.before.before.before.before.before.before.before.before.before.before.before.before.before.before.before.before.bi4.ensures ▹ c.before.before.before.before.before.before.before.before.before.before.before.before.before.before.before.before.before.before.bi5.ensures ▹ c.before.before.before.before.before.before.before.before.before.before.before.before.before.before.bi6.ensures ▹ c.before.before.before.before.before.before.before.before.before.before.uni2.ensures ▹ c.before.before.before.before.before.before.bi7.ensures ▹ c.before.before.bi8.ensures))
+    (λ c. search rules)
+    (λ c. c.stable_exponent-at.ensures ▹ c.load_const-at.ensures ▹ c.bi-at.ensures ▹ c.uni-at.ensures ▹ c.bi-at-2.ensures ▹ c.bi-at-3.ensures ▹ c.bi-at-4.ensures ▹ c.bi-at-5.ensures ▹ c.bi-at-6.ensures ▹ c.uni-at-2.ensures ▹ c.bi-at-7.ensures ▹ c.bi.ensures))

@@ -5,12 +5,12 @@ use Rattle.lowering.specs.Lines.{stable_divide_lines, stable_divisor_scale, scal
 use Rattle.stable_lines.proofs.stable_divide_lines.Statement.{statement}
 use Rattle.stable_lines.proofs.stable_divide_lines.Tie as tie
 
-pub stable-divide-lines-spec : {M : Type 1} → statement M
+pub stable_divide_lines_spec : {M : Type 1} → statement M
 unfolding stable_divide_lines stable_divisor_scale scaled_divide stable_exponent
-stable-divide-lines-spec =
+stable_divide_lines_spec =
     tie.close
     (tie.spec
     (λ c κs. search rules) (λ c κs. search rules) (λ c. search rules)
-    (λ c. simp c.before.before.before.before.if1.true (c.before.before.before.before.before.before.before.stable-divisor-scale.ensures ▹ c.before.before.scaled-divide.ensures))
+    (λ c. simp c.if-general.true (c.stable_divisor_scale-at.ensures ▹ c.scaled_divide.ensures))
     (λ c κs. search rules) (λ c. search rules)
-    (λ c. simp c.before.before.before.before.if1.false (c.before.before.before.before.before.before.before.stable-divisor-scale.ensures ▹ c.before.before.scaled-divide2.ensures)))
+    (λ c. simp c.if-general.false (c.stable_divisor_scale-at.ensures ▹ c.scaled_divide-2.ensures)))

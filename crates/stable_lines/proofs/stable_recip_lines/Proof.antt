@@ -7,12 +7,12 @@ use Rattle.lowering.specs.Lines.{stable_recip_lines, stable_divisor_scale, stabl
 use Rattle.stable_lines.proofs.stable_recip_lines.Statement.{statement}
 use Rattle.stable_lines.proofs.stable_recip_lines.Tie as tie
 
-pub stable-recip-lines-spec : {M : Type 1} → statement M
+pub stable_recip_lines_spec : {M : Type 1} → statement M
 unfolding stable_recip_lines stable_divisor_scale stable_exponent re im
-stable-recip-lines-spec =
+stable_recip_lines_spec =
     tie.close
     (tie.spec
     (λ c κs. search rules) (λ c κs. search rules) (λ c κs. search rules) (λ c κs. search rules) (λ c κs. search rules)
     (λ c κs. search rules) (λ c κs. search rules) (λ c κs. search rules) (λ c κs. search rules) (λ c κs. search rules)
-    (λ c. omega (arith, c.before.before.before.before.before.before.before.before.before.before.before.before.before.before.before.before.before.before.before.before.before.before.before.before.before.before.before.before.before.before.before.before.before.before.before.before.before.before.stable-divisor-scale.auto.0, c.before.before.before.before.before.before.before.before.before.before.before.before.before.before.before.before.before.before.before.before.before.before.before.before.before.before.before.before.before.before.before.before.before.before.bi.auto.0, c.before.before.before.before.before.before.before.before.before.before.before.before.before.before.before.before.before.before.before.before.before.before.before.before.before.before.before.before.before.before.bi2.auto.0, c.before.before.before.before.before.before.before.before.before.before.before.before.before.before.before.before.before.before.before.before.before.before.before.before.before.before.bi3.auto.0, c.before.before.before.before.before.before.before.before.before.before.before.before.before.before.before.before.before.before.before.before.before.before.fused-mul-add.auto.0, c.before.before.before.before.before.before.before.before.before.before.before.before.before.before.before.before.before.before.bi4.auto.0, c.before.before.before.before.before.before.before.before.before.before.before.before.before.before.bi5.auto.0, c.before.before.before.before.before.before.before.before.before.before.uni.auto.0, c.before.before.before.before.before.before.bi6.auto.0, c.before.before.bi7.auto.0))
-    (λ c. c.before.before.before.before.before.before.before.before.before.before.before.before.before.before.before.before.before.before.before.before.before.before.before.before.before.before.before.before.before.before.before.before.before.before.before.before.before.before.stable-divisor-scale.ensures ▹ c.before.before.before.before.before.before.before.before.before.before.before.before.before.before.before.before.before.before.before.before.before.before.before.before.before.before.before.before.before.before.before.before.before.before.bi.ensures ▹ c.before.before.before.before.before.before.before.before.before.before.before.before.before.before.before.before.before.before.before.before.before.before.before.before.before.before.before.before.before.before.bi2.ensures ▹ c.before.before.before.before.before.before.before.before.before.before.before.before.before.before.before.before.before.before.before.before.before.before.before.before.before.before.bi3.ensures ▹ c.before.before.before.before.before.before.before.before.before.before.before.before.before.before.before.before.before.before.before.before.before.before.fused-mul-add.ensures ▹ c.before.before.before.before.before.before.before.before.before.before.before.before.before.before.before.before.before.before.bi4.ensures ▹ c.before.before.before.before.before.before.before.before.before.before.before.before.before.before.bi5.ensures ▹ c.before.before.before.before.before.before.before.before.before.before.uni.ensures ▹ c.before.before.before.before.before.before.bi6.ensures ▹ c.before.before.bi7.ensures))
+    (λ c. search rules)
+    (λ c. c.stable_divisor_scale-at.ensures ▹ c.bi-at.ensures ▹ c.bi-at-2.ensures ▹ c.bi-at-3.ensures ▹ c.fused_mul_add-at.ensures ▹ c.bi-at-4.ensures ▹ c.bi-at-5.ensures ▹ c.uni-at.ensures ▹ c.bi-at-6.ensures ▹ c.bi.ensures))

@@ -6,12 +6,12 @@ use Rattle.player.proofs.Rules.{counted_one, counted_none}
 use Rattle.player.proofs.jumps.count_label.Statement.{statement}
 use Rattle.player.proofs.jumps.count_label.Tie as tie
 
-pub count-label-spec : {M : Type 1} → statement M
-count-label-spec =
+pub count_label_spec : {M : Type 1} → statement M
+count_label_spec =
     tie.close
     (tie.spec
     (λ c κs. search rules) (λ c κs. search rules) (λ c. search rules) (λ c. search rules) (λ c. search rules)
-    (λ c. let h = c.before.before.before.before.before.before.requires.1 c.before.byte.result in omega (arith, h))
+    (λ c. let h = c.requires.1 c.byte-l.result in omega (arith, h))
     (λ c. search rules) (λ c. search rules)
-    (λ c. counted_one _ _ _ (sym c.before.before.before.u16-at.ensures ∙ c.before.before.if1.true) c.before.byte.ensures (omega arith))
-    (λ c. counted_none _ _ (λ e. c.if1.false (c.before.u16-at.ensures ∙ e))))
+    (λ c. counted_one _ _ _ (sym c.u16_at.ensures ∙ c.if-u16_at-eq14.true) c.byte-l.ensures (omega arith))
+    (λ c. counted_none _ _ (λ e. c.if-u16_at-eq14.false (c.u16_at.ensures ∙ e))))

@@ -14,77 +14,77 @@ use Rattle.player.proofs.Rules.{counted_few, zeros, Ruled, ruled_start, ruled-on
 use Rattle.player.proofs.jumps.first_breach.Statement.{statement}
 use Rattle.player.proofs.jumps.first_breach.Tie as tie
 
-abbrev invariant-loop : tie.invariant-loop
-invariant-loop s all stood₀ returns returned₀ inside₀ at₀ index₀ stood returned inside at index =
+abbrev invariant-loop-at : tie.invariant-loop-at
+invariant-loop-at s all stood₀ returns returned₀ inside₀ at₀ index₀ stood returned inside at index =
     ((index ≤ at) × (returned ≤ at))
     × AllCounted s all returns
     × Sound s at
     × Table at stood
     × ((count : ℕ) → fault count s 0 ≡ 0 → Ruled count s at index all stood inside returns returned)
 
-abbrev decreases-loop : tie.decreases-loop
-decreases-loop s all stood₀ returns returned₀ inside₀ at₀ index₀ stood returned inside at index = length s - at
+abbrev decreases-loop-at : tie.decreases-loop-at
+decreases-loop-at s all stood₀ returns returned₀ inside₀ at₀ index₀ stood returned inside at index = length s - at
 
-pub first-breach-spec : {M : Type 1} → statement M
-first-breach-spec =
+pub first_breach_spec : {M : Type 1} → statement M
+first_breach_spec =
     tie.close
     (tie.spec
-    invariant-loop
-    decreases-loop
+    invariant-loop-at
+    decreases-loop-at
     (λ c. search rules)
     (λ c κs.
-    let p = c.before.before.requires in
+    let p = c.requires in
     (p.0, (p.1, (refl, λ l. let h = zeros 256 l in omega (arith, h)))))
     (λ c.
-    let p = c.before.before.before.before.requires in
-    ((omega arith, omega arith), c.before.count-labels.ensures, p.1, (refl, λ l. let z = zeros 256 l in omega (arith, z)), λ count z. ruled_start count z c.before.count-labels.ensures (λ l. let z = zeros 256 l in omega (arith, z))))
+    let p = c.requires in
+    ((omega arith, omega arith), c.count_labels-returns.ensures, p.1, (refl, λ l. let z = zeros 256 l in omega (arith, z)), λ count z. ruled_start count z c.count_labels-returns.ensures (λ l. let z = zeros 256 l in omega (arith, z))))
     (λ c. search rules) (λ c. search rules) (λ c. search rules) (λ c. search rules) (λ c. search rules)
     (λ c κs.
-    let l = c.before.before.before.before.loop in
+    let l = c.loop-at in
     (l.invariant.1.long, l.invariant.3.0))
     (λ c.
-    let l = c.before.before.before.before.before.before.loop in
+    let l = c.loop-at in
     λ count z.
     let k = l.invariant.4 count z in
-    ruled-stop k (stands count k.sound c.before.before.before.before.before.loop-test.true refl) c.before.breaks-rule.ensures c.if1.true)
+    ruled-stop k (stands count k.sound c.loop-at-test.true refl) c.breaks_rule.ensures c.if-breaks_rule.true)
     (λ c. search rules)
     (λ c κs.
-    let l = c.before.before.before.before.before.before.before.loop in
+    let l = c.loop-at in
     (l.invariant.3.0, λ m. let h = l.invariant.3.1 m in omega (arith, h)))
     (λ c κs. search rules) (λ c κs. search rules)
-    (λ c. let h = bit_small c.before.encodes-return.result in let e = c.one-if.ensures in omega (arith, h, e))
+    (λ c. let h = bit_small c.encodes_return.result in let e = c.one_if-returned.ensures in omega (arith, h, e))
     (λ c κs. search rules) (λ c κs. search rules) (λ c. search rules)
     (λ c.
-    let a = c.before.before.before.before.before.before.before.before.before.before.before.before.before.before.before.before.before.before.args in
-    let l = c.before.before.before.before.before.before.before.before.before.before.before.before.before.loop in
-    let w = stands l.invariant.2.count l.invariant.2.none c.before.before.before.before.before.before.before.before.before.before.before.before.loop-test.true c.u16-at.ensures in
+    let a = c.args in
+    let l = c.loop-at in
+    let w = stands l.invariant.2.count l.invariant.2.none c.loop-at-test.true c.u16_at-n.ensures in
     let h = w.here.inside in
     omega (arith, h))
     (λ c. search rules)
     (λ c.
-    let a = c.before.before.before.before.before.before.before.before.before.before.before.before.before.before.before.before.before.before.args in
-    let l = c.before.before.before.before.before.before.before.before.before.before.before.before.before.loop in
-    let w = stands l.invariant.2.count l.invariant.2.none c.before.before.before.before.before.before.before.before.before.before.before.before.loop-test.true c.u16-at.ensures in
+    let a = c.args in
+    let l = c.loop-at in
+    let w = stands l.invariant.2.count l.invariant.2.none c.loop-at-test.true c.u16_at-n.ensures in
     let h = w.here.on in
     omega (arith, h))
     (λ c.
-    let a = c.before.before.before.before.before.before.before.before.before.before.before.before.before.before.before.before.before.before.args in
-    let l = c.before.before.before.before.before.before.before.before.before.before.before.before.before.loop in
-    let w = stands l.invariant.2.count l.invariant.2.none c.before.before.before.before.before.before.before.before.before.before.before.before.loop-test.true c.u16-at.ensures in
+    let a = c.args in
+    let l = c.loop-at in
+    let w = stands l.invariant.2.count l.invariant.2.none c.loop-at-test.true c.u16_at-n.ensures in
     let h = w.here in
     let g = h.on in
-    let b = bit_small c.before.before.before.encodes-return.result in
-    let e = c.before.before.one-if.ensures in
-    let d = c.before.before.before.before.before.count-label.ensures in (
+    let b = bit_small c.encodes_return.result in
+    let e = c.one_if-returned.ensures in
+    let d = c.count_label.ensures in (
       (omega (arith, g), omega (arith, g, b, e)),
       l.invariant.1,
       record { count = l.invariant.2.count; none = sym h.sound ∙ l.invariant.2.none },
       (d.long ∙ l.invariant.3.0, λ m. let i = l.invariant.3.1 m in let j = counted_few d m in omega (arith, g, i, j)),
       λ count z.
           let k = l.invariant.4 count z in
-          ruled-on k (stands count k.sound c.before.before.before.before.before.before.before.before.before.before.before.before.loop-test.true c.u16-at.ensures) c.before.before.before.before.before.before.before.before.breaks-rule.ensures c.before.before.before.before.before.before.before.if1.false d (ap (◌+◌ l.returned) (c.before.before.one-if.ensures ∙ ap bit c.before.before.before.encodes-return.ensures)) c.before.block-open.ensures,
+          ruled-on k (stands count k.sound c.loop-at-test.true c.u16_at-n.ensures) c.breaks_rule.ensures c.if-breaks_rule.false d (ap (◌+◌ l.returned) (c.one_if-returned.ensures ∙ ap bit c.encodes_return.ensures)) c.block_open-inside.ensures,
     ))
     (λ c.
-    let a = c.before.before.before.before.before.before.args in
-    let l = c.before.loop in
+    let a = c.args in
+    let l = c.loop-at in
     λ count z. ruled-end (l.invariant.4 count z) (ended (record_from count) a.listing.now l.at (omega arith))))

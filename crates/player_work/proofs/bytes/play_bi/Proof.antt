@@ -5,12 +5,12 @@ use Rattle.player_work.specs.Encoded.{bi_encoded}
 use Rattle.player_work.proofs.bytes.play_bi.Statement.{statement}
 use Rattle.player_work.proofs.bytes.play_bi.Tie as tie
 
-pub play-bi-spec : {M : Type 1} → statement M
+pub play_bi_spec : {M : Type 1} → statement M
 unfolding bi_encoded Machine.exec Machine.put Machine.writes
-play-bi-spec =
+play_bi_spec =
     tie.close
     (tie.spec
     (λ c κs. search rules) (λ c κs. search rules) (λ c. search rules) (λ c κs. search rules) (λ c κs. search rules) (λ c κs. search rules)
     (λ c κs. search rules) (λ c. search rules) (λ c. search rules)
-    (λ c. (simp (← c.before.before.before.before.before.before.before.before.before.before.before.byte.ensures, ← c.before.before.before.before.before.before.before.before.before.before.bin-op.ensures, c.before.before.before.before.before.before.before.before.op.given.1), λ constants. simp (← c.before.before.before.before.before.before.before.before.before.before.before.byte.ensures, ← c.before.before.before.before.before.before.before.before.before.before.bin-op.ensures, c.before.before.before.before.before.before.before.before.op.given.1, ← c.before.before.before.before.before.byte2.ensures, ← c.before.before.before.before.byte3.ensures, ← c.before.before.before.byte4.ensures) c.before.before.bi.ensures))
-    (λ c. (simp (← c.before.before.before.byte.ensures, ← c.before.before.bin-op.ensures, c.enum_told.given.1), λ constants. simp (← c.before.before.before.byte.ensures, ← c.before.before.bin-op.ensures, c.enum_told.given.1))))
+    (λ c. (simp (← c.byte.ensures, ← c.bin_op.ensures, c.in-Op.is), λ constants. simp (← c.byte.ensures, ← c.bin_op.ensures, c.in-Op.is, ← c.byte-in-Op.ensures, ← c.byte-in-Op-2.ensures, ← c.byte-in-Op-3.ensures) c.bi.ensures))
+    (λ c. (simp (← c.byte.ensures, ← c.bin_op.ensures, c.in-Nothing.is), λ constants. simp (← c.byte.ensures, ← c.bin_op.ensures, c.in-Nothing.is))))

@@ -5,12 +5,12 @@ use Rattle.player_work.specs.Encoded.{fused_encoded}
 use Rattle.player_work.proofs.bytes.play_fused.Statement.{statement}
 use Rattle.player_work.proofs.bytes.play_fused.Tie as tie
 
-pub play-fused-spec : {M : Type 1} → statement M
+pub play_fused_spec : {M : Type 1} → statement M
 unfolding fused_encoded Machine.exec Machine.put Machine.writes
-play-fused-spec =
+play_fused_spec =
     tie.close
     (tie.spec
     (λ c κs. search rules) (λ c κs. search rules) (λ c. search rules) (λ c κs. search rules) (λ c κs. search rules) (λ c κs. search rules)
     (λ c κs. search rules) (λ c κs. search rules) (λ c. search rules) (λ c. search rules)
-    (λ c. (simp (← c.before.before.before.before.before.before.before.before.before.before.before.before.byte.ensures, ← c.before.before.before.before.before.before.before.before.before.before.before.fused-op.ensures, c.before.before.before.before.before.before.before.before.before.op.given.1), λ constants. simp (← c.before.before.before.before.before.before.before.before.before.before.before.before.byte.ensures, ← c.before.before.before.before.before.before.before.before.before.before.before.fused-op.ensures, c.before.before.before.before.before.before.before.before.before.op.given.1, ← c.before.before.before.before.before.before.byte2.ensures, ← c.before.before.before.before.before.byte3.ensures, ← c.before.before.before.before.byte4.ensures, ← c.before.before.before.byte5.ensures) c.before.before.fused.ensures))
-    (λ c. (simp (← c.before.before.before.byte.ensures, ← c.before.before.fused-op.ensures, c.enum_told.given.1), λ constants. simp (← c.before.before.before.byte.ensures, ← c.before.before.fused-op.ensures, c.enum_told.given.1))))
+    (λ c. (simp (← c.byte.ensures, ← c.fused_op.ensures, c.in-Op.is), λ constants. simp (← c.byte.ensures, ← c.fused_op.ensures, c.in-Op.is, ← c.byte-in-Op.ensures, ← c.byte-in-Op-2.ensures, ← c.byte-in-Op-3.ensures, ← c.byte-in-Op-4.ensures) c.fused.ensures))
+    (λ c. (simp (← c.byte.ensures, ← c.fused_op.ensures, c.in-Nothing.is), λ constants. simp (← c.byte.ensures, ← c.fused_op.ensures, c.in-Nothing.is))))

@@ -6,10 +6,10 @@ use Rattle.player_work.specs.Encoded.{mov_encoded}
 use Rattle.player_work.proofs.bytes.play_mov.Statement.{statement}
 use Rattle.player_work.proofs.bytes.play_mov.Tie as tie
 
-pub play-mov-spec : {M : Type 1} → statement M
+pub play_mov_spec : {M : Type 1} → statement M
 unfolding mov_encoded Machine.exec Machine.put Machine.writes
-play-mov-spec =
+play_mov_spec =
     tie.close
     (tie.spec
     (λ c κs. search rules) (λ c κs. search rules) (λ c κs. search rules) (λ c. search rules)
-    (λ c. (refl, λ constants. simp (← c.before.before.before.before.byte.ensures, ← c.before.before.before.byte2.ensures) c.before.before.mov.ensures)))
+    (λ c. (refl, λ constants. simp (← c.byte.ensures, ← c.byte-2.ensures) c.mov.ensures)))

@@ -5,11 +5,11 @@ use Rattle.player_work.specs.Encoded.{save_encoded}
 use Rattle.player_work.proofs.bytes.play_save.Statement.{statement}
 use Rattle.player_work.proofs.bytes.play_save.Tie as tie
 
-pub play-save-spec : {M : Type 1} → statement M
+pub play_save_spec : {M : Type 1} → statement M
 unfolding save_encoded Machine.exec Machine.put Machine.writes
-play-save-spec =
+play_save_spec =
     tie.close
     (tie.spec
     (λ c κs. search rules) (λ c. search rules) (λ c κs. search rules) (λ c κs. search rules) (λ c. search rules) (λ c. search rules)
-    (λ c. (simp (← c.before.before.before.before.before.before.before.before.read-place.ensures, c.before.before.before.before.before.before.loc.given.1), λ constants. simp (← c.before.before.before.before.before.before.before.before.read-place.ensures, c.before.before.before.before.before.before.loc.given.1, ← c.before.before.before.byte.ensures) c.before.before.save.ensures))
-    (λ c. (simp (← c.before.before.read-place.ensures, c.enum_told.given.1), λ constants. simp (← c.before.before.read-place.ensures, c.enum_told.given.1))))
+    (λ c. (simp (← c.read_place.ensures, c.in-At.is), λ constants. simp (← c.read_place.ensures, c.in-At.is, ← c.byte.ensures) c.save.ensures))
+    (λ c. (simp (← c.read_place.ensures, c.in-Bad.is), λ constants. simp (← c.read_place.ensures, c.in-Bad.is))))

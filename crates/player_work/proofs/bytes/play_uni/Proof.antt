@@ -5,12 +5,12 @@ use Rattle.player_work.specs.Encoded.{uni_encoded}
 use Rattle.player_work.proofs.bytes.play_uni.Statement.{statement}
 use Rattle.player_work.proofs.bytes.play_uni.Tie as tie
 
-pub play-uni-spec : {M : Type 1} → statement M
+pub play_uni_spec : {M : Type 1} → statement M
 unfolding uni_encoded Machine.exec Machine.put Machine.writes
-play-uni-spec =
+play_uni_spec =
     tie.close
     (tie.spec
     (λ c κs. search rules) (λ c κs. search rules) (λ c. search rules) (λ c κs. search rules) (λ c κs. search rules) (λ c κs. search rules)
     (λ c. search rules) (λ c. search rules)
-    (λ c. (simp (← c.before.before.before.before.before.before.before.before.before.before.byte.ensures, ← c.before.before.before.before.before.before.before.before.before.uni-op.ensures, c.before.before.before.before.before.before.before.op.given.1), λ constants. simp (← c.before.before.before.before.before.before.before.before.before.before.byte.ensures, ← c.before.before.before.before.before.before.before.before.before.uni-op.ensures, c.before.before.before.before.before.before.before.op.given.1, ← c.before.before.before.before.byte2.ensures, ← c.before.before.before.byte3.ensures) c.before.before.uni.ensures))
-    (λ c. (simp (← c.before.before.before.byte.ensures, ← c.before.before.uni-op.ensures, c.enum_told.given.1), λ constants. simp (← c.before.before.before.byte.ensures, ← c.before.before.uni-op.ensures, c.enum_told.given.1))))
+    (λ c. (simp (← c.byte.ensures, ← c.uni_op.ensures, c.in-Op.is), λ constants. simp (← c.byte.ensures, ← c.uni_op.ensures, c.in-Op.is, ← c.byte-in-Op.ensures, ← c.byte-in-Op-2.ensures) c.uni.ensures))
+    (λ c. (simp (← c.byte.ensures, ← c.uni_op.ensures, c.in-Nothing.is), λ constants. simp (← c.byte.ensures, ← c.uni_op.ensures, c.in-Nothing.is))))

@@ -4,9 +4,9 @@ use mathlib.Core.Path.{◌∙◌}
 use Rattle.player_work.proofs.kinds.fused.Statement.{statement}
 use Rattle.player_work.proofs.kinds.fused.Tie as tie
 
-pub fused-spec : {M : Type 1} → statement M
-fused-spec =
+pub fused_spec : {M : Type 1} → statement M
+fused_spec =
     tie.close
     (tie.spec
     (λ c κs. search rules) (λ c κs. search rules) (λ c κs. search rules) (λ c κs. search rules) (λ c κs. search rules) (λ c. search rules)
-    (λ c. c.before.before.put-register.ensures ∙ simp (c.before.before.before.before.fused-word.ensures, c.before.before.before.before.before.get-register3.ensures, c.before.before.before.before.before.before.before.get-register2.ensures, c.before.before.before.before.before.before.before.before.before.get-register.ensures)))
+    (λ c. c.put_register.ensures ∙ simp (c.fused_word-v.ensures, c.get_register-z.ensures, c.get_register-y.ensures, c.get_register-x.ensures)))

@@ -4,10 +4,10 @@ use mathlib.Core.Path.{◌∙◌}
 use Rattle.player_work.proofs.kinds.if_else.Statement.{statement}
 use Rattle.player_work.proofs.kinds.if_else.Tie as tie
 
-pub if-else-spec : {M : Type 1} → statement M
-if-else-spec =
+pub if_else_spec : {M : Type 1} → statement M
+if_else_spec =
     tie.close
     (tie.spec
     (λ c κs. search rules) (λ c κs. search rules) (λ c κs. search rules) (λ c κs. search rules) (λ c κs. search rules)
     (λ c κs. search rules) (λ c. search rules)
-    (λ c. c.before.before.put-register.ensures ∙ simp (c.before.before.before.before.if-else.ensures, c.before.before.before.before.before.get-register2.ensures, c.before.before.before.before.before.before.before.get-register.ensures, c.before.before.before.before.before.before.before.before.before.get.ensures, c.before.before.before.before.before.before.before.before.before.before.before.place.ensures)))
+    (λ c. c.put_register.ensures ∙ simp (c.if_else-v.ensures, c.get_register-f.ensures, c.get_register-t.ensures, c.get-c.ensures, c.place-i.ensures)))

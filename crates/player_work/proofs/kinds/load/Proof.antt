@@ -9,4 +9,4 @@ load_spec =
     tie.close
     (tie.spec
     (λ c κs. search rules) (λ c κs. search rules) (λ c κs. search rules) (λ c. search rules)
-    (λ c. c.before.before.put-register.ensures ∙ simp (c.before.before.before.before.get.ensures, c.before.before.before.before.before.before.place.ensures)))
+    (λ c. c.put_register.ensures ∙ simp (c.get-v.ensures, c.place-i.ensures)))

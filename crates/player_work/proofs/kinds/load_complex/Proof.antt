@@ -5,10 +5,10 @@ use native.Mathlib.Numerals.{add-one}
 use Rattle.player_work.proofs.kinds.load_complex.Statement.{statement}
 use Rattle.player_work.proofs.kinds.load_complex.Tie as tie
 
-pub load-complex-spec : {M : Type 1} → statement M
-load-complex-spec =
+pub load_complex_spec : {M : Type 1} → statement M
+load_complex_spec =
     tie.close
     (tie.spec
     (λ c κs. search rules) (λ c κs. search rules) (λ c. search rules) (λ c κs. search rules) (λ c κs. search rules) (λ c κs. search rules)
     (λ c. search rules)
-    (λ c. c.before.before.put-register2.ensures ∙ simp (c.before.before.before.before.before.before.put-register.ensures, c.before.before.before.before.before.before.before.before.get2.ensures, c.before.before.before.before.before.before.before.before.before.before.get.ensures, c.before.before.before.before.before.before.before.before.before.before.before.before.place.ensures, add-one)))
+    (λ c. c.put_register-2.ensures ∙ simp (c.put_register.ensures, c.get-y.ensures, c.get-x.ensures, c.place-i.ensures, add-one)))

@@ -4,9 +4,9 @@ use mathlib.Core.Path.{◌∙◌}
 use Rattle.player_work.proofs.kinds.load_const.Statement.{statement}
 use Rattle.player_work.proofs.kinds.load_const.Tie as tie
 
-pub load-const-spec : {M : Type 1} → statement M
-load-const-spec =
+pub load_const_spec : {M : Type 1} → statement M
+load_const_spec =
     tie.close
     (tie.spec
     (λ c κs. search rules) (λ c κs. search rules) (λ c. search rules)
-    (λ c. c.before.before.put-register.ensures ∙ simp c.before.before.before.before.get.ensures))
+    (λ c. c.put_register.ensures ∙ simp c.get-v.ensures))

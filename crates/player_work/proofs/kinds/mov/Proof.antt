@@ -4,9 +4,9 @@ use mathlib.Core.Path.{◌∙◌}
 use Rattle.player_work.proofs.kinds.mov.Statement.{statement}
 use Rattle.player_work.proofs.kinds.mov.Tie as tie
 
-pub mov-spec : {M : Type 1} → statement M
-mov-spec =
+pub mov_spec : {M : Type 1} → statement M
+mov_spec =
     tie.close
     (tie.spec
     (λ c κs. search rules) (λ c κs. search rules) (λ c. search rules)
-    (λ c. c.before.before.put-register.ensures ∙ simp c.before.before.before.before.get-register.ensures))
+    (λ c. c.put_register.ensures ∙ simp c.get_register-v.ensures))

@@ -4,9 +4,9 @@ use mathlib.Core.Path.{◌∙◌}
 use Rattle.player_work.proofs.kinds.save.Statement.{statement}
 use Rattle.player_work.proofs.kinds.save.Tie as tie
 
-pub save-spec : {M : Type 1} → statement M
-save-spec =
+pub save_spec : {M : Type 1} → statement M
+save_spec =
     tie.close
     (tie.spec
     (λ c κs. search rules) (λ c κs. search rules) (λ c κs. search rules) (λ c. search rules)
-    (λ c. c.before.before.put.ensures ∙ simp (c.before.before.before.before.get-register.ensures, c.before.before.before.before.before.before.place.ensures)))
+    (λ c. c.put.ensures ∙ simp (c.get_register-v.ensures, c.place-i.ensures)))

@@ -5,10 +5,10 @@ use native.Mathlib.Numerals.{add-one}
 use Rattle.player_work.proofs.kinds.save_complex.Statement.{statement}
 use Rattle.player_work.proofs.kinds.save_complex.Tie as tie
 
-pub save-complex-spec : {M : Type 1} → statement M
-save-complex-spec =
+pub save_complex_spec : {M : Type 1} → statement M
+save_complex_spec =
     tie.close
     (tie.spec
     (λ c κs. search rules) (λ c κs. search rules) (λ c κs. search rules) (λ c κs. search rules) (λ c. search rules) (λ c κs. search rules)
     (λ c. search rules)
-    (λ c. c.before.before.put2.ensures ∙ simp (c.before.before.before.before.before.before.put.ensures, c.before.before.before.before.before.before.before.before.get-register2.ensures, c.before.before.before.before.before.before.before.before.before.before.get-register.ensures, c.before.before.before.before.before.before.before.before.before.before.before.before.place.ensures, add-one)))
+    (λ c. c.put-2.ensures ∙ simp (c.put.ensures, c.get_register-y.ensures, c.get_register-x.ensures, c.place-i.ensures, add-one)))

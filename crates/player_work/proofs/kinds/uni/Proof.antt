@@ -4,9 +4,9 @@ use mathlib.Core.Path.{◌∙◌}
 use Rattle.player_work.proofs.kinds.uni.Statement.{statement}
 use Rattle.player_work.proofs.kinds.uni.Tie as tie
 
-pub uni-spec : {M : Type 1} → statement M
-uni-spec =
+pub uni_spec : {M : Type 1} → statement M
+uni_spec =
     tie.close
     (tie.spec
     (λ c κs. search rules) (λ c κs. search rules) (λ c κs. search rules) (λ c. search rules)
-    (λ c. c.before.before.put-register.ensures ∙ simp (c.before.before.before.before.uni-word.ensures, c.before.before.before.before.before.get-register.ensures)))
+    (λ c. c.put_register.ensures ∙ simp (c.uni_word-v.ensures, c.get_register-a.ensures)))

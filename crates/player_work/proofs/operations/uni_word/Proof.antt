@@ -4,9 +4,9 @@ use Rattle.player_machine.specs.Machine.{uni_word}
 use Rattle.player_work.proofs.operations.uni_word.Statement.{statement}
 use Rattle.player_work.proofs.operations.uni_word.Tie as tie
 
-pub uni-word-spec : {M : Type 1} → statement M
+pub uni_word_spec : {M : Type 1} → statement M
 unfolding uni_word
-uni-word-spec =
+uni_word_spec =
     tie.close
     (tie.spec
     (λ c. search rules) (λ c κs. search rules) (λ c. search rules) (λ c κs. search rules) (λ c. search rules) (λ c κs. search rules)
@@ -15,23 +15,23 @@ uni-word-spec =
     (λ c κs. search rules) (λ c. search rules) (λ c. search rules) (λ c. search rules) (λ c. search rules) (λ c κs. search rules)
     (λ c. search rules) (λ c κs. search rules) (λ c. search rules) (λ c. search rules) (λ c κs. search rules) (λ c. search rules)
     (λ c. search rules) (λ c. search rules)
-    (λ c. simp (c.before.before.match.keys1, c.before.enum_told.given.1) c.neg.ensures)
-    (λ c. simp (c.before.before.match.keys2, c.before.enum-told2.given.1) c.not.ensures)
-    (λ c. simp (c.before.before.match.keys3, c.before.enum-told3.given.1) c.abs.ensures)
-    (λ c. simp (c.before.before.match.keys4, c.before.enum-told4.given.1) c.root.ensures)
-    (λ c. simp (c.before.match.keys5, c.enum-told5.given.1))
-    (λ c. simp (c.before.before.match.keys6, c.before.enum-told6.given.1) c.recip.ensures)
-    (λ c. simp (c.before.before.match.keys7, c.before.enum-told7.given.1) c.round.ensures)
-    (λ c. simp (c.before.before.match.keys8, c.before.enum-told8.given.1) c.floor.ensures)
-    (λ c. simp (c.before.before.match.keys9, c.before.enum-told9.given.1) c.ceiling.ensures)
-    (λ c. simp (c.before.before.match.keys10, c.before.enum-told10.given.1) c.trunc.ensures)
-    (λ c. simp (c.before.match.keys11, c.enum-told11.given.1))
-    (λ c. simp (c.before.match.keys12, c.enum-told12.given.1))
-    (λ c. simp (c.before.match.keys13, c.enum-told13.given.1))
-    (λ c. simp (c.before.before.match.keys14, c.before.enum-told14.given.1) c.half.ensures)
-    (λ c. simp (c.before.before.match.keys15, c.before.enum-told15.given.1) c.is_zero.ensures)
-    (λ c. simp (c.before.match.keys16, c.enum-told16.given.1))
-    (λ c. simp (c.before.before.match.keys17, c.before.enum-told17.given.1) c.sign.ensures)
-    (λ c. simp (c.before.match.keys18, c.enum-told18.given.1))
-    (λ c. simp (c.before.match.keys19, c.enum-told19.given.1))
-    (λ c. simp (c.before.match.keys20, c.enum-told20.given.1)))
+    (λ c. simp (c.in-Neg.in-Neg-own.keys1, c.in-Neg.is) c.neg.ensures)
+    (λ c. simp (c.in-Not.in-Not-own.keys2, c.in-Not.is) c.not.ensures)
+    (λ c. simp (c.in-Abs.in-Abs-own.keys3, c.in-Abs.is) c.abs.ensures)
+    (λ c. simp (c.in-Root.in-Root-own.keys4, c.in-Root.is) c.root.ensures)
+    (λ c. simp (c.in-RealRoot.in-RealRoot-own.keys5, c.in-RealRoot.is))
+    (λ c. simp (c.in-Recip.in-Recip-own.keys6, c.in-Recip.is) c.recip.ensures)
+    (λ c. simp (c.in-Round.in-Round-own.keys7, c.in-Round.is) c.round.ensures)
+    (λ c. simp (c.in-Floor.in-Floor-own.keys8, c.in-Floor.is) c.floor.ensures)
+    (λ c. simp (c.in-Ceiling.in-Ceiling-own.keys9, c.in-Ceiling.is) c.ceiling.ensures)
+    (λ c. simp (c.in-Trunc.in-Trunc-own.keys10, c.in-Trunc.is) c.trunc.ensures)
+    (λ c. simp (c.in-Real.in-Real-own.keys11, c.in-Real.is))
+    (λ c. simp (c.in-Imaginary.in-Imaginary-own.keys12, c.in-Imaginary.is))
+    (λ c. simp (c.in-Conjugate.in-Conjugate-own.keys13, c.in-Conjugate.is))
+    (λ c. simp (c.in-Half.in-Half-own.keys14, c.in-Half.is) c.half.ensures)
+    (λ c. simp (c.in-IsZero.in-IsZero-own.keys15, c.in-IsZero.is) c.is_zero.ensures)
+    (λ c. simp (c.in-IsNotZero.in-IsNotZero-own.keys16, c.in-IsNotZero.is))
+    (λ c. simp (c.in-Sign.in-Sign-own.keys17, c.in-Sign.is) c.sign.ensures)
+    (λ c. simp (c.in-Abs2.in-Abs2-own.keys18, c.in-Abs2.is))
+    (λ c. simp (c.in-TimesI.in-TimesI-own.keys19, c.in-TimesI.is))
+    (λ c. simp (c.in-TimesNegI.in-TimesNegI-own.keys20, c.in-TimesNegI.is)))

@@ -11,4 +11,4 @@ get_spec =
     tie.close
     (tie.spec
     (λ c. search rules) (λ c. search rules) (λ c. search rules)
-    (λ c. sym (get_or-eq_default c.before.args.words.now 0 {n = c.before.args.i} (omega arith))))
+    (λ c. sym (get_or-eq_default c.args.words.now 0 {n = c.args.i} (omega arith))))

@@ -11,4 +11,4 @@ put_spec =
     tie.close
     (tie.spec
     (λ c. search rules) (λ c. search rules) (λ c. search rules) (λ c. search rules)
-    (λ c. sym (set_out c.before.args.words.now c.before.args.i c.before.args.v (omega arith))))
+    (λ c. sym (set_out c.args.words.now c.args.i c.args.v (omega arith))))

@@ -9,22 +9,22 @@ use Rattle.rerun.proofs.Positions.{found, found-added, newly}
 use Rattle.rerun.proofs.constants.stable_const.Statement.{statement}
 use Rattle.rerun.proofs.constants.stable_const.Tie as tie
 
-pub stable-const-spec : {M : Type 1} → statement M
-stable-const-spec =
+pub stable_const_spec : {M : Type 1} → statement M
+stable_const_spec =
     tie.close
     (tie.spec
     (λ c κs. search rules)
-    (λ c. let h = c.before.before.before.requires.0 in let g = c.before.before.before.requires.1 in omega (arith, h))
-    (λ c. found c.before.position-of.ensures c.if1.true)
-    (λ c. let w : length c.before.before.before.before.args.added.words ≡ 3 = search rules in let q : 2 ≤ length c.before.before.before.before.args.added.words = omega (arith, w) in le_trans c.before.before.before.before.requires.1 q)
-    (λ c. let h = c.before.before.before.before.before.requires.0 in let g = c.before.before.before.before.before.requires.1 in let w : length c.before.before.before.before.before.args.added.words ≡ 3 = search rules in let t : length (take c.before.before.before.before.before.args.added.count c.before.before.before.before.before.args.added.words) ≡ c.before.before.before.before.before.args.added.count = simp length-take (omega (arith, g, w)) in sym t)
+    (λ c. let h = c.requires.0 in let g = c.requires.1 in omega (arith, h))
+    (λ c. found c.position_of-p.ensures c.if-p-n.true)
+    (λ c. let w : length c.args.added.words ≡ 3 = search rules in let q : 2 ≤ length c.args.added.words = omega (arith, w) in le_trans c.requires.1 q)
+    (λ c. let h = c.requires.0 in let g = c.requires.1 in let w : length c.args.added.words ≡ 3 = search rules in let t : length (take c.args.added.count c.args.added.words) ≡ c.args.added.count = simp length-take (omega (arith, g, w)) in sym t)
     (λ c κs. search rules)
-    (λ c. let h = c.before.before.before.before.before.before.before.requires.0 in let g = c.before.before.before.before.before.before.before.requires.1 in omega (arith, h, g))
-    (λ c. let h = c.before.before.before.before.before.before.before.requires.0 in let g = c.before.before.before.before.before.before.before.requires.1 in omega (arith, h, g))
-    (λ c. let h = c.before.before.before.before.before.before.before.requires.0 in let g = c.before.before.before.before.before.before.before.requires.1 in let w : length c.before.before.before.before.before.before.before.args.added.words ≡ 3 = search rules in let t : length (take c.before.before.before.before.before.before.before.args.added.count c.before.before.before.before.before.before.before.args.added.words) ≡ c.before.before.before.before.before.before.before.args.added.count = simp length-take (omega (arith, g, w)) in let e = c.before.before.before.before.before.position-of.ensures in let f = c.before.position-of2.ensures in found-added (omega (arith, e)) f (omega (arith, t)))
-    (λ c. let h = c.before.before.before.before.before.before.before.requires.0 in let g = c.before.before.before.before.before.before.before.requires.1 in omega (arith, g))
-    (λ c. let h = c.before.before.before.before.before.before.before.requires.0 in let g = c.before.before.before.before.before.before.before.requires.1 in omega (arith, g))
-    (λ c. let h = c.before.before.before.before.before.before.before.requires.0 in let g = c.before.before.before.before.before.before.before.requires.1 in omega (arith, h, g))
-    (λ c. let h = c.before.before.before.before.before.before.before.requires.0 in let g = c.before.before.before.before.before.before.before.requires.1 in omega (arith, h, g))
-    (λ c. let h = c.before.before.before.before.before.before.before.requires.0 in let g = c.before.before.before.before.before.before.before.requires.1 in omega (arith, h, g))
-    (λ c. let h = c.before.before.before.before.before.before.before.requires.0 in let g = c.before.before.before.before.before.before.before.requires.1 in let w : length c.before.before.before.before.before.before.before.args.added.words ≡ 3 = search rules in let t : length (take c.before.before.before.before.before.before.before.args.added.count c.before.before.before.before.before.before.before.args.added.words) ≡ c.before.before.before.before.before.before.before.args.added.count = simp length-take (omega (arith, g, w)) in let e = c.before.before.before.before.before.position-of.ensures in let f = c.before.position-of2.ensures in newly (omega (arith, e)) (omega (arith, f, t)) (omega (arith, g, w)) w))
+    (λ c. let h = c.requires.0 in let g = c.requires.1 in omega (arith, h, g))
+    (λ c. let h = c.requires.0 in let g = c.requires.1 in omega (arith, h, g))
+    (λ c. let h = c.requires.0 in let g = c.requires.1 in let w : length c.args.added.words ≡ 3 = search rules in let t : length (take c.args.added.count c.args.added.words) ≡ c.args.added.count = simp length-take (omega (arith, g, w)) in let e = c.position_of-p.ensures in let f = c.position_of-q.ensures in found-added (omega (arith, e)) f (omega (arith, t)))
+    (λ c. let h = c.requires.0 in let g = c.requires.1 in omega (arith, g))
+    (λ c. let h = c.requires.0 in let g = c.requires.1 in omega (arith, g))
+    (λ c. let h = c.requires.0 in let g = c.requires.1 in omega (arith, h, g))
+    (λ c. let h = c.requires.0 in let g = c.requires.1 in omega (arith, h, g))
+    (λ c. let h = c.requires.0 in let g = c.requires.1 in omega (arith, h, g))
+    (λ c. let h = c.requires.0 in let g = c.requires.1 in let w : length c.args.added.words ≡ 3 = search rules in let t : length (take c.args.added.count c.args.added.words) ≡ c.args.added.count = simp length-take (omega (arith, g, w)) in let e = c.position_of-p.ensures in let f = c.position_of-q.ensures in newly (omega (arith, e)) (omega (arith, f, t)) (omega (arith, g, w)) w))

@@ -5,19 +5,19 @@ use Rattle.rerun.specs.Ends.{plainly}
 use Rattle.rerun.proofs.instruction.rerun_arith.Statement.{statement}
 use Rattle.rerun.proofs.instruction.rerun_arith.Tie as tie
 
-pub rerun-arith-spec : {M : Type 1} → statement M
+pub rerun_arith_spec : {M : Type 1} → statement M
 unfolding rerun_arith
-rerun-arith-spec =
+rerun_arith_spec =
     tie.close
     (tie.spec
     (λ c. search rules) (λ c κs. search rules) (λ c κs. search rules) (λ c. search rules) (λ c κs. search rules) (λ c κs. search rules)
     (λ c. search rules) (λ c κs. search rules) (λ c κs. search rules) (λ c. search rules)
-    (λ c κs. c.before.before.before.before.before.before.requires)
+    (λ c κs. c.requires)
     (λ c. search rules)
-    (λ c. simp c.before.before.before.before.before.enum_told.given.1 (plainly c.before.before.before.plus.ensures c.no-constants.ensures))
+    (λ c. simp c.in-Plus.is (plainly c.plus.ensures c.no_constants.ensures))
     (λ c. search rules)
-    (λ c. simp c.before.before.before.before.before.enum-told2.given.1 (plainly c.before.before.before.minus.ensures c.no-constants2.ensures))
+    (λ c. simp c.in-Minus.is (plainly c.minus.ensures c.no_constants-in-Minus.ensures))
     (λ c. search rules)
-    (λ c. simp c.before.before.before.before.before.enum-told3.given.1 (plainly c.before.before.before.times.ensures c.no-constants3.ensures))
+    (λ c. simp c.in-Times.is (plainly c.times.ensures c.no_constants-in-Times.ensures))
     (λ c. search rules)
-    (λ c. simp c.before.before.before.before.enum-told4.given.1 c.before.before.divide.ensures))
+    (λ c. simp c.in-Divide.is c.divide.ensures))

@@ -5,10 +5,10 @@ use Rattle.rerun.proofs.Moves.{to-itself, to-another}
 use Rattle.rerun.proofs.instruction.rerun_mov.Statement.{statement}
 use Rattle.rerun.proofs.instruction.rerun_mov.Tie as tie
 
-pub rerun-mov-spec : {M : Type 1} → statement M
-rerun-mov-spec =
+pub rerun_mov_spec : {M : Type 1} → statement M
+rerun_mov_spec =
     tie.close
     (tie.spec
-    (λ c. to-itself _ _ c.if1.true stay)
+    (λ c. to-itself _ _ c.if-dst-s1.true stay)
     (λ c κs. search rules) (λ c. search rules)
-    (λ c. to-another _ _ c.before.before.before.before.if1.false c.before.before.fmov.ensures))
+    (λ c. to-another _ _ c.if-dst-s1.false c.fmov.ensures))

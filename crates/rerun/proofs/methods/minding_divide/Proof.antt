@@ -6,13 +6,13 @@ use Rattle.rerun.proofs.Divides.{into-temp, into_other}
 use Rattle.rerun.proofs.methods.minding_divide.Statement.{statement}
 use Rattle.rerun.proofs.methods.minding_divide.Tie as tie
 
-pub minding-divide-spec : {M : Type 1} → statement M
-minding-divide-spec =
+pub minding_divide_spec : {M : Type 1} → statement M
+minding_divide_spec =
     tie.close
     (tie.spec
-    (λ c κs. c.before.before.before.before.requires)
+    (λ c κs. c.requires)
     (λ c κs. search rules) (λ c. search rules)
-    (λ c. into-temp c.before.before.before.before.before.before.before.before.before.before.before.before.before.before.args.x c.before.before.before.before.before.before.before.before.before.before.before.before.before.before.args.dst c.before.before.before.before.before.before.before.before.before.before.before.before.before.before.args.s1 c.before.before.before.before.before.before.before.before.before.before.before.before.before.before.args.s2 (eq-eqb _ _ c.before.before.before.before.before.before.before.before.before.before.before.if1.true) c.before.before.before.before.before.before.before.before.before.stable-divide.ensures c.before.before.before.fmov.ensures refl)
-    (λ c κs. c.before.before.before.before.requires)
+    (λ c. into-temp c.args.x c.args.dst c.args.s1 c.args.s2 (eq-eqb _ _ c.if-dst-eq-TEMP.true) c.stable_divide-quotient.ensures c.fmov-moved.ensures refl)
+    (λ c κs. c.requires)
     (λ c. search rules)
-    (λ c. into_other c.before.before.before.before.before.before.before.args.x c.before.before.before.before.before.before.before.args.dst c.before.before.before.before.before.before.before.args.s1 c.before.before.before.before.before.before.before.args.s2 (ne_eqb _ _ c.before.before.before.before.if1.false) c.before.before.stable-divide2.ensures))
+    (λ c. into_other c.args.x c.args.dst c.args.s1 c.args.s2 (ne_eqb _ _ c.if-dst-eq-TEMP.false) c.stable_divide.ensures))

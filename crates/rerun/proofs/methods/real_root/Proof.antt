@@ -9,13 +9,13 @@ use Rattle.rerun.specs.Ends.{plainly, by_flag}
 use Rattle.rerun.proofs.methods.real_root.Statement.{statement}
 use Rattle.rerun.proofs.methods.real_root.Tie as tie
 
-pub real-root-spec : {M : Type 1} → statement M
+pub real_root_spec : {M : Type 1} → statement M
 unfolding real_root
-real-root-spec =
+real_root_spec =
     tie.close
     (tie.spec
     (λ c κs. search rules) (λ c κs. search rules) (λ c κs. search rules) (λ c κs. search rules) (λ c. search rules)
-    (λ c. by_flag (λ x. real_root_by c.before.before.before.before.before.before.before.before.before.before.args.stable x c.before.before.before.before.before.before.before.before.before.before.args.dst c.before.before.before.before.before.before.before.before.before.before.args.s1) _ (sym c.before.before.before.before.before.before.if1.true ∙ c.before.before.before.before.before.before.before.is-real-reg.ensures) (plainly (made (real_root_lines _ _) _ true c.before.before.before.before.real-root-lines.ensures c.before.set-reg-real.ensures) c.no-constants.ensures))
-    (λ c κs. c.before.before.before.before.before.requires)
+    (λ c. by_flag (λ x. real_root_by c.args.stable x c.args.dst c.args.s1) _ (sym c.if-x.true ∙ c.is_real_reg-x.ensures) (plainly (made (real_root_lines _ _) _ true c.real_root_lines-n.ensures c.set_reg_real.ensures) c.no_constants.ensures))
+    (λ c κs. c.requires)
     (λ c. search rules)
-    (λ c. by_flag (λ x. real_root_by c.before.before.before.before.before.before.before.before.args.stable x c.before.before.before.before.before.before.before.before.args.dst c.before.before.before.before.before.before.before.before.args.s1) _ (sym c.before.before.before.before.if1.false ∙ c.before.before.before.before.before.is-real-reg.ensures) c.before.before.root.ensures))
+    (λ c. by_flag (λ x. real_root_by c.args.stable x c.args.dst c.args.s1) _ (sym c.if-x.false ∙ c.is_real_reg-x.ensures) c.root.ensures))

@@ -7,12 +7,12 @@ use Rattle.rerun.specs.Ends.{◌▸▸◌}
 use Rattle.rerun.proofs.methods.root.Statement.{statement}
 use Rattle.rerun.proofs.methods.root.Tie as tie
 
-pub root-spec : {M : Type 1} → statement M
+pub root_spec : {M : Type 1} → statement M
 unfolding root
-root-spec =
+root_spec =
     tie.close
     (tie.spec
     (λ c κs. search rules) (λ c κs. search rules) (λ c κs. search rules) (λ c κs. search rules)
-    (λ c κs. c.before.before.before.before.before.before.before.before.before.before.before.before.before.before.before.before.before.before.before.before.before.before.before.requires)
-    (λ c. omega (arith, c.before.before.before.before.before.before.before.before.before.before.before.before.before.before.before.before.before.before.before.before.before.before.ensure-complex.auto.1.0, c.before.before.before.before.before.before.before.before.before.before.before.before.before.before.before.before.before.fmov.auto.1.0, c.before.before.before.before.before.before.before.before.before.before.before.before.call-root.auto.1.0, c.before.before.before.before.before.before.before.fmov2.auto.1.0, c.before.before.define-root.auto.1.1.1.0))
-    (λ c. c.before.before.before.before.before.before.before.before.before.before.before.before.before.before.before.before.before.before.before.before.before.before.ensure-complex.ensures ▸ c.before.before.before.before.before.before.before.before.before.before.before.before.before.before.before.before.before.fmov.ensures ▸ c.before.before.before.before.before.before.before.before.before.before.before.before.call-root.ensures ▸ c.before.before.before.before.before.before.before.fmov2.ensures ▸▸ c.before.before.define-root.ensures))
+    (λ c κs. c.requires)
+    (λ c. omega (arith, c.ensure_complex-a.auto.1.0, c.fmov-b.auto.1.0, c.call_root-c.auto.1.0, c.fmov-d.auto.1.0, c.define_root.auto.1.1.1.0))
+    (λ c. c.ensure_complex-a.ensures ▸ c.fmov-b.ensures ▸ c.call_root-c.ensures ▸ c.fmov-d.ensures ▸▸ c.define_root.ensures))

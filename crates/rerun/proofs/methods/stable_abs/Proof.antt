@@ -7,11 +7,11 @@ use Rattle.rerun.specs.Ends.{threefold}
 use Rattle.rerun.proofs.methods.stable_abs.Statement.{statement}
 use Rattle.rerun.proofs.methods.stable_abs.Tie as tie
 
-pub stable-abs-spec : {M : Type 1} → statement M
+pub stable_abs_spec : {M : Type 1} → statement M
 unfolding stable_abs
-stable-abs-spec =
+stable_abs_spec =
     tie.close
     (tie.spec
-    (λ c κs. c.before.before.requires)
+    (λ c κs. c.requires)
     (λ c κs. search rules) (λ c κs. search rules) (λ c. search rules)
-    (λ c. threefold FLOOR_FINITE EXP_MASK_FINITE INFINITY (stable_abs_lines _ _) _ c.before.before.before.before.before.before.seek-three.ensures c.before.before.before.before.stable-abs-lines.ensures c.set-reg-complex.ensures refl))
+    (λ c. threefold FLOOR_FINITE EXP_MASK_FINITE INFINITY (stable_abs_lines _ _) _ c.seek_three-t.ensures c.stable_abs_lines-n.ensures c.set_reg_complex.ensures refl))

@@ -8,11 +8,11 @@ use Rattle.rerun.specs.Ends.{threefold}
 use Rattle.rerun.proofs.methods.stable_divide.Statement.{statement}
 use Rattle.rerun.proofs.methods.stable_divide.Tie as tie
 
-pub stable-divide-spec : {M : Type 1} → statement M
+pub stable_divide_spec : {M : Type 1} → statement M
 unfolding stable_divide
-stable-divide-spec =
+stable_divide_spec =
     tie.close
     (tie.spec
-    (λ c κs. c.before.before.requires)
+    (λ c κs. c.requires)
     (λ c κs. search rules) (λ c κs. search rules) (λ c. search rules)
-    (λ c. threefold MIN_POSITIVE INFINITY QUARTER (stable_divide_lines (ltb c.before.before.before.before.before.before.before.before.before.args.dst 30) c.before.before.before.before.before.before.before.before.before.args.x c.before.before.before.before.before.before.before.before.before.args.dst c.before.before.before.before.before.before.before.before.before.args.s1 c.before.before.before.before.before.before.before.before.before.args.s2) _ c.before.before.before.before.before.before.seek-three.ensures c.before.before.before.before.stable-divide-lines.ensures c.set-reg-complex.ensures refl))
+    (λ c. threefold MIN_POSITIVE INFINITY QUARTER (stable_divide_lines (ltb c.args.dst 30) c.args.x c.args.dst c.args.s1 c.args.s2) _ c.seek_three-t.ensures c.stable_divide_lines-n.ensures c.set_reg_complex.ensures refl))

@@ -7,11 +7,11 @@ use Rattle.rerun.specs.Ends.{threefold}
 use Rattle.rerun.proofs.methods.stable_recip.Statement.{statement}
 use Rattle.rerun.proofs.methods.stable_recip.Tie as tie
 
-pub stable-recip-spec : {M : Type 1} → statement M
+pub stable_recip_spec : {M : Type 1} → statement M
 unfolding stable_recip
-stable-recip-spec =
+stable_recip_spec =
     tie.close
     (tie.spec
-    (λ c κs. c.before.before.requires)
+    (λ c κs. c.requires)
     (λ c κs. search rules) (λ c κs. search rules) (λ c. search rules)
-    (λ c. threefold MIN_POSITIVE INFINITY QUARTER (stable_recip_lines _ _) _ c.before.before.before.before.before.before.seek-three.ensures c.before.before.before.before.stable-recip-lines.ensures c.set-reg-complex.ensures refl))
+    (λ c. threefold MIN_POSITIVE INFINITY QUARTER (stable_recip_lines _ _) _ c.seek_three-t.ensures c.stable_recip_lines-n.ensures c.set_reg_complex.ensures refl))

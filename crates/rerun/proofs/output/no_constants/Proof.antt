@@ -3,8 +3,8 @@ use borrow.Author.Rules.{rules}
 use Rattle.rerun.proofs.output.no_constants.Statement.{statement}
 use Rattle.rerun.proofs.output.no_constants.Tie as tie
 
-pub no-constants-spec : {M : Type 1} → statement M
-no-constants-spec =
+pub no_constants_spec : {M : Type 1} → statement M
+no_constants_spec =
     tie.close
     (tie.spec
     (λ c κs. search rules)

@@ -6,9 +6,9 @@ use Rattle.complexifier.specs.Does.{made₁}
 use Rattle.complexifier.proofs.state.Complexifier.abs2.Statement.{statement}
 use Rattle.complexifier.proofs.state.Complexifier.abs2.Tie as tie
 
-pub abs2-spec : {M : Type 1} → statement M
-abs2-spec =
+pub abs2_spec : {M : Type 1} → statement M
+abs2_spec =
     tie.close
     (tie.spec
     (λ c κs. search rules) (λ c κs. search rules) (λ c κs. search rules) (λ c. search rules)
-    (λ c. made₁ abs2_lines copied _ _ c.before.before.before.before.before.is-real-reg.ensures c.before.before.before.abs2-lines.ensures c.copy-real.ensures))
+    (λ c. made₁ abs2_lines copied _ _ c.is_real_reg-x.ensures c.abs2_lines-n.ensures c.copy_real.ensures))

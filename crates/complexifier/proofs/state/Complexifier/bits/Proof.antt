@@ -6,10 +6,10 @@ use Rattle.complexifier.specs.Does.{made₂}
 use Rattle.complexifier.proofs.state.Complexifier.bits.Statement.{statement}
 use Rattle.complexifier.proofs.state.Complexifier.bits.Tie as tie
 
-pub bits-spec : {M : Type 1} → statement M
+pub bits_spec : {M : Type 1} → statement M
 unfolding bits
-bits-spec =
+bits_spec =
     tie.close
     (tie.spec
     (λ c κs. search rules) (λ c κs. search rules) (λ c κs. search rules) (λ c κs. search rules) (λ c. search rules)
-    (λ c. made₂ (bits_lines _) promoted _ _ _ c.before.before.before.before.before.before.is-real-reg.ensures c.before.before.before.before.before.is-real-reg2.ensures c.before.before.before.bits-lines.ensures c.promote-real.ensures))
+    (λ c. made₂ (bits_lines _) promoted _ _ _ c.is_real_reg-x.ensures c.is_real_reg-y.ensures c.bits_lines-n.ensures c.promote_real.ensures))

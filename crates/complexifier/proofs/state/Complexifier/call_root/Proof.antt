@@ -10,10 +10,10 @@ use Rattle.complexifier.specs.Does.{listing}
 use Rattle.complexifier.proofs.state.Complexifier.call_root.Statement.{statement}
 use Rattle.complexifier.proofs.state.Complexifier.call_root.Tie as tie
 
-pub call-root-spec : {M : Type 1} → statement M
+pub call_root_spec : {M : Type 1} → statement M
 unfolding call_root
-call-root-spec =
+call_root_spec =
     tie.close
     (tie.spec
     (λ c κs. search rules) (λ c κs. search rules) (λ c. search rules)
-    (λ c. listing (Record.Call 1 ∷ []) (λ ρ. set_reg ρ Ret false) c.before.before.before.call.ensures c.set-reg-complex.ensures))
+    (λ c. listing (Record.Call 1 ∷ []) (λ ρ. set_reg ρ Ret false) c.call-n.ensures c.set_reg_complex.ensures))

@@ -7,10 +7,10 @@ use Rattle.complexifier.specs.Does.{made, ◌▸◌}
 use Rattle.complexifier.proofs.state.Complexifier.compare.Statement.{statement}
 use Rattle.complexifier.proofs.state.Complexifier.compare.Tie as tie
 
-pub compare-spec : {M : Type 1} → statement M
+pub compare_spec : {M : Type 1} → statement M
 unfolding compare
-compare-spec =
+compare_spec =
     tie.close
     (tie.spec
     (λ c κs. search rules) (λ c κs. search rules) (λ c κs. search rules) (λ c κs. search rules) (λ c. search rules)
-    (λ c. c.before.before.before.before.before.before.before.before.before.before.before.before.before.ensure-complex.ensures ▸ c.before.before.before.before.before.before.before.before.ensure-complex2.ensures ▸ made (compare_lines _ _ _ _ _) _ true c.before.before.before.compare-lines.ensures c.set-reg-real.ensures))
+    (λ c. c.ensure_complex-a.ensures ▸ c.ensure_complex-b.ensures ▸ made (compare_lines _ _ _ _ _) _ true c.compare_lines-n.ensures c.set_reg_real.ensures))

@@ -6,9 +6,9 @@ use Rattle.complexifier.specs.Does.{made₁}
 use Rattle.complexifier.proofs.state.Complexifier.conjugate.Statement.{statement}
 use Rattle.complexifier.proofs.state.Complexifier.conjugate.Tie as tie
 
-pub conjugate-spec : {M : Type 1} → statement M
-conjugate-spec =
+pub conjugate_spec : {M : Type 1} → statement M
+conjugate_spec =
     tie.close
     (tie.spec
     (λ c κs. search rules) (λ c κs. search rules) (λ c κs. search rules) (λ c. search rules)
-    (λ c. made₁ conjugate_lines copied _ _ c.before.before.before.before.before.is-real-reg.ensures c.before.before.before.conjugate-lines.ensures c.copy-real.ensures))
+    (λ c. made₁ conjugate_lines copied _ _ c.is_real_reg-x.ensures c.conjugate_lines-n.ensures c.copy_real.ensures))

@@ -11,4 +11,4 @@ each_spec =
     tie.close
     (tie.spec
     (λ c κs. search rules) (λ c κs. search rules) (λ c κs. search rules) (λ c. search rules)
-    (λ c. made₁ (each_lines _) copied _ _ c.before.before.before.before.before.is-real-reg.ensures c.before.before.before.each-lines.ensures c.copy-real.ensures))
+    (λ c. made₁ (each_lines _) copied _ _ c.is_real_reg-x.ensures c.each_lines-n.ensures c.copy_real.ensures))

@@ -6,10 +6,10 @@ use Rattle.complexifier.specs.Does.{made₁}
 use Rattle.complexifier.proofs.state.Complexifier.ensure_complex.Statement.{statement}
 use Rattle.complexifier.proofs.state.Complexifier.ensure_complex.Tie as tie
 
-pub ensure-complex-spec : {M : Type 1} → statement M
+pub ensure_complex_spec : {M : Type 1} → statement M
 unfolding ensure_complex one_by_one
-ensure-complex-spec =
+ensure_complex_spec =
     tie.close
     (tie.spec
     (λ c κs. search rules) (λ c κs. search rules) (λ c κs. search rules) (λ c. search rules)
-    (λ c. made₁ (λ x d a. ensure_lines x d) as_complex _ _ c.before.before.before.before.before.is-real-reg.ensures c.before.before.before.ensure-lines.ensures c.set-reg-complex.ensures))
+    (λ c. made₁ (λ x d a. ensure_lines x d) as_complex _ _ c.is_real_reg-x.ensures c.ensure_lines-n.ensures c.set_reg_complex.ensures))

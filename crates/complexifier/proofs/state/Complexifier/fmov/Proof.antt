@@ -6,10 +6,10 @@ use Rattle.complexifier.specs.Does.{made₁}
 use Rattle.complexifier.proofs.state.Complexifier.fmov.Statement.{statement}
 use Rattle.complexifier.proofs.state.Complexifier.fmov.Tie as tie
 
-pub fmov-spec : {M : Type 1} → statement M
+pub fmov_spec : {M : Type 1} → statement M
 unfolding fmov
-fmov-spec =
+fmov_spec =
     tie.close
     (tie.spec
     (λ c κs. search rules) (λ c κs. search rules) (λ c κs. search rules) (λ c. search rules)
-    (λ c. made₁ fmov_lines copied _ _ c.before.before.before.before.before.is-real-reg.ensures c.before.before.before.fmov-lines.ensures c.copy-real.ensures))
+    (λ c. made₁ fmov_lines copied _ _ c.is_real_reg-x.ensures c.fmov_lines-n.ensures c.copy_real.ensures))

@@ -5,10 +5,10 @@ use Rattle.complexifier.specs.Does.{◌▸◌}
 use Rattle.complexifier.proofs.state.Complexifier.fused_neg_mul_add.Statement.{statement}
 use Rattle.complexifier.proofs.state.Complexifier.fused_neg_mul_add.Tie as tie
 
-pub fused-neg-mul-add-spec : {M : Type 1} → statement M
+pub fused_neg_mul_add_spec : {M : Type 1} → statement M
 unfolding fused_neg_mul_add
-fused-neg-mul-add-spec =
+fused_neg_mul_add_spec =
     tie.close
     (tie.spec
     (λ c κs. search rules) (λ c κs. search rules) (λ c. search rules)
-    (λ c. c.before.before.before.before.before.before.before.times.ensures ▸ c.before.before.minus.ensures))
+    (λ c. c.times-s.ensures ▸ c.minus.ensures))

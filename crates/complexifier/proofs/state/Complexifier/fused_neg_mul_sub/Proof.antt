@@ -5,10 +5,10 @@ use Rattle.complexifier.specs.Does.{◌▸◌}
 use Rattle.complexifier.proofs.state.Complexifier.fused_neg_mul_sub.Statement.{statement}
 use Rattle.complexifier.proofs.state.Complexifier.fused_neg_mul_sub.Tie as tie
 
-pub fused-neg-mul-sub-spec : {M : Type 1} → statement M
+pub fused_neg_mul_sub_spec : {M : Type 1} → statement M
 unfolding fused_neg_mul_sub
-fused-neg-mul-sub-spec =
+fused_neg_mul_sub_spec =
     tie.close
     (tie.spec
     (λ c κs. search rules) (λ c κs. search rules) (λ c κs. search rules) (λ c. search rules)
-    (λ c. c.before.before.before.before.before.before.before.before.before.before.before.before.times.ensures ▸ c.before.before.before.before.before.before.before.plus.ensures ▸ c.before.before.each.ensures))
+    (λ c. c.times-s.ensures ▸ c.plus-t.ensures ▸ c.each.ensures))

@@ -10,6 +10,6 @@ half_spec =
     tie.close
     (tie.spec
     (λ c κs. search rules) (λ c κs. search rules) (λ c κs. search rules) (λ c κs. search rules) (λ c. search rules)
-    (λ c. minding c.before.before.before.before.before.before.before.before.before.args.mode c.before.before.before.before.before.before.before.before.before.args.dst c.before.before.before.before.before.before.before.before.before.args.s1 c.before.before.before.before.before.before.if1.true c.before.before.before.before.before.before.before.is-minding.ensures c.before.before.before.before.before.is-real-reg.ensures c.before.before.before.minding-half-lines.ensures c.copy-real.ensures)
+    (λ c. minding c.args.mode c.args.dst c.args.s1 c.if-is_minding.true c.is_minding.ensures c.is_real_reg-x.ensures c.minding_half_lines-n.ensures c.copy_real.ensures)
     (λ c κs. search rules) (λ c. search rules)
-    (λ c. as-rust c.before.before.before.before.before.before.before.args.mode c.before.before.before.before.before.before.before.args.dst c.before.before.before.before.before.before.before.args.s1 c.before.before.before.before.if1.false c.before.before.before.before.before.is-minding.ensures refl c.before.before.half-lines.ensures))
+    (λ c. as-rust c.args.mode c.args.dst c.args.s1 c.if-is_minding.false c.is_minding.ensures refl c.half_lines-n.ensures))

@@ -7,10 +7,10 @@ use Rattle.complexifier.specs.Does.{made, ◌▸◌}
 use Rattle.complexifier.proofs.state.Complexifier.ifelse.Statement.{statement}
 use Rattle.complexifier.proofs.state.Complexifier.ifelse.Tie as tie
 
-pub ifelse-spec : {M : Type 1} → statement M
+pub ifelse_spec : {M : Type 1} → statement M
 unfolding ifelse
-ifelse-spec =
+ifelse_spec =
     tie.close
     (tie.spec
     (λ c κs. search rules) (λ c κs. search rules) (λ c κs. search rules) (λ c κs. search rules) (λ c. search rules)
-    (λ c. c.before.before.before.before.before.before.before.before.before.before.before.before.before.ensure-complex.ensures ▸ c.before.before.before.before.before.before.before.before.ensure-complex2.ensures ▸ made (ifelse_lines _ _ _ _) _ false c.before.before.before.ifelse-lines.ensures c.set-reg-complex.ensures))
+    (λ c. c.ensure_complex-a.ensures ▸ c.ensure_complex-b.ensures ▸ made (ifelse_lines _ _ _ _) _ false c.ifelse_lines-n.ensures c.set_reg_complex.ensures))

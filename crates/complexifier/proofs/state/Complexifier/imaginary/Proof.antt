@@ -6,9 +6,9 @@ use Rattle.complexifier.specs.Does.{made₁}
 use Rattle.complexifier.proofs.state.Complexifier.imaginary.Statement.{statement}
 use Rattle.complexifier.proofs.state.Complexifier.imaginary.Tie as tie
 
-pub imaginary-spec : {M : Type 1} → statement M
-imaginary-spec =
+pub imaginary_spec : {M : Type 1} → statement M
+imaginary_spec =
     tie.close
     (tie.spec
     (λ c κs. search rules) (λ c κs. search rules) (λ c κs. search rules) (λ c. search rules)
-    (λ c. made₁ imaginary_lines as_real _ _ c.before.before.before.before.before.is-real-reg.ensures c.before.before.before.imaginary-lines.ensures c.set-reg-real.ensures))
+    (λ c. made₁ imaginary_lines as_real _ _ c.is_real_reg-x.ensures c.imaginary_lines-n.ensures c.set_reg_real.ensures))

@@ -9,10 +9,10 @@ use Rattle.complexifier.specs.Does.{made}
 use Rattle.complexifier.proofs.state.Complexifier.load_const.Statement.{statement}
 use Rattle.complexifier.proofs.state.Complexifier.load_const.Tie as tie
 
-pub load-const-spec : {M : Type 1} → statement M
+pub load_const_spec : {M : Type 1} → statement M
 unfolding load_const
-load-const-spec =
+load_const_spec =
     tie.close
     (tie.spec
     (λ c κs. search rules) (λ c κs. search rules) (λ c. search rules)
-    (λ c. made (mir.load_const (re _) _ ∷ []) _ true c.before.before.before.load-const-lines.ensures c.set-reg-real.ensures))
+    (λ c. made (mir.load_const (re _) _ ∷ []) _ true c.load_const_lines-n.ensures c.set_reg_real.ensures))

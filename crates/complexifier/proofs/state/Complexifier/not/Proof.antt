@@ -7,10 +7,10 @@ use Rattle.complexifier.specs.Does.{made₁}
 use Rattle.complexifier.proofs.state.Complexifier.not.Statement.{statement}
 use Rattle.complexifier.proofs.state.Complexifier.not.Tie as tie
 
-pub not-spec : {M : Type 1} → statement M
+pub not_spec : {M : Type 1} → statement M
 unfolding not_lines
-not-spec =
+not_spec =
     tie.close
     (tie.spec
     (λ c κs. search rules) (λ c κs. search rules) (λ c. search rules)
-    (λ c. made₁ not_lines as_real _ _ refl c.before.before.before.not-lines.ensures c.set-reg-real.ensures))
+    (λ c. made₁ not_lines as_real _ _ refl c.not_lines-n.ensures c.set_reg_real.ensures))

@@ -6,10 +6,10 @@ use Rattle.complexifier.specs.Does.{made₂}
 use Rattle.complexifier.proofs.state.Complexifier.plus.Statement.{statement}
 use Rattle.complexifier.proofs.state.Complexifier.plus.Tie as tie
 
-pub plus-spec : {M : Type 1} → statement M
+pub plus_spec : {M : Type 1} → statement M
 unfolding plus
-plus-spec =
+plus_spec =
     tie.close
     (tie.spec
     (λ c κs. search rules) (λ c κs. search rules) (λ c κs. search rules) (λ c κs. search rules) (λ c. search rules)
-    (λ c. made₂ plus_lines promoted _ _ _ c.before.before.before.before.before.before.is-real-reg.ensures c.before.before.before.before.before.is-real-reg2.ensures c.before.before.before.plus-lines.ensures c.promote-real.ensures))
+    (λ c. made₂ plus_lines promoted _ _ _ c.is_real_reg-x.ensures c.is_real_reg-y.ensures c.plus_lines-n.ensures c.promote_real.ensures))

@@ -7,10 +7,10 @@ use Rattle.complexifier.specs.Does.{made₁}
 use Rattle.complexifier.proofs.state.Complexifier.real.Statement.{statement}
 use Rattle.complexifier.proofs.state.Complexifier.real.Tie as tie
 
-pub real-spec : {M : Type 1} → statement M
+pub real_spec : {M : Type 1} → statement M
 unfolding real_lines
-real-spec =
+real_spec =
     tie.close
     (tie.spec
     (λ c κs. search rules) (λ c κs. search rules) (λ c. search rules)
-    (λ c. made₁ real_lines as_real _ _ refl c.before.before.before.real-lines.ensures c.set-reg-real.ensures))
+    (λ c. made₁ real_lines as_real _ _ refl c.real_lines-n.ensures c.set_reg_real.ensures))

@@ -4,17 +4,17 @@ use Rattle.lowering.specs.Rerun.{rerun_fused}
 use Rattle.complexifier.proofs.state.Complexifier.rerun_fused.Statement.{statement}
 use Rattle.complexifier.proofs.state.Complexifier.rerun_fused.Tie as tie
 
-pub rerun-fused-spec : {M : Type 1} → statement M
+pub rerun_fused_spec : {M : Type 1} → statement M
 unfolding rerun_fused
-rerun-fused-spec =
+rerun_fused_spec =
     tie.close
     (tie.spec
     (λ c. search rules) (λ c κs. search rules) (λ c. search rules) (λ c κs. search rules) (λ c. search rules) (λ c κs. search rules)
     (λ c. search rules) (λ c κs. search rules) (λ c. search rules)
-    (λ c. simp c.before.before.before.before.enum_told.given.1 c.before.before.fused-mul-add.ensures)
+    (λ c. simp c.in-MulAdd.is c.fused_mul_add.ensures)
     (λ c. search rules)
-    (λ c. simp c.before.before.before.before.enum-told2.given.1 c.before.before.fused-mul-sub.ensures)
+    (λ c. simp c.in-MulSub.is c.fused_mul_sub.ensures)
     (λ c. search rules)
-    (λ c. simp c.before.before.before.before.enum-told3.given.1 c.before.before.fused-neg-mul-add.ensures)
+    (λ c. simp c.in-NegMulAdd.is c.fused_neg_mul_add.ensures)
     (λ c. search rules)
-    (λ c. simp c.before.before.before.before.enum-told4.given.1 c.before.before.fused-neg-mul-sub.ensures))
+    (λ c. simp c.in-NegMulSub.is c.fused_neg_mul_sub.ensures))

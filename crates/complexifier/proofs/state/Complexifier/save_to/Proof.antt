@@ -8,10 +8,10 @@ use Rattle.complexifier.specs.Does.{listing, ◌▸◌}
 use Rattle.complexifier.proofs.state.Complexifier.save_to.Statement.{statement}
 use Rattle.complexifier.proofs.state.Complexifier.save_to.Tie as tie
 
-pub save-to-spec : {M : Type 1} → statement M
+pub save_to_spec : {M : Type 1} → statement M
 unfolding save_to
-save-to-spec =
+save_to_spec =
     tie.close
     (tie.spec
     (λ c κs. search rules) (λ c κs. search rules) (λ c κs. search rules) (λ c. search rules)
-    (λ c. c.before.before.before.before.before.before.before.before.ensure-complex.ensures ▸ listing (map Record.Work (save_lines _ _)) (saved_realness c.before.before.before.before.before.before.before.before.before.before.before.args.loc) c.before.before.before.save-lines.ensures c.saved.ensures))
+    (λ c. c.ensure_complex-a.ensures ▸ listing (map Record.Work (save_lines _ _)) (saved_realness c.args.loc) c.save_lines-n.ensures c.saved.ensures))

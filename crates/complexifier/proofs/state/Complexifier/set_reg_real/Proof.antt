@@ -3,9 +3,9 @@ use borrow.Author.Rules.{rules}
 use Rattle.complexifier.proofs.state.Complexifier.set_reg_real.Statement.{statement}
 use Rattle.complexifier.proofs.state.Complexifier.set_reg_real.Tie as tie
 
-pub set-reg-real-spec : {M : Type 1} → statement M
-set-reg-real-spec =
+pub set_reg_real_spec : {M : Type 1} → statement M
+set_reg_real_spec =
     tie.close
     (tie.spec
     (λ c κs. search rules)
-    (λ c. simp c.set-reg-real.ensures))
+    (λ c. simp c.set_reg_real-after.ensures))
