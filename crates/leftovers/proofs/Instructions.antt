@@ -177,3 +177,6 @@ rerun_keeps k B m (Instruction.LoadMath op d a p) s z v b hk =
 rerun_keeps k B m (Instruction.LoadConstMath op d a i) s z v b hk =
     join (frame_any _ 31 (lit≤ tt) (load-const-keeps k B m s _ _ 31 i (lit< tt) v.2))
     (arith-keeps k B _ _ (c.load_const 31 i s).after d a 31 v.0 v.1 (lit< tt) m op hk)
+rerun_keeps k B m (Instruction.Label _) s z v b hk = elim z [ ]
+rerun_keeps k B m (Instruction.Branch _) s z v b hk = elim z [ ]
+rerun_keeps k B m (Instruction.BranchIf _ _ _) s z v b hk = elim z [ ]

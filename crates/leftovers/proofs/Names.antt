@@ -58,6 +58,7 @@ rename d a b p l = map (ren (name d a b p) (λ q. p)) l
 pub pick_all : (P : ℕ → Type 0) (xs : List ℕ) (n : ℕ) → All P xs → T (has n xs) → P n
 pick_all P (x ∷ xs) n h m =
     ⊎_elim (λ e. rw (eqb→eq n x e) h.0) (λ t. pick_all P xs n h.1 t) (or_cases (eqb n x) (has n xs) m)
+pick_all P [] n h m = elim m [ ]
 
 pub in_all : (n : ℕ) (xs ys : List ℕ) → T (all_in xs ys) → T (has n xs) → T (has n ys)
 unfolding all_in
@@ -65,6 +66,7 @@ in_all n (x ∷ xs) ys h m =
     ⊎_elim (λ e. rw (eqb→eq n x e) (and_left (has x ys) (all_in xs ys) h))
     (λ t. in_all n xs ys (and_right (has x ys) (all_in xs ys) h) t)
     (or_cases (eqb n x) (has n xs) m)
+in_all n [] ys h m = elim m [ ]
 
 -- ---- the halves
 
@@ -224,6 +226,10 @@ good x y z g l = (check (start x y z) l && ((g || has 5 (known (start x y z) l))
 
 four_tests : (a b c d : Bool) → T ((a && (b && c)) && d) → T a × T b × T c × T d
 four_tests true true true true h = (tt, tt, tt, tt)
+four_tests false b c d h = elim h [ ]
+four_tests true false c d h = elim h [ ]
+four_tests true true false d h = elim h [ ]
+four_tests true true true false h = elim h [ ]
 
 -- each part of the test
 pub good_parts : (x y z g : Bool) (l : List Work) → T (good x y z g l)

@@ -23,6 +23,7 @@ all_in_range count (b ∷ s) zero =
         → AllIn count (onto r (λ a. decoded_from (instruction_from count) s (pred (u16_at (b ∷ s) 0)))).items
     go (got i) (read h) ih = (h, ih)
     go (refused (suc n)) told ih = tt
+    go (refused zero) x4 ih = elim x4 [ ]
 
 -- so are as many of them as a sheet may have
 all_in_first : (count n : ℕ) (l : List Instruction) → AllIn count l → AllIn count (take n l)

@@ -72,10 +72,12 @@ ren f g (Work.ComplexBi op x y x1 y1 x2 y2) = Work.ComplexBi op (f x) (f y) (f x
 
 pub T→true : (b : Bool) → T b → b ≡ true
 T→true true h = refl
+T→true false h = elim h [ ]
 
 pub has_left : (n : ℕ) (xs ys : List ℕ) → T (has n xs) → T (has n (xs ++ ys))
 has_left n (x ∷ xs) ys h =
     ⊎_elim (λ e. or_l (eqb n x) (has n (xs ++ ys)) e) (λ t. or_r (eqb n x) (has n (xs ++ ys)) (has_left n xs ys t)) (or_cases (eqb n x) (has n xs) h)
+has_left n [] ys h = elim h [ ]
 
 pub has_right : (n : ℕ) (xs ys : List ℕ) → T (has n ys) → T (has n (xs ++ ys))
 has_right n [] ys h = h
@@ -101,6 +103,7 @@ one_off (suc i) (suc j) n = one_off i j (λ e. n (ap suc e))
 
 agree_here : {σ τ : Store} (is : List ℕ) (i : ℕ) → AgreeAt σ τ is → T (among is i) → at σ i ≡ at τ i
 agree_here (j ∷ js) i (same e h) t = ⊎_elim (λ q. rw (eqb→eq i j q) e) (λ t. agree_here js i h t) (or_cases (eqb i j) (among js i) t)
+agree_here {σ = σ} {τ = τ} [] i _ t = elim t [ ]
 
 -- where f means the words of a place by those of the place that g means
 module _ (f : ℕ → ℕ) (g : Loc → Loc) (real : (q : Loc) → f (place q) ≡ place (g q)) (imaginary : (q : Loc) → f (suc (place q)) ≡ suc (place (g q)))
@@ -177,8 +180,8 @@ module _ (f : ℕ → ℕ) (g : Loc → Loc) (real : (q : Loc) → f (place q) �
           → Agree (Named C (known cl l)) (execs k (map (ren f g) l) σ) (execs k (map (ren f g) l) τ)
       unfolding execs check known
       steps-agree cl [] h ag = ag
-      steps-agree cl (a ∷ l) h ag =
-          steps-agree (fills a ++ cl) l (and_right (all_in (draws a) cl) (check (fills a ++ cl) l) h)
+      steps-agree {σ = σ} {τ = τ} cl (a ∷ l) h ag =
+          steps-agree {σ = exec k (ren f g a) σ} {τ = exec k (ren f g a) τ} (fills a ++ cl) l (and_right (all_in (draws a) cl) (check (fills a ++ cl) l) h)
           (step-agree cl a (and_left (all_in (draws a) cl) (check (fills a ++ cl) l) h) ag)
 
     -- the words that no line fills stay
@@ -212,3 +215,4 @@ module _ (f : ℕ → ℕ) (g : Loc → Loc) (real : (q : Loc) → f (place q) �
         undrawn i (fills a ++ cl) l
         (λ n h. ⊎_elim (λ x e. clash (among (fills (ren f g a)) i) (filled-name i n a x e) p.0) (λ x. out n x) (has_split n (fills a) cl h))
         (and_right (all_in (draws a) cl) (check (fills a ++ cl) l) c) p.1
+    undrawn i cl [] out c x3 = elim x3 [ ]

@@ -45,6 +45,7 @@ equal_at l ρ x (_ ∷ xs) e d here =
     same-records x.real ρ (not-false (same_records x.real ρ) (rw (eq-eqb x.label l e) at f))
 equal_at l ρ x (y ∷ xs) e d (there a) =
     equal_at l ρ x xs e (or_right (eqb y.label l && not (same_records y.real ρ)) (differs l ρ xs) d) a
+equal_at l ρ x [] e d x4 = elim x4 [ ]
 
 -- ---- each branch meets its label
 

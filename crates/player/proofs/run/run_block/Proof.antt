@@ -39,11 +39,11 @@ run_block_spec =
     let x = c.exec-worked.ensures in
     let t : Tried a.constants.now a.listing.now l.at _ l.store _ = record { went = x.0; after = x.1 } in
     let f = readable (length a.constants.now) a.listing.now l.at l.invariant.4 (omega arith) in
-    let e = works_jump (jumps a.constants.now a.listing.now l.at f t (not-true _ c.if-not-worked.true)) in
+    let e = works_jump (jumps a.constants.now a.listing.now l.at f t c.if-not-worked.true) in
     let g = ap length e in
     let i = l.invariant.3 in
     record {
-      same = kept a.constants.now a.listing.now l.at f t (not-true _ c.if-not-worked.true) ∙ sym (execs_none a.constants.now l.store e) ∙ l.invariant.2;
+      same = kept a.constants.now a.listing.now l.at f t c.if-not-worked.true ∙ sym (execs_none a.constants.now l.store e) ∙ l.invariant.2;
       count = omega (arith, g, i);
       small = omega arith;
     })
@@ -54,7 +54,7 @@ run_block_spec =
     let x = c.exec-worked.ensures in
     let t : Tried a.constants.now a.listing.now l.at _ l.store _ = record { went = x.0; after = x.1 } in
     let f = readable (length a.constants.now) a.listing.now l.at l.invariant.4 (omega arith) in
-    let d = did a.constants.now a.listing.now l.at f t c.u16_at-k.ensures (not-false _ c.if-not-worked.false) in
+    let d = did a.constants.now a.listing.now l.at f t c.u16_at-k.ensures c.if-not-worked.false in
     let h = d.here.inside in
     omega (arith, h))
     (λ c. search rules)
@@ -64,7 +64,7 @@ run_block_spec =
     let x = c.exec-worked.ensures in
     let t : Tried a.constants.now a.listing.now l.at _ l.store _ = record { went = x.0; after = x.1 } in
     let f = readable (length a.constants.now) a.listing.now l.at l.invariant.4 (omega arith) in
-    let d = did a.constants.now a.listing.now l.at f t c.u16_at-k.ensures (not-false _ c.if-not-worked.false) in
+    let d = did a.constants.now a.listing.now l.at f t c.u16_at-k.ensures c.if-not-worked.false in
     let h = d.here.on in
     omega (arith, h))
     (λ c.
@@ -73,7 +73,7 @@ run_block_spec =
     let x = c.exec-worked.ensures in
     let t : Tried a.constants.now a.listing.now l.at _ l.store _ = record { went = x.0; after = x.1 } in
     let f = readable (length a.constants.now) a.listing.now l.at l.invariant.4 (omega arith) in
-    let d = did a.constants.now a.listing.now l.at f t c.u16_at-k.ensures (not-false _ c.if-not-worked.false) in
+    let d = did a.constants.now a.listing.now l.at f t c.u16_at-k.ensures c.if-not-worked.false in
     let g = d.here.on in
     let w = d.here.inside in
     let e = works_on d.here in

@@ -14,5 +14,5 @@ root_spec =
     (tie.spec
     (λ c κs. search rules) (λ c κs. search rules) (λ c κs. search rules) (λ c κs. search rules)
     (λ c κs. c.requires)
-    (λ c. omega (arith, c.ensure_complex-a.auto.1.0, c.fmov-b.auto.1.0, c.call_root-c.auto.1.0, c.fmov-d.auto.1.0, c.define_root.auto.1.1.1.0))
+    (λ c. search rules)
     (λ c. c.ensure_complex-a.ensures ▸ c.fmov-b.ensures ▸ c.call_root-c.ensures ▸ c.fmov-d.ensures ▸▸ c.define_root.ensures))
