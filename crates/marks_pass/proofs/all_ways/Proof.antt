@@ -13,23 +13,23 @@ use Rattle.marks_pass.proofs.Passing as P
 use Rattle.marks_pass.proofs.all_ways.Statement.{statement}
 use Rattle.marks_pass.proofs.all_ways.Tie as tie
 
-straight-requires : tie.Need-straight-requires
+straight-requires : tie.Need-straight-at-requires
 straight-requires c κs = (length-replicate 256 false, length-replicate 256 false)
 
 pass-requires : tie.Need-pass-requires
-pass-requires c κs = ((c.before.before.before.before.before.straight.auto.1.1.0 ∙ length-replicate 256 false, c.before.before.before.before.before.straight.auto.1.1.1.0 ∙ length-replicate 256 false), (P.begun _ _ c.before.before.before.before.before.straight.ensures, P.no_ways 16896))
+pass-requires c κs = ((c.straight-at.auto.filled ∙ length-replicate 256 false, c.straight-at.auto.drawn ∙ length-replicate 256 false), (P.begun _ _ c.straight-at.ensures, P.no_ways 16896))
 
 both-requires : tie.Need-both-requires
-both-requires c κs = (c.before.before.before.before.before.pass.auto.1.1.0 ∙ c.before.before.before.before.before.before.before.before.before.before.before.straight.auto.1.1.0 ∙ length-replicate 256 false, c.before.before.before.before.before.pass.auto.1.1.1.0 ∙ c.before.before.before.before.before.before.before.before.before.before.before.straight.auto.1.1.1.0 ∙ length-replicate 256 false)
+both-requires c κs = (c.pass.auto.filled ∙ c.straight-at.auto.filled ∙ length-replicate 256 false, c.pass.auto.drawn ∙ c.straight-at.auto.drawn ∙ length-replicate 256 false)
 
 returns : tie.Need-returns
 returns c =
     λ rs e.
-    let p = c.before.before.before.before.before.before.pass.ensures in
+    let p = c.pass.ensures in
     c.both.ensures rs (p.marks rs e (p.whole rs e (let z = length-replicate 16896 true in omega (arith, z))))
 
-pub all-ways-spec : {M : Type 1} → statement M
-all-ways-spec =
+pub all_ways_spec : {M : Type 1} → statement M
+all_ways_spec =
     tie.close
     (tie.spec
     (λ c. search rules) (λ c. search rules) straight-requires (λ c. search rules) (λ c. search rules) (λ c. search rules)

@@ -17,11 +17,11 @@ returns : tie.Need-returns
 returns c =
     λ rs s.
     ap₂ (λ (f d : List Bool). record { filled = f; drawn = d })
-    (P.first-is _ _ _ (search rules) c.before.first.ensures s.filled)
-    (P.first-is _ _ _ (search rules) c.first2.ensures s.drawn)
+    (P.first-is _ _ _ (search rules) c.first-a.ensures s.filled)
+    (P.first-is _ _ _ (search rules) c.first-b.ensures s.drawn)
 
-pub both-spec : {M : Type 1} → statement M
-both-spec =
+pub both_spec : {M : Type 1} → statement M
+both_spec =
     tie.close
     (tie.spec
     (λ c κs. search rules) (λ c κs. search rules) returns)

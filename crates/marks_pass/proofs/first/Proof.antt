@@ -12,27 +12,27 @@ use Rattle.marks_pass.proofs.Arrays as A
 use Rattle.marks_pass.proofs.first.Statement.{statement}
 use Rattle.marks_pass.proofs.first.Tie as tie
 
-abbrev invariant-loop : tie.invariant-loop
-invariant-loop all marks₀ i₀ marks i = (i ≤ 66) × (length marks ≡ 66) × Made 0 i (held all) marks₀ marks
+abbrev invariant-loop-i : tie.invariant-loop-i
+invariant-loop-i all marks₀ i₀ marks i = (i ≤ 66) × (length marks ≡ 66) × Made 0 i (held all) marks₀ marks
 
-abbrev decreases-loop : tie.decreases-loop
-decreases-loop all marks₀ i₀ marks i = 66 - i
+abbrev decreases-loop-i : tie.decreases-loop-i
+decreases-loop-i all marks₀ i₀ marks i = 66 - i
 
-loop-holds : tie.Need-loop-init invariant-loop decreases-loop
+loop-holds : tie.Need-loop-i-init invariant-loop-i decreases-loop-i
 loop-holds c = (omega arith, search rules, A.made_none 0 _ _)
 
-loop-again : tie.Need-loop-preserved invariant-loop decreases-loop
+loop-again : tie.Need-loop-i-preserved invariant-loop-i decreases-loop-i
 loop-again c =
-    let l = c.before.before.loop in
+    let l = c.loop-i in
     (omega arith, simp length-set l.invariant.1, A.made-on-0 _ _ l.i _ l.invariant.2 (search rules) refl)
 
-returns : tie.Need-returns invariant-loop decreases-loop
+returns : tie.Need-returns invariant-loop-i decreases-loop-i
 returns c =
-    let l = c.before.loop in
+    let l = c.loop-i in
     record { each = A.made-66 _ _ (A.made_all l.i (omega arith) l.invariant.2) }
 
 pub first_spec : {M : Type 1} → statement M
 first_spec =
     tie.close
-    (tie.spec invariant-loop decreases-loop
+    (tie.spec invariant-loop-i decreases-loop-i
     loop-holds (λ c. search rules) (λ c. search rules) (λ c. search rules) (λ c. search rules) loop-again returns)

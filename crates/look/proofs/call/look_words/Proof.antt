@@ -9,13 +9,13 @@ use Rattle.look.proofs.Calls.{too_many}
 use Rattle.look.proofs.call.look_words.Statement.{statement}
 use Rattle.look.proofs.call.look_words.Tie as tie
 
-pub look-words-spec : {M : Type 1} → statement M
-look-words-spec =
+pub look_words_spec : {M : Type 1} → statement M
+look_words_spec =
     tie.close
     (tie.spec
     (λ c κs. search rules)
-    (λ c. let a = c.before.before.before.before.before.args in too_many a.listing.now a.constants.now a.store.now a.start c.before.if1.true c.unshown.ensures)
+    (λ c. let a = c.args in too_many a.listing.now a.constants.now a.store.now a.start c.if-n-gt256.true c.unshown.ensures)
     (λ c. search rules) (λ c κs. search rules) (λ c. search rules)
     (λ c. sym (length-take-le _ _ (search rules)))
     (λ c κs. search rules)
-    (λ c. let a = c.before.before.before.before.before.before.before.before.before.args in c.look.ensures ∙ ap (λ w. told (Machine.look a.listing.now w a.store.now a.start)) (loaded _ a.constants.now c.before.before.before.load.ensures (search rules))))
+    (λ c. let a = c.args in c.look.ensures ∙ ap (λ w. told (Machine.look a.listing.now w a.store.now a.start)) (loaded _ a.constants.now c.load.ensures (search rules))))

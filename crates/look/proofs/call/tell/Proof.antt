@@ -5,9 +5,9 @@ use Rattle.words.specs.Bytes.{bytes_of, stored}
 use Rattle.look.proofs.call.tell.Statement.{statement}
 use Rattle.look.proofs.call.tell.Tie as tie
 
-pub tell-spec : {M : Type 1} → statement M
-tell-spec =
+pub tell_spec : {M : Type 1} → statement M
+tell_spec =
     tie.close
     (tie.spec
     (λ c κs. search rules) (λ c. search rules) (λ c κs. search rules) (λ c. search rules) (λ c. search rules)
-    (λ c. (refl, c.before.before.before.save.ensures ∙ ap (λ l. stored c.before.before.before.before.before.before.before.before.args.answer.now 0 (bytes_of l)) c.before.before.before.before.before.before.Numbers-of.ensures)))
+    (λ c. (refl, c.save.ensures ∙ ap (λ l. stored c.args.answer.now 0 (bytes_of l)) c.Numbers-of.ensures)))

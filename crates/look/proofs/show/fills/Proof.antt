@@ -5,8 +5,8 @@ use Rattle.look.proofs.Fills.{uni-fills, bi-fills, mov-fills, load-fills, load-c
 use Rattle.look.proofs.show.fills.Statement.{statement}
 use Rattle.look.proofs.show.fills.Tie as tie
 
-pub fills-spec : {M : Type 1} → statement M
-fills-spec =
+pub fills_spec : {M : Type 1} → statement M
+fills_spec =
     tie.close
     (tie.spec
     (λ c κs. search rules) (λ c κs. search rules) (λ c. search rules) (λ c κs. search rules) (λ c κs. search rules)
@@ -16,15 +16,15 @@ fills-spec =
     (λ c κs. search rules) (λ c. search rules) (λ c κs. search rules) (λ c κs. search rules) (λ c. search rules)
     (λ c κs. search rules) (λ c. search rules) (λ c κs. search rules) (λ c κs. search rules) (λ c κs. search rules)
     (λ c. search rules) (λ c κs. search rules) (λ c. search rules) (λ c κs. search rules) (λ c κs. search rules)
-    (λ c. uni-fills c.before.before.before.before.before.args.s.now (sym c.before.before.before.u16-at.ensures ∙ c.before.before.match.keys1) c.before.byte.ensures c.one.ensures)
-    (λ c. bi-fills c.before.before.before.before.before.args.s.now (sym c.before.before.before.u16-at.ensures ∙ c.before.before.match.keys2) c.before.byte2.ensures c.one2.ensures)
-    (λ c. mov-fills c.before.before.before.before.before.args.s.now (sym c.before.before.before.u16-at.ensures ∙ c.before.before.match.keys3) c.before.byte3.ensures c.one3.ensures)
-    (λ c. load-fills c.before.before.before.before.before.args.s.now (sym c.before.before.before.u16-at.ensures ∙ c.before.before.match.keys4) c.before.byte4.ensures c.one4.ensures)
-    (λ c. save-fills c.before.before.before.before.args.s.now (sym c.before.before.u16-at.ensures ∙ c.before.match.keys5) c.save-fills.ensures)
-    (λ c. load-const-fills c.before.before.before.before.before.args.s.now (sym c.before.before.before.u16-at.ensures ∙ c.before.before.match.keys6) c.before.byte5.ensures c.one5.ensures)
-    (λ c. fused-fills c.before.before.before.before.before.args.s.now (sym c.before.before.before.u16-at.ensures ∙ c.before.before.match.keys7) c.before.byte6.ensures c.one6.ensures)
-    (λ c. if-else-fills c.before.before.before.before.before.args.s.now (sym c.before.before.before.u16-at.ensures ∙ c.before.before.match.keys8) c.before.byte7.ensures c.one7.ensures)
-    (λ c. load-complex-fills c.before.before.before.before.before.before.args.s.now (sym c.before.before.before.before.u16-at.ensures ∙ c.before.before.before.match.keys9) c.before.before.byte8.ensures c.before.byte9.ensures c.two.ensures)
-    (λ c. save-complex-fills c.before.before.before.before.args.s.now (sym c.before.before.u16-at.ensures ∙ c.before.match.keys10) c.save-complex-fills.ensures)
-    (λ c. complex-bi-fills c.before.before.before.before.before.before.args.s.now (sym c.before.before.before.before.u16-at.ensures ∙ c.before.before.before.match.keys11) c.before.before.byte10.ensures c.before.byte11.ensures c.two2.ensures)
-    (λ c. other-fills c.before.before.before.before.args.s.now c.before.before.u16-at.ensures c.before.match.rest.0.0.0.0.0.0.0.0.0.0.1 c.before.match.rest.0.0.0.0.0.0.0.0.0.1 c.before.match.rest.0.0.0.0.0.0.0.0.1 c.before.match.rest.0.0.0.0.0.0.0.1 c.before.match.rest.0.0.0.0.0.0.1 c.before.match.rest.0.0.0.0.0.1 c.before.match.rest.0.0.0.0.1 c.before.match.rest.0.0.0.1 c.before.match.rest.0.0.1 c.before.match.rest.0.1 c.before.match.rest.1))
+    (λ c. uni-fills c.args.s.now (sym c.u16_at.ensures ∙ c.in-1.is) c.byte.ensures c.one.ensures)
+    (λ c. bi-fills c.args.s.now (sym c.u16_at.ensures ∙ c.in-2.is) c.byte-in-2.ensures c.one-in-2.ensures)
+    (λ c. mov-fills c.args.s.now (sym c.u16_at.ensures ∙ c.in-3.is) c.byte-in-3.ensures c.one-in-3.ensures)
+    (λ c. load-fills c.args.s.now (sym c.u16_at.ensures ∙ c.in-4.is) c.byte-in-4.ensures c.one-in-4.ensures)
+    (λ c. save-fills c.args.s.now (sym c.u16_at.ensures ∙ c.in-5.is) c.save_fills.ensures)
+    (λ c. load-const-fills c.args.s.now (sym c.u16_at.ensures ∙ c.in-6.is) c.byte-in-6.ensures c.one-in-6.ensures)
+    (λ c. fused-fills c.args.s.now (sym c.u16_at.ensures ∙ c.in-7.is) c.byte-in-7.ensures c.one-in-7.ensures)
+    (λ c. if-else-fills c.args.s.now (sym c.u16_at.ensures ∙ c.in-8.is) c.byte-in-8.ensures c.one-in-8.ensures)
+    (λ c. load-complex-fills c.args.s.now (sym c.u16_at.ensures ∙ c.in-11.is) c.byte-in-11.ensures c.byte-in-11-2.ensures c.two.ensures)
+    (λ c. save-complex-fills c.args.s.now (sym c.u16_at.ensures ∙ c.in-12.is) c.save_complex_fills.ensures)
+    (λ c. complex-bi-fills c.args.s.now (sym c.u16_at.ensures ∙ c.in-13.is) c.byte-in-13.ensures c.byte-in-13-2.ensures c.two-in-13.ensures)
+    (λ c. other-fills c.args.s.now c.u16_at.ensures c.in_default.in_default-own.rest.0.0.0.0.0.0.0.0.0.0.1 c.in_default.in_default-own.rest.0.0.0.0.0.0.0.0.0.1 c.in_default.in_default-own.rest.0.0.0.0.0.0.0.0.1 c.in_default.in_default-own.rest.0.0.0.0.0.0.0.1 c.in_default.in_default-own.rest.0.0.0.0.0.0.1 c.in_default.in_default-own.rest.0.0.0.0.0.1 c.in_default.in_default-own.rest.0.0.0.0.1 c.in_default.in_default-own.rest.0.0.0.1 c.in_default.in_default-own.rest.0.0.1 c.in_default.in_default-own.rest.0.1 c.in_default.in_default-own.rest.1))

@@ -6,8 +6,8 @@ use Rattle.look.proofs.Fills.{save-complex-at, save-complex-bad}
 use Rattle.look.proofs.show.save_complex_fills.Statement.{statement}
 use Rattle.look.proofs.show.save_complex_fills.Tie as tie
 
-pub save-complex-fills-spec : {M : Type 1} → statement M
-save-complex-fills-spec =
+pub save_complex_fills_spec : {M : Type 1} → statement M
+save_complex_fills_spec =
     tie.close
     (tie.spec
     (λ c κs. search rules)
@@ -17,5 +17,5 @@ save-complex-fills-spec =
     (λ c κs. search rules)
     (λ c. search rules)
     (λ c κs. search rules)
-    (λ c. save-complex-at c.before.before.before.before.before.before.before.args.s.now (ap as_place (sym c.before.before.before.loc.given.1) ∙ c.before.before.before.before.before.read-place.ensures) c.before.place.ensures c.two.ensures)
-    (λ c. save-complex-bad c.before.before.before.before.before.args.s.now (ap as_place (sym c.before.enum_told.given.1) ∙ c.before.before.before.read-place.ensures)))
+    (λ c. save-complex-at c.args.s.now (ap as_place (sym c.in-At.is) ∙ c.read_place.ensures) c.place-i.ensures c.two.ensures)
+    (λ c. save-complex-bad c.args.s.now (ap as_place (sym c.in-Bad.is) ∙ c.read_place.ensures)))

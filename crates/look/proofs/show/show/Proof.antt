@@ -6,13 +6,13 @@ use Rattle.look.proofs.Words.{copied, shows-none, shows-one, shows-two}
 use Rattle.look.proofs.show.show.Statement.{statement}
 use Rattle.look.proofs.show.show.Tie as tie
 
-pub show-spec : {M : Type 1} → statement M
-show-spec =
+pub show_spec : {M : Type 1} → statement M
+show_spec =
     tie.close
     (tie.spec
     (λ c. search rules) (λ c κs. search rules) (λ c. search rules) (λ c κs. search rules) (λ c κs. search rules)
-    (λ c. let a = c.before.before.before.before.before.before.before.before.before.before.before.args in let k = copied a.constants.now a.s.now _ (c.before.before.before.before.before.before.before.before.before.before.before.requires ∙ search rules) c.before.before.before.before.before.before.put-words.ensures c.before.before.before.exec.ensures in shows-none k (not-true _ c.before.if1.true) c.nothing.ensures)
+    (λ c. let a = c.args in let k = copied a.constants.now a.s.now _ (c.requires ∙ search rules) c.put_words.ensures c.exec-worked.ensures in shows-none k (not-true _ c.if-not-worked.true) c.nothing.ensures)
     (λ c κs. search rules) (λ c. search rules) (λ c κs. search rules)
-    (λ c. let a = c.before.before.before.before.before.before.before.before.before.before.before.before.before.before.before.args in let k = copied a.constants.now a.s.now _ (c.before.before.before.before.before.before.before.before.before.before.before.before.before.before.before.requires ∙ search rules) c.before.before.before.before.before.before.before.before.before.before.put-words.ensures c.before.before.before.before.before.before.before.exec.ensures in shows-one k c.before.before.before.before.before.before.before.before.before.before.before.before.before.before.before.requires (λ i. (c.before.before.before.before.before.before.before.before.before.before.before.before.before.before.shared-slice-known.given i).fits) (not-false _ c.before.before.before.before.before.if1.false) c.before.before.before.before.fills.ensures c.if2.true c.before.before.get.ensures)
+    (λ c. let a = c.args in let k = copied a.constants.now a.s.now _ (c.requires ∙ search rules) c.put_words.ensures c.exec-worked.ensures in shows-one k c.requires (λ i. (c.shared_slice_known-1.given i).fits) (not-false _ c.if-not-worked.false) c.fills-f.ensures c.if-f.true c.get-bits.ensures)
     (λ c. search rules) (λ c κs. search rules)
-    (λ c. let a = c.before.before.before.before.before.before.before.before.before.before.before.before.before.before.before.before.before.args in let k = copied a.constants.now a.s.now _ (c.before.before.before.before.before.before.before.before.before.before.before.before.before.before.before.before.before.requires ∙ search rules) c.before.before.before.before.before.before.before.before.before.before.before.before.put-words.ensures c.before.before.before.before.before.before.before.before.before.exec.ensures in shows-two k c.before.before.before.before.before.before.before.before.before.before.before.before.before.before.before.before.before.requires (λ i. (c.before.before.before.before.before.before.before.before.before.before.before.before.before.before.before.before.shared-slice-known.given i).fits) (not-false _ c.before.before.before.before.before.before.before.if1.false) c.before.before.before.before.before.before.fills.ensures c.before.before.if2.false c.get2.ensures c.before.before.before.before.get.ensures))
+    (λ c. let a = c.args in let k = copied a.constants.now a.s.now _ (c.requires ∙ search rules) c.put_words.ensures c.exec-worked.ensures in shows-two k c.requires (λ i. (c.shared_slice_known-1.given i).fits) (not-false _ c.if-not-worked.false) c.fills-f.ensures c.if-f.false c.get.ensures c.get-bits.ensures))

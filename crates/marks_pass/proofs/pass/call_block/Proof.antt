@@ -4,14 +4,14 @@ use Rattle.marks_pass.proofs.Directing as S
 use Rattle.marks_pass.proofs.pass.call_block.Statement.{statement}
 use Rattle.marks_pass.proofs.pass.call_block.Tie as tie
 
-returns : tie.Need-returns
-returns c = S.called-known _ _ c.before.before.before.before.before.before.before.before.before.if1.true c.before.before.before.before.call.ensures
+returns : tie.Need-returns-then-known
+returns c = S.called-known _ _ c.if-known.true c.call.ensures
 
-returns-2 : tie.Need-returns-2
-returns-2 c = S.called-new _ _ c.before.before.before.before.before.before.before.before.before.before.before.before.before.before.before.before.if1.false c.before.before.before.before.before.before.before.before.before.before.before.before.before.block-marks.ensures c.before.before.before.before.call2.ensures
+returns-2 : tie.Need-returns
+returns-2 c = S.called-new _ _ c.if-known.false c.block_marks.ensures c.call-2.ensures
 
-pub call-block-spec : {M : Type 1} → statement M
-call-block-spec =
+pub call_block_spec : {M : Type 1} → statement M
+call_block_spec =
     tie.close
     (tie.spec
     (λ c κs. search rules) (λ c. search rules) (λ c. search rules) (λ c. search rules) (λ c. search rules) returns

@@ -4,17 +4,17 @@ use Rattle.marks_pass.proofs.Directing as S
 use Rattle.marks_pass.proofs.pass.direct.Statement.{statement}
 use Rattle.marks_pass.proofs.pass.direct.Tie as tie
 
-returns : tie.Need-returns
-returns c = S.directed-call _ _ _ _ c.before.before.before.before.before.before.before.before.before.before.before.before.before.before.u16-at.ensures c.before.before.before.before.before.before.before.before.before.before.before.before.before.if1.true c.before.before.before.before.before.before.before.before.call-block.ensures
+returns : tie.Need-returns-then-u16_at-eq16
+returns c = S.directed-call _ _ _ _ c.u16_at.ensures c.if-u16_at-eq16.true c.call_block.ensures
 
-returns-2 : tie.Need-returns-2
-returns-2 c = S.directed-jump _ _ _ _ c.before.before.before.before.before.before.before.before.before.before.before.before.u16-at.ensures c.before.before.before.before.before.before.before.before.before.before.before.if1.false c.if2.true c.before.before.before.before.before.before.before.jump.ensures
+returns-2 : tie.Need-returns-then-jump
+returns-2 c = S.directed-jump _ _ _ _ c.u16_at.ensures c.if-u16_at-eq16.false c.if-jump.true c.jump.ensures
 
-returns-3 : tie.Need-returns-3
-returns-3 c = S.directed-none _ _ _ _ c.before.before.before.before.before.before.before.before.before.before.before.before.u16-at.ensures c.before.before.before.before.before.before.before.before.before.before.before.if1.false c.if2.false c.before.before.before.before.before.before.before.jump.ensures
+returns-3 : tie.Need-returns
+returns-3 c = S.directed-none _ _ _ _ c.u16_at.ensures c.if-u16_at-eq16.false c.if-jump.false c.jump.ensures
 
-pub direct-spec : {M : Type 1} → statement M
-direct-spec =
+pub direct_spec : {M : Type 1} → statement M
+direct_spec =
     tie.close
     (tie.spec
     (λ c κs. search rules) (λ c κs. search rules) (λ c. search rules) (λ c. search rules) (λ c. search rules)

@@ -9,14 +9,14 @@ use Rattle.marks_pass.proofs.Arrays as A
 use Rattle.marks_pass.proofs.steps.branch.Statement.{statement}
 use Rattle.marks_pass.proofs.steps.branch.Tie as tie
 
-returns : tie.Need-returns
-returns c = record { noted = c.before.before.before.before.before.before.before.note.ensures; filled = λ i h. A.made-66 _ _ c.before.before.fill-all.ensures i h ∙ sym (ap (λ (q : Bool). cond q true (get_or c.before.before.before.before.before.before.before.before.before.before.before.before.args.filled.now i false)) (lt-ltb c.before.before.before.before.before.before.before.before.before.before.before.before.args.l 3 c.before.before.before.before.if1.true)) }
+returns : tie.Need-returns-then-l-lt3
+returns c = record { noted = c.note-known.ensures; filled = λ i h. A.made-66 _ _ c.fill_all.ensures i h ∙ sym (ap (λ (q : Bool). cond q true (get_or c.args.filled.now i false)) (lt-ltb c.args.l 3 c.if-l-lt3.true)) }
 
-returns-2 : tie.Need-returns-2
-returns-2 c = record { noted = c.before.before.before.note.ensures; filled = λ i h. sym (ap (λ (q : Bool). cond q true (get_or c.before.before.before.before.before.before.before.before.args.filled.now i false)) (le-ltb c.before.before.before.before.before.before.before.before.args.l 3 (omega arith))) }
+returns-2 : tie.Need-returns
+returns-2 c = record { noted = c.note-known.ensures; filled = λ i h. sym (ap (λ (q : Bool). cond q true (get_or c.args.filled.now i false)) (le-ltb c.args.l 3 (omega arith))) }
 
-pub branch-spec : {M : Type 1} → statement M
-branch-spec =
+pub branch_spec : {M : Type 1} → statement M
+branch_spec =
     tie.close
     (tie.spec
     (λ c κs. search rules) (λ c κs. search rules) (λ c. search rules) (λ c. search rules) returns (λ c. search rules)

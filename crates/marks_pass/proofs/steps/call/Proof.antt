@@ -12,19 +12,19 @@ use Rattle.marks_pass.proofs.Arrays as A
 use Rattle.marks_pass.proofs.steps.call.Statement.{statement}
 use Rattle.marks_pass.proofs.steps.call.Tie as tie
 
-abbrev invariant-loop : tie.invariant-loop
-invariant-loop filled₀ drawn₀ fills draws i₀ filled drawn i = (i ≤ 66) × (length filled ≡ length filled₀) × (length drawn ≡ length drawn₀) × Made 0 i (join (held filled₀) (held fills)) filled₀ filled × Made 0 i (join (held drawn₀) (without (held draws) (held filled₀))) drawn₀ drawn
+abbrev invariant-loop-i : tie.invariant-loop-i
+invariant-loop-i filled₀ drawn₀ fills draws i₀ filled drawn i = (i ≤ 66) × (length filled ≡ length filled₀) × (length drawn ≡ length drawn₀) × Made 0 i (join (held filled₀) (held fills)) filled₀ filled × Made 0 i (join (held drawn₀) (without (held draws) (held filled₀))) drawn₀ drawn
 
-abbrev decreases-loop : tie.decreases-loop
-decreases-loop filled₀ drawn₀ fills draws i₀ filled drawn i = 66 - i
+abbrev decreases-loop-i : tie.decreases-loop-i
+decreases-loop-i filled₀ drawn₀ fills draws i₀ filled drawn i = 66 - i
 
-loop-holds : tie.Need-loop-init invariant-loop decreases-loop
+loop-holds : tie.Need-loop-i-init invariant-loop-i decreases-loop-i
 loop-holds c = (omega arith, refl, refl, A.made_none 0 _ c.args.filled.now, A.made_none 0 _ c.args.drawn.now)
 
-loop-again : tie.Need-loop-preserved invariant-loop decreases-loop
+loop-again : tie.Need-loop-i-preserved invariant-loop-i decreases-loop-i
 loop-again c =
-    let a = c.before.before.before.before.before.before.before.args in
-    let l = c.before.before.before.before.before.before.loop in
+    let a = c.args in
+    let l = c.loop-i in
     let n = A.made-next-0 _ _ l.i l.invariant.3 in (
       omega arith,
       simp length-set l.invariant.1,
@@ -33,19 +33,19 @@ loop-again c =
       A.made-on-0 _ _ l.i _ l.invariant.4 (search rules) (ap₂ (λ (x y : Bool). x || (get_or a.draws.now l.i false && not y)) (A.made-next-0 _ _ l.i l.invariant.4) n),
     )
 
-returns : tie.Need-returns invariant-loop decreases-loop
+returns : tie.Need-returns invariant-loop-i decreases-loop-i
 returns c =
-    let l = c.before.loop in
+    let l = c.loop-i in
     let z : l.i ≡ 66 = omega arith in
     record {
       filled = A.made_all l.i z l.invariant.3;
       drawn = A.made_all l.i z l.invariant.4;
     }
 
-pub call-spec : {M : Type 1} → statement M
-call-spec =
+pub call_spec : {M : Type 1} → statement M
+call_spec =
     tie.close
-    (tie.spec invariant-loop decreases-loop
+    (tie.spec invariant-loop-i decreases-loop-i
     loop-holds (λ c. search rules) (λ c. search rules) (λ c. search rules) (λ c. search rules) (λ c. search rules)
     (λ c. search rules) (λ c. search rules) (λ c. search rules) (λ c. search rules) loop-again (λ c. search rules)
     (λ c. search rules) returns)

@@ -9,14 +9,14 @@ use Rattle.marks_pass.proofs.Arrays as A
 use Rattle.marks_pass.proofs.steps.enter.Statement.{statement}
 use Rattle.marks_pass.proofs.steps.enter.Tie as tie
 
-enter-at-requires : tie.Need-enter-at-requires
-enter-at-requires c κs = (leb-true _ _ (sym c.before.before.has.ensures ∙ c.before.if1.true), c.before.before.before.before.before.requires)
+enter-at-requires : tie.Need-enter_at-requires
+enter-at-requires c κs = (leb-true _ _ (sym c.has.ensures ∙ c.if-has.true), c.requires)
 
-returns : tie.Need-returns
-returns c = record { has = sym c.before.before.before.before.if1.true ∙ c.before.before.before.before.before.has.ensures; made = λ _. c.before.before.enter-at.ensures }
+returns : tie.Need-returns-then-has
+returns c = record { has = sym c.if-has.true ∙ c.has.ensures; made = λ _. c.enter_at.ensures }
 
-returns-2 : tie.Need-returns-2
-returns-2 c = record { has = sym c.if1.false ∙ c.before.has.ensures; made = λ e. A.clash e }
+returns-2 : tie.Need-returns
+returns-2 c = record { has = sym c.if-has.false ∙ c.has.ensures; made = λ e. A.clash e }
 
 pub enter_spec : {M : Type 1} → statement M
 enter_spec =

@@ -12,32 +12,32 @@ use Rattle.marks_pass.proofs.Arrays as A
 use Rattle.marks_pass.proofs.steps.enter_at.Statement.{statement}
 use Rattle.marks_pass.proofs.steps.enter_at.Tie as tie
 
-abbrev invariant-loop : tie.invariant-loop
-invariant-loop filled₀ ways from i₀ filled i = (i ≤ 66) × (length filled ≡ length filled₀) × Made 0 i (λ k. get_or filled₀ k false && get_or ways (from + k) false) filled₀ filled
+abbrev invariant-loop-i : tie.invariant-loop-i
+invariant-loop-i filled₀ ways from i₀ filled i = (i ≤ 66) × (length filled ≡ length filled₀) × Made 0 i (λ k. get_or filled₀ k false && get_or ways (from + k) false) filled₀ filled
 
-abbrev decreases-loop : tie.decreases-loop
-decreases-loop filled₀ ways from i₀ filled i = 66 - i
+abbrev decreases-loop-i : tie.decreases-loop-i
+decreases-loop-i filled₀ ways from i₀ filled i = 66 - i
 
-loop-holds : tie.Need-loop-init invariant-loop decreases-loop
+loop-holds : tie.Need-loop-i-init invariant-loop-i decreases-loop-i
 loop-holds c = (omega arith, refl, A.made_none 0 _ c.args.filled.now)
 
-loop-again : tie.Need-loop-preserved invariant-loop decreases-loop
+loop-again : tie.Need-loop-i-preserved invariant-loop-i decreases-loop-i
 loop-again c =
-    let a = c.before.before.before.before.args in
-    let l = c.before.before.before.loop in (
+    let a = c.args in
+    let l = c.loop-i in (
       omega arith,
       simp length-set l.invariant.1,
       A.made-on-0 _ _ l.i _ l.invariant.2 (search rules) (ap (λ (x : Bool). x && get_or a.ways.now (a.from + l.i) false) (A.made-next-0 _ _ l.i l.invariant.2)),
     )
 
-returns : tie.Need-returns invariant-loop decreases-loop
+returns : tie.Need-returns invariant-loop-i decreases-loop-i
 returns c =
-    let l = c.before.loop in
+    let l = c.loop-i in
     A.made_all l.i (omega arith) l.invariant.2
 
-pub enter-at-spec : {M : Type 1} → statement M
-enter-at-spec =
+pub enter_at_spec : {M : Type 1} → statement M
+enter_at_spec =
     tie.close
-    (tie.spec invariant-loop decreases-loop
+    (tie.spec invariant-loop-i decreases-loop-i
     loop-holds (λ c. search rules) (λ c. search rules) (λ c. search rules) (λ c. search rules) (λ c. search rules)
     (λ c. search rules) loop-again (λ c. search rules) returns)

@@ -6,13 +6,13 @@ use Rattle.marks_pass.proofs.work.mark.Statement.{statement}
 use Rattle.marks_pass.proofs.work.mark.Tie as tie
 
 fill-requires-2 : tie.Need-fill-requires-2
-fill-requires-2 c κs = c.before.before.before.before.fill.auto.0 ∙ c.before.before.before.before.before.before.before.before.before.before.before.before.before.before.before.before.before.before.before.before.before.before.before.before.before.before.before.before.before.before.before.before.before.before.requires.1.0
+fill-requires-2 c κs = c.fill.auto.filled ∙ c.requires.1.0
 
 returns : tie.Need-returns
 returns c =
     record {
-      drawn = A.drawn-more _ _ c.before.before.before.before.before.before.before.before.before.before.before.before.before.before.before.before.before.before.before.before.before.before.before.before.before.before.before.before.before.before.draw.ensures (A.drawn-more _ _ c.before.before.before.before.before.before.before.before.before.before.before.before.before.before.before.before.before.before.before.before.before.before.before.before.draw2.ensures (A.drawn-more _ _ c.before.before.before.before.before.before.before.before.before.before.before.before.before.before.before.before.before.before.draw3.ensures c.before.before.before.before.before.before.before.before.before.before.before.before.draw4.ensures));
-      filled = A.filled_more _ c.before.before.before.before.before.before.before.fill.ensures c.before.before.fill2.ensures;
+      drawn = A.drawn-more _ _ c.draw.ensures (A.drawn-more _ _ c.draw-2.ensures (A.drawn-more _ _ c.draw-3.ensures c.draw-4.ensures));
+      filled = A.filled_more _ c.fill.ensures c.fill-2.ensures;
     }
 
 pub mark_spec : {M : Type 1} → statement M

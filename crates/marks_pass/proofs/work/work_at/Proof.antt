@@ -4,19 +4,19 @@ use Rattle.marks_pass.proofs.work.work_at.Statement.{statement}
 use Rattle.marks_pass.proofs.work.work_at.Tie as tie
 
 work-requires : tie.Need-work-requires
-work-requires c κs = (c.before.before.before.before.before.before.before.requires.0, (c.before.before.if1.true, c.before.before.before.before.before.before.before.requires.1))
+work-requires c κs = (c.requires.0, (c.if-s-ge11.true, c.requires.1))
 
-returns : tie.Need-returns
-returns c = c.before.before.before.before.work.ensures
+returns : tie.Need-returns-then-s-ge11
+returns c = c.work.ensures
 
-work-last-requires : tie.Need-work-last-requires
-work-last-requires c κs = c.before.before.before.before.before.before.before.requires
+work-last-requires : tie.Need-work_last-requires
+work-last-requires c κs = c.requires
 
-returns-2 : tie.Need-returns-2
-returns-2 c = c.before.before.before.before.work-last.ensures
+returns-2 : tie.Need-returns
+returns-2 c = c.work_last.ensures
 
-pub work-at-spec : {M : Type 1} → statement M
-work-at-spec =
+pub work_at_spec : {M : Type 1} → statement M
+work_at_spec =
     tie.close
     (tie.spec
     work-requires (λ c. search rules) (λ c. search rules) returns work-last-requires (λ c. search rules)
