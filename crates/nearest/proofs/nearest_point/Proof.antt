@@ -5,17 +5,17 @@ use Rattle.nearest.proofs.Points.{odd, long, taken}
 use Rattle.nearest.proofs.nearest_point.Statement.{statement}
 use Rattle.nearest.proofs.nearest_point.Tie as tie
 
-pub nearest-point-spec : {M : Type 1} → statement M
-nearest-point-spec =
+pub nearest_point_spec : {M : Type 1} → statement M
+nearest_point_spec =
     tie.close
     (tie.spec
     (λ c.
-    let a = c.before.before.args in
-    odd a.re a.im a.points.now c.if1.true)
+    let a = c.args in
+    odd a.re a.im a.points.now c.if-points-ne0.true)
     (λ c.
-    let a = c.before.before.before.args in
-    long a.re a.im a.points.now c.if2.true)
+    let a = c.args in
+    long a.re a.im a.points.now c.if-points-gt1024.true)
     (λ c κs. search rules)
     (λ c.
-    let a = c.before.before.before.before.args in
-    c.search.ensures ∙ taken a.re a.im a.points.now c.before.before.if1.false c.before.if2.false))
+    let a = c.args in
+    c.search.ensures ∙ taken a.re a.im a.points.now c.if-points-ne0.false c.if-points-gt1024.false))
