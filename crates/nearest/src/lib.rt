@@ -1,4 +1,6 @@
 // The nearest of a row of reference points, of equal ones the latest. Distances are computed in f64, five operations, each rounded once.
+#![tactic(auto)]
+
 ghost use Rattle.std.specs.Prelude.{◌≡◌, ◌||◌};
 ghost use Rattle.std.specs.Float.Ieee.{le, ne};
 ghost use Rattle.float.specs.Word.{value};

@@ -1,4 +1,6 @@
 // The running peak of document 02, e): for each position of a run of words, the largest in the last w.
+#![tactic(auto)]
+
 ghost use Rattle.std.specs.Prelude.{◌≡◌, ◌<◌, ◌≤◌, length};
 ghost use Rattle.peak.specs.Blocks.{Tails};
 ghost use Rattle.peak.specs.Peak as Peak;

@@ -3,7 +3,7 @@ use Prim.Native.Nat.{◌+◌, ◌*◌, ◌-◌, ◌≤◌}
 use mathlib.Core.Path.{◌≡◌, refl, sym, ap, ◌∙◌, subst}
 use mathlib.Core.Bool.{cond}
 use mathlib.Core.Option.{none, some}
-use mathlib.Core.Logic.{inl, inr, ⊎_elim}
+use mathlib.Core.Logic.{inl, inr}
 use native.Mathlib.Omega.{arith}
 use lib.ListN.{get_or, drop}
 use lib.Dec.{T}
@@ -16,6 +16,7 @@ use Rattle.nearest.specs.Apart.{apart}
 use Rattle.nearest.proofs.Distances.{looked-at, held, joined, nan_differs, number_same}
 use Rattle.nearest.proofs.Points.{next, ended}
 use Rattle.nearest.proofs.search.Statement.{statement}
+use Rattle.nearest.proofs.search.Lts.{then-wins, else-wins}
 use Rattle.nearest.proofs.search.Tie as tie
 
 abbrev invariant-loop-i : tie.invariant-loop-i
@@ -46,7 +47,7 @@ search_spec =
     let rest = candidates a.re a.im (l.i + 1) (drop (2 * (l.i + 1)) a.points.now) in
     let j = joined l.index l.i l.least far l.invariant.1 (subst (λ (v : Float). T (fits binary64 v)) (sym same) (add-fits binary64 _ _))
     c.if-wins.index c.if-wins.least c.wins.result c.wins.ensures
-    (⊎_elim (λ t. inl (t.0.taken, t.1, t.2)) (λ t. inr (t.0.left, t.1, t.2)) c.if-wins.branch) in (
+    (elim c.if-wins.branch [ then-wins w ↦ inl (w.if-wins.true, w.index-is, w.least-is) | else-wins w ↦ inr (w.if-wins.false, w.index-is, w.least-is) ]) in (
       search rules,
       j.0,
       ap (λ b. fold not_farther b rest)

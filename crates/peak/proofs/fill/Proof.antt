@@ -50,10 +50,10 @@ fill_spec =
       search rules,
       search rules,
       search rules,
-      c.tails.auto.1.1.1.0 ∙ l.invariant.3,
+      c.tails.auto.tail ∙ l.invariant.3,
       simp length-set l.invariant.4,
       largest_none (l.i + 1) run ∙ ap (λ x. largest (slice x (l.i + 1) run)) e,
-      subst (λ x. Tails run a.w x c.tails.new.1.1.1.0) e c.tails.ensures,
+      subst (λ x. Tails run a.w x c.tails.new.tail) e c.tails.ensures,
       out,
     ))
     (λ c. search rules)
