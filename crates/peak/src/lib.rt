@@ -56,6 +56,7 @@ fn fill(run: &[u64], w: usize, out: &mut [u64])
 }
 
 // The peaks of a run. Returns 0, or 12 with nothing written.
+#[tactic(auto, unfolding(crate::specs::Peak::refused, crate::specs::Peak::number, crate::specs::Peak::after))]
 pub fn peak(run: &[u64], w: usize, out: &mut [u64]) -> u32
     ensures { (result ≡ Peak.number run.now w out.old) × (out.new ≡ Peak.after run.now w out.old) }
 {
