@@ -1,4 +1,6 @@
 // The operations of `float` as C functions, for a caller in Rust or C. Each is promised by the equation of the operation it calls.
+#![tactic(auto)]
+
 ghost use Rattle.std.specs.Prelude.{◌≡◌};
 ghost use Rattle.float.specs.Word as Word;
 

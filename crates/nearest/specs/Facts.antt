@@ -1,5 +1,5 @@
 -- Short rows of points by computation. Assumes nothing.
-use Rattle.std.specs.Prelude.{◌≡◌, refl, List, [], ◌∷◌, ℕ, replicate}
+use Rattle.std.specs.Prelude.{◌≡◌, refl, [], ◌∷◌, ℕ, replicate}
 use Rattle.std.specs.Float.Ieee.{is_nan, le, of_bits, to_bits, add, sub, mul}
 use Rattle.nearest.specs.Nearest.{Values, nearest}
 

@@ -1,4 +1,6 @@
 // The nearest of a row of reference points, of equal ones the latest. Distances are computed in f64, five operations, each rounded once.
+#![tactic(auto)]
+
 ghost use Rattle.std.specs.Prelude.{◌≡◌, ◌||◌};
 ghost use Rattle.std.specs.Float.Ieee.{le, ne};
 ghost use Rattle.float.specs.Word.{value};
@@ -63,6 +65,7 @@ fn search(re: u64, im: u64, points: &[u64]) -> Nearest
 }
 
 // The index of the point nearest to the answer (re, im). A point is two words, real then imaginary.
+#[tactic(auto, unfolding(crate::specs::Nearest::nearest))]
 pub fn nearest_point(re: u64, im: u64, points: &[u64]) -> Nearest
     ensures { as_values result ≡ nearest re im points.now }
 {

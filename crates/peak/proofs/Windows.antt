@@ -16,6 +16,8 @@ slice_join : (f s t : ℕ) (l : List ℕ) → f ≤ s → s ≤ t → slice f s 
 slice_join zero s t l h k = ap (λ x. x ++ slice s t l) (sym (take-take s t l k)) ∙ take-append-drop s (take t l)
 slice_join (suc f) (suc s) (suc t) [] h k = refl
 slice_join (suc f) (suc s) (suc t) (x ∷ l) h k = slice_join f s t l (le_of_suc-le-suc h) (le_of_suc-le-suc k)
+slice_join (suc f) zero t l h k = elim h [ ]
+slice_join (suc f) (suc s) zero l h k = elim k [ ]
 
 -- the largest of two parts side by side
 largest_join : (f s t : ℕ) (l : List ℕ) → f ≤ s → s ≤ t → larger (largest (slice f s l)) (largest (slice s t l)) ≡ largest (slice f t l)

@@ -1,4 +1,6 @@
 // The running peak of document 02, e): for each position of a run of words, the largest in the last w.
+#![tactic(auto)]
+
 ghost use Rattle.std.specs.Prelude.{◌≡◌, ◌<◌, ◌≤◌, length};
 ghost use Rattle.peak.specs.Blocks.{Tails};
 ghost use Rattle.peak.specs.Peak as Peak;
@@ -54,6 +56,7 @@ fn fill(run: &[u64], w: usize, out: &mut [u64])
 }
 
 // The peaks of a run. Returns 0, or 12 with nothing written.
+#[tactic(auto, unfolding(crate::specs::Peak::refused, crate::specs::Peak::number, crate::specs::Peak::after))]
 pub fn peak(run: &[u64], w: usize, out: &mut [u64]) -> u32
     ensures { (result ≡ Peak.number run.now w out.old) × (out.new ≡ Peak.after run.now w out.old) }
 {

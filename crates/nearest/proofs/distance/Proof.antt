@@ -9,21 +9,21 @@ use Rattle.nearest.proofs.Distances.{across_nan, up_nan}
 use Rattle.nearest.proofs.distance.Statement.{statement}
 use Rattle.nearest.proofs.distance.Tie as tie
 
-pub distance-spec : {M : Type 1} → statement M
+pub distance_spec : {M : Type 1} → statement M
 unfolding div of_bits
-distance-spec =
+distance_spec =
     tie.close
     (tie.spec
     (λ c κs. search rules)
     (λ c.
-    let a = c.before.before.args in
+    let a = c.args in
     across_nan a.re a.im (value a.y)
-    ∙ ap (λ (v : Float). apart a.re a.im v (value a.y)) (sym (bits_nan a.x (sym c.before.is_nan.ensures ∙ c.if1.true))))
+    ∙ ap (λ (v : Float). apart a.re a.im v (value a.y)) (sym (bits_nan a.x (sym c.is_nan.ensures ∙ c.if-is_nan.true))))
     (λ c κs. search rules)
     (λ c.
-    let a = c.before.before.before.before.args in
+    let a = c.args in
     up_nan a.re a.im (value a.x)
-    ∙ ap (λ (v : Float). apart a.re a.im (value a.x) v) (sym (bits_nan a.y (sym c.before.is-nan2.ensures ∙ c.if2.true))))
-    (λ c. of_false _ (sym c.before.before.before.is_nan.ensures ∙ c.before.before.if1.false))
-    (λ c. of_false _ (sym c.before.is-nan2.ensures ∙ c.if2.false))
+    ∙ ap (λ (v : Float). apart a.re a.im (value a.x) v) (sym (bits_nan a.y (sym c.is_nan-2.ensures ∙ c.if-is_nan-2.true))))
+    (λ c. of_false _ (sym c.is_nan.ensures ∙ c.if-is_nan.false))
+    (λ c. of_false _ (sym c.is_nan-2.ensures ∙ c.if-is_nan-2.false))
     (λ c. search rules))

@@ -3,7 +3,7 @@ use Prim.Native.Nat.{◌+◌, ◌*◌, ◌-◌, ◌≤◌}
 use mathlib.Core.Path.{◌≡◌, refl, sym, ap, ◌∙◌, subst}
 use mathlib.Core.Bool.{cond}
 use mathlib.Core.Option.{none, some}
-use mathlib.Core.Logic.{inl, inr, ⊎_elim}
+use mathlib.Core.Logic.{inl, inr}
 use native.Mathlib.Omega.{arith}
 use lib.ListN.{get_or, drop}
 use lib.Dec.{T}
@@ -16,37 +16,38 @@ use Rattle.nearest.specs.Apart.{apart}
 use Rattle.nearest.proofs.Distances.{looked-at, held, joined, nan_differs, number_same}
 use Rattle.nearest.proofs.Points.{next, ended}
 use Rattle.nearest.proofs.search.Statement.{statement}
+use Rattle.nearest.proofs.search.Lts.{then-wins, else-wins}
 use Rattle.nearest.proofs.search.Tie as tie
 
-abbrev invariant-loop : tie.invariant-loop
-invariant-loop re im points x y count index₀ least₀ i₀ index least i =
+abbrev invariant-loop-i : tie.invariant-loop-i
+invariant-loop-i re im points x y count index₀ least₀ i₀ index least i =
     (i ≤ count) × T (fits binary64 least) × (fold not_farther (held index least) (candidates re im i (drop (2 * i) points)) ≡ best_of not_farther re im points)
 
-abbrev decreases-loop : tie.decreases-loop
-decreases-loop re im points x y count index₀ least₀ i₀ index least i = count - i
+abbrev decreases-loop-i : tie.decreases-loop-i
+decreases-loop-i re im points x y count index₀ least₀ i₀ index least i = count - i
 
-pub search-spec : {M : Type 1} → statement M
+pub search_spec : {M : Type 1} → statement M
 unfolding best_of fits of_bits div is_nan fold
-search-spec =
+search_spec =
     tie.close
     (tie.spec
-    invariant-loop
-    decreases-loop
+    invariant-loop-i
+    decreases-loop-i
     (λ c κs. search rules) (λ c κs. search rules)
     (λ c. (search rules, tt, refl))
     (λ c. search rules) (λ c. search rules) (λ c. search rules) (λ c. search rules) (λ c. search rules) (λ c. search rules)
     (λ c κs. search rules) (λ c κs. search rules) (λ c. search rules) (λ c. search rules)
     (λ c.
-    let a = c.before.before.before.before.before.before.before.before.before.before.args in
-    let l = c.before.before.before.before.before.before.loop in
-    let far = c.before.before.distance.result in
-    let x = c.before.before.before.before.before.before.before.before.read.ensures in
-    let y = c.before.before.before.before.before.before.before.read2.ensures in
-    let same = c.before.before.distance.ensures ∙ λ j. apart (x j) (y j) (value (get_or a.points.now (2 * l.i) 0)) (value (get_or a.points.now (2 * l.i + 1) 0)) in
+    let a = c.args in
+    let l = c.loop-i in
+    let far = c.distance-far.result in
+    let x = c.read-x.ensures in
+    let y = c.read-y.ensures in
+    let same = c.distance-far.ensures ∙ λ j. apart (x j) (y j) (value (get_or a.points.now (2 * l.i) 0)) (value (get_or a.points.now (2 * l.i + 1) 0)) in
     let rest = candidates a.re a.im (l.i + 1) (drop (2 * (l.i + 1)) a.points.now) in
     let j = joined l.index l.i l.least far l.invariant.1 (subst (λ (v : Float). T (fits binary64 v)) (sym same) (add-fits binary64 _ _))
-    c.if1.index c.if1.least c.before.wins.result c.before.wins.ensures
-    (⊎_elim (λ t. inl (t.0.taken, t.1, t.2)) (λ t. inr (t.0.left, t.1, t.2)) c.if1.branch) in (
+    c.if-wins.index c.if-wins.least c.wins.result c.wins.ensures
+    (elim c.if-wins.branch [ then-wins w ↦ inl (w.if-wins.true, w.index-is, w.least-is) | else-wins w ↦ inr (w.if-wins.false, w.index-is, w.least-is) ]) in (
       search rules,
       j.0,
       ap (λ b. fold not_farther b rest)
@@ -57,14 +58,14 @@ search-spec =
           ∙ l.invariant.2,
     ))
     (λ c.
-    let a = c.before.before.before.before.before.before.args in
-    let l = c.before.before.loop in
-    ap (λ n. told (cond n none (some (record { index = l.index; far = to_bits binary64 l.least })))) (sym (nan_differs l.least c.if2.true))
+    let a = c.args in
+    let l = c.loop-i in
+    ap (λ n. told (cond n none (some (record { index = l.index; far = to_bits binary64 l.least })))) (sym (nan_differs l.least c.if-least.true))
     ∙ ap told
     (sym (ap (fold not_farther (held l.index l.least)) (ended a.re a.im l.i a.points.now (omega arith))) ∙ l.invariant.2))
     (λ c.
-    let a = c.before.before.before.before.before.before.args in
-    let l = c.before.before.loop in
-    ap (λ n. told (cond n none (some (record { index = l.index; far = to_bits binary64 l.least })))) (sym (number_same l.least c.if2.false))
+    let a = c.args in
+    let l = c.loop-i in
+    ap (λ n. told (cond n none (some (record { index = l.index; far = to_bits binary64 l.least })))) (sym (number_same l.least c.if-least.false))
     ∙ ap told
     (sym (ap (fold not_farther (held l.index l.least)) (ended a.re a.im l.i a.points.now (omega arith))) ∙ l.invariant.2)))

@@ -5,9 +5,9 @@ use lib.Ieee.{ne}
 use Rattle.nearest.proofs.wins.Statement.{statement}
 use Rattle.nearest.proofs.wins.Tie as tie
 
-pub wins-spec : {M : Type 1} → statement M
-wins-spec =
+pub wins_spec : {M : Type 1} → statement M
+wins_spec =
     tie.close
     (tie.spec
-    (λ c. c.if1.true ∙ ap (λ b. b || ne c.before.args.least c.before.args.least) (sym c.if1.true))
-    (λ c. ap (λ b. b || ne c.before.args.least c.before.args.least) (sym c.if1.false)))
+    (λ c. c.if-far-least.true ∙ ap (λ b. b || ne c.args.least c.args.least) (sym c.if-far-least.true))
+    (λ c. ap (λ b. b || ne c.args.least c.args.least) (sym c.if-far-least.false)))

@@ -11,17 +11,17 @@ use borrow.Author.Rules.{rules}
 use Rattle.nearest_call.proofs.nearest_words.Statement.{statement}
 use Rattle.nearest_call.proofs.nearest_words.Tie as tie
 
-pub nearest-words-spec : {M : Type 1} → statement M
-nearest-words-spec =
+pub nearest_words_spec : {M : Type 1} → statement M
+nearest_words_spec =
     tie.close
     (tie.spec
     (λ c.
-    let a = c.before.before.args in
-    long a.re a.im (words_of a.points.now) (omega (arith, length-words_of a.points.now, c.if1.true)))
+    let a = c.args in
+    long a.re a.im (words_of a.points.now) (omega (arith, length-words_of a.points.now, c.if-n-gt1024.true)))
     (λ c. search rules) (λ c κs. search rules) (λ c. search rules)
     (λ c. sym (length-take-le _ _ (search rules)))
     (λ c κs. search rules)
     (λ c.
-    let a = c.before.before.before.before.before.before.before.args in
-    c.nearest-point.ensures
-    ∙ ap (nearest a.re a.im) (loaded _ a.points.now c.before.before.before.load.ensures (search rules))))
+    let a = c.args in
+    c.nearest_point.ensures
+    ∙ ap (nearest a.re a.im) (loaded _ a.points.now c.load.ensures (search rules))))

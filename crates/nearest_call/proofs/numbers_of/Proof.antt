@@ -6,11 +6,11 @@ use borrow.Author.Rules.{rules}
 use Rattle.nearest_call.proofs.numbers_of.Statement.{statement}
 use Rattle.nearest_call.proofs.numbers_of.Tie as tie
 
-pub numbers-of-spec : {M : Type 1} → statement M
-numbers-of-spec =
+pub numbers_of_spec : {M : Type 1} → statement M
+numbers_of_spec =
     tie.close
     (tie.spec
     (λ c. search rules) (λ c. search rules) (λ c. search rules)
-    (λ c. ap (λ f. numbers (as_values f)) (sym c.before.found.given.1))
-    (λ c. ap (λ f. numbers (as_values f)) (sym c.enum_told.given.1))
-    (λ c. ap (λ f. numbers (as_values f)) (sym c.enum-told2.given.1)))
+    (λ c. ap (λ f. numbers (as_values f)) (sym c.in-At.is))
+    (λ c. ap (λ f. numbers (as_values f)) (sym c.in-Nothing.is))
+    (λ c. ap (λ f. numbers (as_values f)) (sym c.in-Refused.is)))

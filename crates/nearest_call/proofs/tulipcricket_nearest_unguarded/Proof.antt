@@ -7,22 +7,22 @@ use borrow.Author.Rules.{rules}
 use Rattle.nearest_call.proofs.tulipcricket_nearest_unguarded.Statement.{statement}
 use Rattle.nearest_call.proofs.tulipcricket_nearest_unguarded.Tie as tie
 
-pub tulipcricket-nearest-unguarded-spec : {M : Type 1} → statement M
+pub tulipcricket_nearest_unguarded_spec : {M : Type 1} → statement M
 unfolding nearest_call
-tulipcricket-nearest-unguarded-spec =
+tulipcricket_nearest_unguarded_spec =
     tie.close
     (tie.spec
-    (λ c. simp (ne_eqb _ _ c.if1.true))
+    (λ c. simp (ne_eqb _ _ c.if-answer-ne24.true))
     (λ c. search rules) (λ c κs. search rules) (λ c. search rules)
     (λ c.
     let s = c.before.before.before.before.before.before.before.before.before in
     wrong-points s.args.re s.args.im s.args.points.now s.args.answer.now
-    c.before.before.before.before.before.before.if1.false c.before.before.before.before.before.if2.true
-    c.before.before.save.ensures)
+    c.if-answer-ne24.false c.if-points-ne0.true
+    c.save.ensures)
     (λ c κs. search rules) (λ c κs. search rules) (λ c. search rules) (λ c κs. search rules) (λ c κs. search rules) (λ c. search rules)
     (λ c.
     let s = c.before.before.before.before.before.before.before.before.before.before.before.before in
     given s.args.re s.args.im s.args.points.now s.args.answer.now
-    c.before.before.before.before.before.before.before.before.before.if1.false (as_values c.before.before.before.before.before.before.before.nearest-words.result)
-    c.before.before.before.before.before.before.before.before.if2.false c.before.before.before.before.before.before.before.nearest-words.ensures c.number_of_lem.ensures
-    c.before.before.before.before.before.before.Numbers-of.ensures c.before.before.before.save2.ensures))
+    c.if-answer-ne24.false (as_values c.nearest_words-found.result)
+    c.if-points-ne0.false c.nearest_words-found.ensures c.number_of_lem.ensures
+    c.Numbers-of.ensures c.save-2.ensures))

@@ -9,24 +9,24 @@ use Rattle.peak.proofs.Flags.{holds, fails, differs}
 use Rattle.peak.proofs.larger.Statement.{statement}
 use Rattle.peak.proofs.larger.Tie as tie
 
-pub larger-spec : {M : Type 1} → statement M
+pub larger_spec : {M : Type 1} → statement M
 unfolding larger
-larger-spec =
+larger_spec =
     tie.close
     (tie.spec
     (λ c κs. search rules)
     (λ c.
-    let a = c.before.before.args in
-    let n = sym (differs (value a.a)) ∙ holds (ne (value a.a) (value a.a)) c.before.not_equal.ensures c.if1.true in
+    let a = c.args in
+    let n = sym (differs (value a.a)) ∙ holds (ne (value a.a) (value a.a)) c.not_equal.ensures c.if-not_equal-ne0.true in
     sym (ap (λ t. cond (t || lt (value a.a) (value a.b)) a.b a.a) n))
     (λ c κs. search rules)
     (λ c.
-    let a = c.before.before.before.before.args in
-    let n = sym (differs (value a.a)) ∙ fails (ne (value a.a) (value a.a)) c.before.before.before.not_equal.ensures c.before.before.if1.false in
-    let l = holds (lt (value a.a) (value a.b)) c.before.little-than.ensures c.if2.true in
+    let a = c.args in
+    let n = sym (differs (value a.a)) ∙ fails (ne (value a.a) (value a.a)) c.not_equal.ensures c.if-not_equal-ne0.false in
+    let l = holds (lt (value a.a) (value a.b)) c.little_than.ensures c.if-little_than-ne0.true in
     sym (ap₂ (λ t u. cond (t || u) a.b a.a) n l))
     (λ c.
-    let a = c.before.before.before.before.args in
-    let n = sym (differs (value a.a)) ∙ fails (ne (value a.a) (value a.a)) c.before.before.before.not_equal.ensures c.before.before.if1.false in
-    let l = fails (lt (value a.a) (value a.b)) c.before.little-than.ensures c.if2.false in
+    let a = c.args in
+    let n = sym (differs (value a.a)) ∙ fails (ne (value a.a) (value a.a)) c.not_equal.ensures c.if-not_equal-ne0.false in
+    let l = fails (lt (value a.a) (value a.b)) c.little_than.ensures c.if-little_than-ne0.false in
     sym (ap₂ (λ t u. cond (t || u) a.b a.a) n l)))

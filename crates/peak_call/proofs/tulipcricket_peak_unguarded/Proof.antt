@@ -12,18 +12,18 @@ use borrow.Author.Rules.{rules}
 use Rattle.peak_call.proofs.tulipcricket_peak_unguarded.Statement.{statement}
 use Rattle.peak_call.proofs.tulipcricket_peak_unguarded.Tie as tie
 
-pub tulipcricket-peak-unguarded-spec : {M : Type 1} → statement M
+pub tulipcricket_peak_unguarded_spec : {M : Type 1} → statement M
 unfolding peak_call
-tulipcricket-peak-unguarded-spec =
+tulipcricket_peak_unguarded_spec =
     tie.close
     (tie.spec
-    (λ c. simp (ne_eqb _ _ c.if1.true))
-    (λ c. simp (eq-eqb _ _ c.before.if1.false, ne_eqb _ _ c.if2.true))
+    (λ c. simp (ne_eqb _ _ c.if-run-ne0.true))
+    (λ c. simp (eq-eqb _ _ c.if-run-ne0.false, ne_eqb _ _ c.if-out-ne0.true))
     (λ c.
-    let a = c.before.before.before.before.before.args in
-    wrong-length a.run.now a.window a.out.now c.before.before.if1.false c.before.if2.false
-    (λ i _. (c.before.before.before.slice-known.given i).fits)
-    (⊎_elim (λ x. inl x.taken) (λ x. inr (ltb-true _ _ x.1.taken)) c.if3.branch))
+    let a = c.args in
+    wrong-length a.run.now a.window a.out.now c.if-run-ne0.false c.if-out-ne0.false
+    (λ i _. (c.slice_known-1.given i).fits)
+    (⊎_elim (λ x. inl x.taken) (λ x. inr (ltb-true _ _ x.1.taken)) c.then-run-gt32768.branch))
     (λ c. search rules) (λ c κs. search rules) (λ c. search rules)
     (λ c. sym (length-take-le _ _ (search rules)))
     (λ c. search rules) (λ c κs. search rules) (λ c. search rules)
@@ -31,18 +31,18 @@ tulipcricket-peak-unguarded-spec =
     (λ c κs. search rules) (λ c. search rules)
     (λ c.
     let t = c.before.before.before.before.before.before.before.before.before.before.before.before.before in
-    let a = t.before.before.before.before.before.before.args in
-    let p = c.before.before.before.before.before.before.before.peak in
-    let w = loaded a.run.now (replicate 4096 0) c.before.before.before.before.before.before.before.before.before.before.before.load.ensures (omega arith) in
-    given-words a.run.now a.window a.out.now t.before.before.before.if1.false t.before.before.if2.false
-    (λ i _. (t.before.before.before.before.slice-known.given i).fits) t.before.if3.false (ltb-false _ _ t.if4.false) (replicate 4096 0) refl
-    (p.ensures.0 ∙ ap (λ x. number x a.window (replicate 4096 0)) w) c.before.before.before.before.before.if5.true
-    (p.ensures.1 ∙ ap (λ x. after x a.window (replicate 4096 0)) w) c.before.before.save.ensures)
+    let a = t.args in
+    let p = c.peak-number in
+    let w = loaded a.run.now (replicate 4096 0) c.load.ensures (omega arith) in
+    given-words a.run.now a.window a.out.now t.if-run-ne0.false t.if-out-ne0.false
+    (λ i _. (t.slice_known-1.given i).fits) t.if-run-gt32768.false (ltb-false _ _ t.if-out-run.false) (replicate 4096 0) refl
+    (p.ensures.0 ∙ ap (λ x. number x a.window (replicate 4096 0)) w) c.if-number-eq0.true
+    (p.ensures.1 ∙ ap (λ x. after x a.window (replicate 4096 0)) w) c.save.ensures)
     (λ c.
     let t = c.before.before.before.before.before.before.before.before in
-    let a = t.before.before.before.before.before.before.args in
-    let p = c.before.before.peak in
-    let w = loaded a.run.now (replicate 4096 0) c.before.before.before.before.before.before.load.ensures (omega arith) in
-    refused-words a.run.now a.window a.out.now t.before.before.before.if1.false t.before.before.if2.false
-    (λ i _. (t.before.before.before.before.slice-known.given i).fits) t.before.if3.false (ltb-false _ _ t.if4.false) (replicate 4096 0) refl
-    (p.ensures.0 ∙ ap (λ x. number x a.window (replicate 4096 0)) w) c.if5.false))
+    let a = t.args in
+    let p = c.peak-number in
+    let w = loaded a.run.now (replicate 4096 0) c.load.ensures (omega arith) in
+    refused-words a.run.now a.window a.out.now t.if-run-ne0.false t.if-out-ne0.false
+    (λ i _. (t.slice_known-1.given i).fits) t.if-run-gt32768.false (ltb-false _ _ t.if-out-run.false) (replicate 4096 0) refl
+    (p.ensures.0 ∙ ap (λ x. number x a.window (replicate 4096 0)) w) c.if-number-eq0.false))
