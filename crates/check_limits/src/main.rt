@@ -1,6 +1,7 @@
 // Lowers sheets at the limits of the rules, and the sheets of the misreadings that the rules name. Writes for each the answer, the
 // constants that lowering added, the registers recorded as real, the listing's registers filled and those drawn on before, and the listing;
 // for a misreading also registers after a play.
+#![tactic(auto)]
 
 mod print;
 mod sheets;
@@ -11,6 +12,7 @@ use sheets::{SheetBytes, header};
 
 // Lowers the first len of bytes, a sheet that has so many constants of its own.
 fn lowered(
+    rt: HostRuntime,
     name: &[u8],
     bytes: &[u8],
     len: usize,
@@ -21,22 +23,30 @@ fn lowered(
     let n = sheets::within(bytes.len(), len);
     let mut origins = [0u16; 256];
     let a = lower(&bytes[0..n], listing, constants, &mut origins);
-    print::answer(name, a);
-    print::constants(constants, own, a.count);
-    print::real(a.real);
+    print::answer(rt, name, a);
+    print::constants(rt, constants, own, a.count);
+    print::real(rt, a.real);
     let filled = a.filled;
-    print::marks(b"  filled", filled);
+    print::marks(rt, b"  filled", filled);
     let drawn = a.drawn;
-    print::marks(b"  drawn on", drawn);
-    print::listing(listing, a.written, a.count);
+    print::marks(rt, b"  drawn on", drawn);
+    print::listing(rt, listing, a.written, a.count);
     a
 }
 
-fn limit(name: &[u8], sheet: SheetBytes, own: usize) {
+fn limit(rt: HostRuntime, name: &[u8], sheet: SheetBytes, own: usize) {
     let bytes = sheet.bytes;
     let mut listing = [0u8; 1024];
     let mut constants = [0u64; 256];
-    lowered(name, &bytes, sheet.len, own, &mut listing, &mut constants);
+    lowered(
+        rt,
+        name,
+        &bytes,
+        sheet.len,
+        own,
+        &mut listing,
+        &mut constants,
+    );
 }
 
 // A store whose first ten registers hold these words, and all else zeros.
@@ -48,6 +58,7 @@ fn store_of(first: &[u64; 10]) -> [u64; 1602] {
 
 // Lowers the sheet, plays its listing, and shows the registers from one to another.
 fn misreading(
+    rt: HostRuntime,
     name: &[u8],
     sheet: SheetBytes,
     own: usize,
@@ -58,14 +69,25 @@ fn misreading(
     let bytes = sheet.bytes;
     let mut listing = [0u8; 1024];
     let mut constants = [0u64; 256];
-    let a = lowered(name, &bytes, sheet.len, own, &mut listing, &mut constants);
+    let a = lowered(
+        rt,
+        name,
+        &bytes,
+        sheet.len,
+        own,
+        &mut listing,
+        &mut constants,
+    );
     let mut store = store_of(first);
     let written = a.written;
     let count = a.count;
     if written <= 1024 {
         if count <= 256 {
-            print::played(play(&listing[0..written], &constants[0..count], &mut store, 0));
-            print::registers(&store, from, to);
+            print::played(
+                rt,
+                play(&listing[0..written], &constants[0..count], &mut store, 0),
+            );
+            print::registers(rt, &store, from, to);
         }
     }
 }
@@ -85,63 +107,94 @@ fn moved(mode: u8, constants: usize, instruction: &[u8]) -> SheetBytes {
         .records(instruction)
 }
 
-fn plain(name: &[u8], instruction: &[u8]) {
-    limit(name, moved(PLAIN, 0, instruction), 0);
+fn plain(rt: HostRuntime, name: &[u8], instruction: &[u8]) {
+    limit(rt, name, moved(PLAIN, 0, instruction), 0);
 }
 
-fn registers() {
-    plain(b"Mov to register 31", b"\x06\x00\x03\x00\x1f\x02");
-    plain(b"Mov to register 32", b"\x06\x00\x03\x00\x20\x02");
-    plain(b"Mov of register 31", b"\x06\x00\x03\x00\x02\x1f");
-    plain(b"Mov of register 32", b"\x06\x00\x03\x00\x02\x20");
+fn registers(rt: HostRuntime) {
+    plain(rt, b"Mov to register 31", b"\x06\x00\x03\x00\x1f\x02");
+    plain(rt, b"Mov to register 32", b"\x06\x00\x03\x00\x20\x02");
+    plain(rt, b"Mov of register 31", b"\x06\x00\x03\x00\x02\x1f");
+    plain(rt, b"Mov of register 32", b"\x06\x00\x03\x00\x02\x20");
 }
 
-fn places() {
-    plain(b"Load of Stack 255", b"\x08\x00\x04\x00\x02\x00\xff\x00");
-    plain(b"Load of Stack 256", b"\x08\x00\x04\x00\x02\x00\x00\x01");
-    plain(b"Load of Mem 255", b"\x08\x00\x04\x00\x02\x01\xff\x00");
-    plain(b"Load of Mem 256", b"\x08\x00\x04\x00\x02\x01\x00\x01");
-    plain(b"Load of Param 255", b"\x08\x00\x04\x00\x02\x02\xff\x00");
-    plain(b"Load of Param 256", b"\x08\x00\x04\x00\x02\x02\x00\x01");
-    plain(b"Save to Stack 255", b"\x08\x00\x05\x00\x02\x00\xff\x00");
-    plain(b"Save to Stack 256", b"\x08\x00\x05\x00\x02\x00\x00\x01");
+fn places(rt: HostRuntime) {
+    plain(
+        rt,
+        b"Load of Stack 255",
+        b"\x08\x00\x04\x00\x02\x00\xff\x00",
+    );
+    plain(
+        rt,
+        b"Load of Stack 256",
+        b"\x08\x00\x04\x00\x02\x00\x00\x01",
+    );
+    plain(rt, b"Load of Mem 255", b"\x08\x00\x04\x00\x02\x01\xff\x00");
+    plain(rt, b"Load of Mem 256", b"\x08\x00\x04\x00\x02\x01\x00\x01");
+    plain(
+        rt,
+        b"Load of Param 255",
+        b"\x08\x00\x04\x00\x02\x02\xff\x00",
+    );
+    plain(
+        rt,
+        b"Load of Param 256",
+        b"\x08\x00\x04\x00\x02\x02\x00\x01",
+    );
+    plain(
+        rt,
+        b"Save to Stack 255",
+        b"\x08\x00\x05\x00\x02\x00\xff\x00",
+    );
+    plain(
+        rt,
+        b"Save to Stack 256",
+        b"\x08\x00\x05\x00\x02\x00\x00\x01",
+    );
 }
 
-fn constants() {
+fn constants(rt: HostRuntime) {
     limit(
+        rt,
         b"251 constants, the last loaded",
         moved(PLAIN, 251, b"\x07\x00\x06\x00\x02\xfa\x00"),
         251,
     );
     limit(
+        rt,
         b"251 constants, one past the last loaded",
         moved(PLAIN, 251, b"\x07\x00\x06\x00\x02\xfb\x00"),
         251,
     );
     limit(
+        rt,
         b"252 constants",
         moved(PLAIN, 252, b"\x07\x00\x06\x00\x02\xfa\x00"),
         252,
     );
     limit(
+        rt,
         b"251 constants, stable Abs",
         moved(STABLE, 251, b"\x07\x00\x01\x00\x02\x02\x03"),
         251,
     );
     limit(
+        rt,
         b"252 constants, stable Abs",
         moved(STABLE, 252, b"\x07\x00\x01\x00\x02\x02\x03"),
         252,
     );
 }
 
-fn barred() {
+fn barred(rt: HostRuntime) {
     limit(
+        rt,
         b"stable Divide by Temp",
         moved(STABLE, 0, b"\x08\x00\x02\x00\x03\x02\x03\x1f"),
         0,
     );
     limit(
+        rt,
         b"plain Divide by Temp",
         moved(PLAIN, 0, b"\x08\x00\x02\x00\x03\x02\x03\x1f"),
         0,
@@ -149,14 +202,14 @@ fn barred() {
 }
 
 // Root of 0 to 1, then of 1 to 2, from 16.
-fn second_root(name: &[u8], mode: u8) {
+fn second_root(rt: HostRuntime, name: &[u8], mode: u8) {
     let sheet = header(mode).records(b"\x07\x00\x01\x00\x03\x01\x00\x07\x00\x01\x00\x03\x02\x01");
     let first = [0, 0, 0, 0, 0x4030_0000_0000_0000, 0, 0, 0, 0, 0];
-    misreading(name, sheet, 0, &first, 6, 10);
+    misreading(rt, name, sheet, 0, &first, 6, 10);
 }
 
 // Divide of 0 by 1 to Temp, 6 over 2.
-fn divide_to_temp(name: &[u8], mode: u8) {
+fn divide_to_temp(rt: HostRuntime, name: &[u8], mode: u8) {
     let sheet = header(mode).records(b"\x08\x00\x02\x00\x03\x1f\x00\x01");
     let first = [
         0,
@@ -170,31 +223,31 @@ fn divide_to_temp(name: &[u8], mode: u8) {
         0,
         0,
     ];
-    misreading(name, sheet, 0, &first, 0, 2);
+    misreading(rt, name, sheet, 0, &first, 0, 2);
 }
 
 // LoadConst of 6 to Temp, then Divide of Temp by 1 to 2, where 1 is 2.
-fn plain_divide_of_temp() {
+fn plain_divide_of_temp(rt: HostRuntime) {
     let sheet = header(PLAIN)
         .records(b"\x0c\x00\x21\x00\x00\x00\x00\x00\x00\x00\x18\x40")
         .records(b"\x07\x00\x06\x00\x1f\x00\x00")
         .records(b"\x08\x00\x02\x00\x03\x02\x1f\x01");
     let first = [0, 0, 0, 0, 0, 0, 0x4000_0000_0000_0000, 0, 0, 0];
-    misreading(b"plain Divide of a real Temp", sheet, 1, &first, 8, 9);
+    misreading(rt, b"plain Divide of a real Temp", sheet, 1, &first, 8, 9);
 }
 
 // LoadConst of 2 to 0, then Half of 0 to 1 and of 1 to 0; the imaginary half of 0 is a leftover 4.
-fn half(name: &[u8], mode: u8) {
+fn half(rt: HostRuntime, name: &[u8], mode: u8) {
     let sheet = header(mode)
         .constants(1)
         .records(b"\x07\x00\x06\x00\x00\x00\x00")
         .records(b"\x07\x00\x01\x00\x0d\x01\x00\x07\x00\x01\x00\x0d\x00\x01");
     let first = [0, 0, 0, 0, 0, 0x4010_0000_0000_0000, 0, 0, 0, 0];
-    misreading(name, sheet, 1, &first, 4, 8);
+    misreading(rt, name, sheet, 1, &first, 4, 8);
 }
 
 // Divide of Temp by 1 to 0: 6 and 8 over 1 and 2.
-fn complex_divide() {
+fn complex_divide(rt: HostRuntime) {
     let sheet = header(PLAIN).records(b"\x08\x00\x02\x00\x03\x00\x1f\x01");
     let first = [
         0x4018_0000_0000_0000,
@@ -208,30 +261,42 @@ fn complex_divide() {
         0,
         0,
     ];
-    misreading(b"plain Divide of a complex Temp", sheet, 0, &first, 0, 8);
+    misreading(
+        rt,
+        b"plain Divide of a complex Temp",
+        sheet,
+        0,
+        &first,
+        0,
+        8,
+    );
 }
 
 // Branch 3, Save of 0 to Mem 1, Label 3: the record after a Branch is taken as reached.
-fn behind_a_branch() {
+fn behind_a_branch(rt: HostRuntime) {
     let sheet = header(PLAIN)
         .records(b"\x05\x00\x0f\x00\x03")
         .records(b"\x08\x00\x05\x00\x00\x01\x01\x00")
         .records(b"\x05\x00\x0e\x00\x03");
-    limit(b"a Save behind a Branch", sheet, 0);
+    limit(rt, b"a Save behind a Branch", sheet, 0);
 }
 
-fn main() {
-    registers();
-    places();
-    constants();
-    barred();
-    behind_a_branch();
-    second_root(b"a second Root, plain", PLAIN);
-    second_root(b"a second Root, stable", STABLE);
-    divide_to_temp(b"stable Divide to Temp", STABLE);
-    divide_to_temp(b"Divide to Temp in mode 2", MINDING);
-    plain_divide_of_temp();
-    half(b"Half of a real register to a complex one, and back", PLAIN);
-    half(b"the same in mode 2", MINDING);
-    complex_divide();
+fn main(rt: HostRuntime) {
+    registers(rt);
+    places(rt);
+    constants(rt);
+    barred(rt);
+    behind_a_branch(rt);
+    second_root(rt, b"a second Root, plain", PLAIN);
+    second_root(rt, b"a second Root, stable", STABLE);
+    divide_to_temp(rt, b"stable Divide to Temp", STABLE);
+    divide_to_temp(rt, b"Divide to Temp in mode 2", MINDING);
+    plain_divide_of_temp(rt);
+    half(
+        rt,
+        b"Half of a real register to a complex one, and back",
+        PLAIN,
+    );
+    half(rt, b"the same in mode 2", MINDING);
+    complex_divide(rt);
 }

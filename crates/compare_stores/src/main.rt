@@ -1,5 +1,7 @@
 // compare_stores STORE OTHER [all]: says `same`, or names the first twenty words that differ, with the word of either store, and how many more
 // differ; with a third argument it names them all.
+#![tactic(auto)]
+
 ghost use Rattle.std.specs.Prelude.{◌+◌, ◌*◌, ◌≤◌, ◌≡◌, length};
 ghost use Rattle.text.specs.Puts.{Puts};
 ghost use Rattle.compare_stores.specs.Differences.{next_difference, difference_lines, lines_or_same, one_where, differing, comparison};
@@ -88,44 +90,45 @@ fn put_comparison(out: &mut [u8], one: &[u8], other: &[u8], most: usize) -> usiz
     put_line(out, at, more_line((n - most) as u64))
 }
 
-fn print_comparison(one: &[u8], other: &[u8], most: usize)
+fn print_comparison(rt: HostRuntime, one: &[u8], other: &[u8], most: usize)
     requires { most ≤ 1602 }
 {
     let mut out = [0u8; 128320];
     let n = put_comparison(&mut out, one, other, most);
-    files::print(&out, n);
+    files::print(rt, &out, n);
 }
 
-fn print_stores(one: &[u8], other: &[u8]) {
-    if os::arg_count() == 4 {
-        print_comparison(one, other, 1602);
+fn print_stores(rt: HostRuntime, one: &[u8], other: &[u8]) {
+    if files::arg_count(rt) == 4 {
+        print_comparison(rt, one, other, 1602);
     } else {
-        print_comparison(one, other, 20);
+        print_comparison(rt, one, other, 20);
     }
 }
 
 // One byte more than a store has is read, so that a longer file is none.
-fn compare_with(one: &[u8]) {
+fn compare_with(rt: HostRuntime, one: &[u8]) {
     let mut other = [0u8; 12817];
-    let got = files::read_arg(2, &mut other);
+    let got = files::read_arg(rt, 2, &mut other);
     let n = got.len;
-    if got.ok && files::holds(2, n == 12816, b"not a store, which has 12816 bytes") {
-        print_stores(one, &other[..n]);
+    if got.ok && files::holds(rt, 2, n == 12816, b"not a store, which has 12816 bytes") {
+        print_stores(rt, one, &other[..n]);
     }
 }
 
-fn main() {
-    let count = os::arg_count();
+fn main(rt: HostRuntime) {
+    let count = files::arg_count(rt);
     if !files::usage(
+        rt,
         count == 3 || count == 4,
         b"compare_stores STORE OTHER [all]",
     ) {
         return;
     }
     let mut one = [0u8; 12817];
-    let got = files::read_arg(1, &mut one);
+    let got = files::read_arg(rt, 1, &mut one);
     let n = got.len;
-    if got.ok && files::holds(1, n == 12816, b"not a store, which has 12816 bytes") {
-        compare_with(&one[..n]);
+    if got.ok && files::holds(rt, 1, n == 12816, b"not a store, which has 12816 bytes") {
+        compare_with(rt, &one[..n]);
     }
 }

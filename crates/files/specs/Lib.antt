@@ -1,2 +1,4 @@
+pub mod Counts
 pub mod Most
 pub mod Start
+pub mod Status

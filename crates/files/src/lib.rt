@@ -1,16 +1,74 @@
 // Standard input and the files that the program's arguments name. Which bytes C reads and writes no contract can say, so of a file's bytes nothing is promised
-// here; what goes wrong is said on standard error, with the file's name.
+// here; what goes wrong is said on standard error, with the file's name. A name that is not UTF-8 names no file, since std opens none by it.
+#![tactic(auto)]
+
 ghost use Rattle.std.specs.Prelude.{◌≡◌, length, ltb};
-ghost use Rattle.io.specs.Counts.{IsPrefixLen};
-ghost use Rattle.libc.specs.Io.{Status};
+ghost use Rattle.files.specs.Counts.{IsPrefixLen};
 ghost use Rattle.files.specs.Most.{at_most};
+ghost use Rattle.files.specs.Status.{Status};
+
+use std::env::{Env, FillError};
+use std::fs::{File, OpenOptions};
+use std::io;
+use std::io::{Print, Read, Write};
 
 pub mod start;
 
-// Says on standard error what failed, and why, as errno has it.
-fn fail(name: &[u8]) {
-    io::write_all(libc::STDERR_FILENO, b"tulipcricket: ");
-    os::fail(name);
+// Writes to standard error. That it cannot be written to is told nowhere.
+fn say(rt: HostRuntime, bytes: &[u8]) {
+    let _ = Print::write_all(&rt.stderr(), bytes);
+}
+
+// Why a call failed, in the system's words. Behind them std writes the error's number, which is left out.
+fn say_why(rt: HostRuntime, e: io::Error) {
+    match format!(in rt.alloc(); "{e}") {
+        Ok(text) => match text.as_str().split_once(" (os error ") {
+            Some((words, _)) => say(rt, words.as_bytes()),
+            None => say(rt, text.as_str().as_bytes()),
+        },
+        Err(_) => {
+            let _ = rt.eprint(e);
+        }
+    }
+}
+
+// Says on standard error what failed, and why. First comes who says so.
+pub fn fail(rt: HostRuntime, who: &[u8], name: &[u8], e: io::Error) {
+    say(rt, who);
+    say(rt, name);
+    say(rt, b": ");
+    say_why(rt, e);
+    say(rt, b"\n");
+}
+
+// How many arguments there are, the program's name among them, as far as 16.
+pub fn arg_count(rt: HostRuntime) -> usize {
+    let mut word = [0u8; 1];
+    let mut n: usize = 0;
+    while n < 16 {
+        if let Err(FillError::NotPresent) = rt.arg(n, &mut word) {
+            break;
+        }
+        n += 1;
+    }
+    n
+}
+
+// Room for an argument.
+pub fn buffer() -> [u8; 4096]
+    ensures { length result ≡ 4096 }
+{
+    [0u8; 4096]
+}
+
+// Puts argument i at the start of the lent bytes; its length, or 0 where it is missing or longer than they are.
+pub fn arg(rt: HostRuntime, i: usize, buf: &mut [u8]) -> usize
+    ensures { IsPrefixLen result buf.new }
+{
+    match rt.arg(i, buf) {
+        Ok(n) => n,
+        Err(_) => 0,
+    }
 }
 
 // Room for the bytes of a sheet: 1 MiB, and one more by which a longer one is known.
@@ -22,15 +80,12 @@ pub fn sheet_room() -> [u8; 1048577]
 
 // Whether a sheet of which so many bytes were read was read to its end. Where not, says so on standard error: a cut sheet would have another
 // answer.
-pub fn sheet_fits(n: usize) -> bool
+pub fn sheet_fits(rt: HostRuntime, n: usize) -> bool
     ensures { result ≡ ltb n 1048577 }
 {
     let right = n < 1048577;
     if !right {
-        io::write_all(
-            libc::STDERR_FILENO,
-            b"tulipcricket: sheet of more than 1048576 bytes\n",
-        );
+        say(rt, b"tulipcricket: sheet of more than 1048576 bytes\n");
     }
     right
 }
@@ -42,31 +97,42 @@ pub struct Got {
     pub len: usize,
 }
 
-// Reads until the slice is full, the input ends or a read fails.
-pub fn read_all(fd: i32, buf: &mut [u8]) -> Got
-    ensures { IsPrefixLen result.len buf.new }
+// Reads until the slice is full, the input ends or a read fails, and gives that failure too.
+fn read_on<R: Read>(from: &mut R, buf: &mut [u8]) -> (usize, io::Result<()>)
+    ensures { IsPrefixLen result.0 buf.new }
 {
     let mut done: usize = 0;
     while done < buf.len() {
-        let got = libc::read(fd, &mut buf[done..]);
-        if got < 0 {
-            return Got {
-                ok: false,
-                len: done,
-            };
+        match from.read(&mut buf[done..]) {
+            Err(e) => return (done, Err(e)),
+            Ok(n) => {
+                if n == 0 {
+                    return (done, Ok(()));
+                }
+                done += n;
+            }
         }
-        let n = io::count(got, &buf[done..]);
-        if n == 0 {
-            return Got {
-                ok: true,
-                len: done,
-            };
-        }
-        done += n;
     }
-    Got {
-        ok: true,
-        len: done,
+    (done, Ok(()))
+}
+
+// Reads until the slice is full, the input ends or a read fails. Where one fails, says so on standard error.
+pub fn read_all<R: Read>(
+    rt: HostRuntime,
+    who: &[u8],
+    name: &[u8],
+    from: &mut R,
+    buf: &mut [u8],
+) -> Got
+    ensures { IsPrefixLen result.len buf.new }
+{
+    let (len, all) = read_on(from, buf);
+    match all {
+        Ok(()) => Got { ok: true, len },
+        Err(e) => {
+            fail(rt, who, name, e);
+            Got { ok: false, len }
+        }
     }
 }
 
@@ -74,140 +140,171 @@ pub fn read_all(fd: i32, buf: &mut [u8]) -> Got
 fn nothing(buf: &[u8]) -> Got
     ensures { IsPrefixLen result.len buf.now }
 {
-    Got {
-        ok: false,
-        len: io::count(0, buf),
+    Got { ok: false, len: 0 }
+}
+
+// A file's name as text.
+fn text_of(path: &[u8]) -> io::Result<&str> {
+    match std::str::from_utf8(path) {
+        Ok(text) => Ok(text),
+        Err(_) => Err(io::Error::new(io::ErrorKind::InvalidInput, "a name that is not UTF-8")),
     }
 }
 
-fn read_file(path: &[u8], buf: &mut [u8]) -> Got
+fn open_to_read(rt: HostRuntime, path: &[u8]) -> io::Result<File> {
+    let text = text_of(path)?;
+    File::open(&rt, text)
+}
+
+fn read_file(rt: HostRuntime, path: &[u8], buf: &mut [u8]) -> Got
     ensures { IsPrefixLen result.len buf.new }
 {
-    let fd = os::open_read(path);
-    if fd < 0 {
-        fail(path);
-        return nothing(buf);
+    match open_to_read(rt, path) {
+        Ok(mut file) => read_all(rt, b"tulipcricket: ", path, &mut file, buf),
+        Err(e) => {
+            fail(rt, b"tulipcricket: ", path, e);
+            nothing(buf)
+        }
     }
-    let got = read_all(fd, buf);
-    if !got.ok {
-        fail(path);
-    }
-    libc::close(fd);
-    got
 }
 
 // Reads the file that argument i names into the lent bytes. Of a longer file these are the first bytes.
-pub fn read_arg(i: usize, buf: &mut [u8]) -> Got
+pub fn read_arg(rt: HostRuntime, i: usize, buf: &mut [u8]) -> Got
     ensures { IsPrefixLen result.len buf.new }
 {
-    let mut path = io::buffer();
-    let n = os::arg(i, &mut path);
-    read_file(&path[..n], buf)
+    let mut path = buffer();
+    let n = arg(rt, i, &mut path);
+    read_file(rt, &path[..n], buf)
 }
 
 // Reads the file that argument 1 names, or standard input where there is no argument.
-pub fn read_input(buf: &mut [u8]) -> Got
+pub fn read_input(rt: HostRuntime, buf: &mut [u8]) -> Got
     ensures { IsPrefixLen result.len buf.new }
 {
-    if os::arg_count() == 2 {
-        return read_arg(1, buf);
+    if arg_count(rt) == 2 {
+        return read_arg(rt, 1, buf);
     }
-    let got = read_all(libc::STDIN_FILENO, buf);
-    if !got.ok {
-        fail(b"standard input");
-    }
-    got
+    read_all(
+        rt,
+        b"tulipcricket: ",
+        b"standard input",
+        &mut rt.stdin(),
+        buf,
+    )
+}
+
+// A new file, which no other file stands for.
+fn create(rt: HostRuntime, path: &[u8]) -> io::Result<File> {
+    let text = text_of(path)?;
+    OpenOptions::new()
+        .write(true)
+        .create_new(true)
+        .open(&rt, text)
+}
+
+fn remove(rt: HostRuntime, path: &[u8]) -> io::Result<()> {
+    let text = text_of(path)?;
+    std::fs::remove_file(&rt, text)
+}
+
+// Writes all of a new file, to the disk too, and closes it.
+fn write_file(file: File, bytes: &[u8]) -> io::Result<()> {
+    let mut file = file;
+    Write::write_all(&mut file, bytes)?;
+    file.sync_all()
 }
 
 // Writes and closes a new file; where that fails it is removed.
-fn fill(fd: i32, path: &[u8], bytes: &[u8]) -> i32
+fn fill(rt: HostRuntime, file: File, path: &[u8], bytes: &[u8]) -> i32
     ensures { Status result }
 {
-    let written = io::write_all(fd, bytes);
-    if !written {
-        fail(path);
+    match write_file(file, bytes) {
+        Ok(()) => 0,
+        Err(e) => {
+            fail(rt, b"tulipcricket: ", path, e);
+            let _ = remove(rt, path);
+            -1
+        }
     }
-    let closed = libc::close(fd) == 0;
-    if written && !closed {
-        fail(path);
-    }
-    if written && closed {
-        return 0;
-    }
-    os::unlink(path);
-    -1
 }
 
 // Makes the file that argument i names, of the first n bytes, or of all where there are fewer, and answers 0, or -1. A file that exists
 // is left as it is.
-pub fn make_arg(i: usize, bytes: &[u8], n: usize) -> i32
+pub fn make_arg(rt: HostRuntime, i: usize, bytes: &[u8], n: usize) -> i32
     ensures { Status result }
 {
-    let mut path = io::buffer();
-    let long = os::arg(i, &mut path);
-    let fd = os::create(&path[..long]);
-    if fd < 0 {
-        fail(&path[..long]);
-        return -1;
+    let mut path = buffer();
+    let long = arg(rt, i, &mut path);
+    match create(rt, &path[..long]) {
+        Ok(file) => {
+            if n < bytes.len() {
+                return fill(rt, file, &path[..long], &bytes[0..n]);
+            }
+            fill(rt, file, &path[..long], bytes)
+        }
+        Err(e) => {
+            fail(rt, b"tulipcricket: ", &path[..long], e);
+            -1
+        }
     }
-    if n < bytes.len() {
-        return fill(fd, &path[..long], &bytes[0..n]);
-    }
-    fill(fd, &path[..long], bytes)
 }
 
-// Removes the file that argument i names, and answers as libc::unlink does.
-pub fn remove_arg(i: usize) -> i32
+// Removes the file that argument i names, and answers 0, or -1.
+pub fn remove_arg(rt: HostRuntime, i: usize) -> i32
     ensures { Status result }
 {
-    let mut path = io::buffer();
-    let n = os::arg(i, &mut path);
-    os::unlink(&path[..n])
+    let mut path = buffer();
+    let n = arg(rt, i, &mut path);
+    match remove(rt, &path[..n]) {
+        Ok(()) => 0,
+        Err(_) => -1,
+    }
 }
 
-// Writes bytes to standard output. Where not all could be written, says so on standard error.
-fn write_out(bytes: &[u8]) {
-    if !io::write_all(libc::STDOUT_FILENO, bytes) {
-        fail(b"standard output");
+// Writes bytes to standard output. Where not all could be written, says so on standard error. First comes who says so.
+pub fn write_out(rt: HostRuntime, who: &[u8], bytes: &[u8]) {
+    match Print::write_all(&rt.stdout(), bytes) {
+        Ok(()) => {}
+        Err(e) => fail(rt, who, b"standard output", e),
     }
 }
 
 // Prints the first n bytes, or all where there are fewer; how many these are.
-pub fn print(bytes: &[u8], n: usize) -> usize
+pub fn print(rt: HostRuntime, bytes: &[u8], n: usize) -> usize
     ensures { result ≡ at_most n (length bytes.now) }
 {
     if n < bytes.len() {
-        write_out(&bytes[0..n]);
+        write_out(rt, b"tulipcricket: ", &bytes[0..n]);
         return n;
     }
-    write_out(bytes);
+    write_out(rt, b"tulipcricket: ", bytes);
     bytes.len()
 }
 
 // Whether a program was called as it should be. Where not, says so on standard error.
-pub fn usage(right: bool, text: &[u8]) -> bool
+pub fn usage(rt: HostRuntime, right: bool, text: &[u8]) -> bool
     ensures { result ≡ right }
 {
     if !right {
-        io::write_all(libc::STDERR_FILENO, b"usage: ");
-        io::write_all(libc::STDERR_FILENO, text);
-        io::write_all(libc::STDERR_FILENO, b"\n");
+        say(rt, b"usage: ");
+        say(rt, text);
+        say(rt, b"\n");
     }
     right
 }
 
 // Whether what was read of the file that argument i names is right. Where not, says so on standard error.
-pub fn holds(i: usize, right: bool, text: &[u8]) -> bool
+pub fn holds(rt: HostRuntime, i: usize, right: bool, text: &[u8]) -> bool
     ensures { result ≡ right }
 {
     if !right {
-        let mut path = io::buffer();
-        let n = os::arg(i, &mut path);
-        io::write_all(libc::STDERR_FILENO, b"tulipcricket: ");
-        io::write_all(libc::STDERR_FILENO, &path[..n]);
-        io::write_all(libc::STDERR_FILENO, b": ");
-        io::write_all(libc::STDERR_FILENO, text);
-        io::write_all(libc::STDERR_FILENO, b"\n");
+        let mut path = buffer();
+        let n = arg(rt, i, &mut path);
+        say(rt, b"tulipcricket: ");
+        say(rt, &path[..n]);
+        say(rt, b": ");
+        say(rt, text);
+        say(rt, b"\n");
     }
     right
 }

@@ -32,7 +32,8 @@ pub fn start_of(s: &[u8]) -> Start
         if b < 48 {
             return none();
         }
-        if 57 < b {
+        let high = 57 < b;
+        if high {
             return none();
         }
         if 1844674407370955161 < n {

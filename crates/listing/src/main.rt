@@ -1,16 +1,17 @@
 // listing [SHEET]: lowers a sheet, from a file or from standard input, and prints its constants and its listing, or the refusal, with its
 // word where a file is named.
+#![tactic(auto)]
+
 ghost use Rattle.std.specs.Prelude.{◌+◌, ◌*◌, ◌≤◌, length};
 ghost use Rattle.text.specs.Puts.{Puts};
-ghost use Rattle.io.specs.Counts.{IsPrefixLen};
+ghost use Rattle.files.specs.Counts.{IsPrefixLen};
 ghost use Rattle.text.specs.Line.{Prints};
 ghost use Rattle.listing.specs.Printed.{refusal_of, text_of, printed_for};
 
 mod page;
 
 use complexify::entry::{LowerAnswer, lower};
-use files::{Got, read_all, read_arg};
-use libc::{STDIN_FILENO, STDOUT_FILENO};
+use files::{Got, read_all, read_arg, write_out};
 use page::{put_line, put_page};
 use reports::refusal_line;
 use text::line::Line;
@@ -51,33 +52,27 @@ fn put_sheet(sheet: &[u8], named: bool, out: &mut [u8]) -> usize
     put_text(out, named, a, &constants, &listing)
 }
 
-fn read_sheet(named: bool, sheet: &mut [u8]) -> Got
+fn read_sheet(rt: HostRuntime, named: bool, sheet: &mut [u8]) -> Got
     ensures { IsPrefixLen result.len sheet.new }
 {
     if named {
-        return read_arg(1, sheet);
+        return read_arg(rt, 1, sheet);
     }
-    let got = read_all(STDIN_FILENO, sheet);
-    if !got.ok {
-        os::fail(b"listing: standard input");
-    }
-    got
+    read_all(rt, b"listing: ", b"standard input", &mut rt.stdin(), sheet)
 }
 
 // The text has at most five bytes for each of a listing's 65,536, and 80 for each of the other 258 lines. A sheet of which not all is read is
-// not lowered. That, and a read or a write that fails, is told on standard error; the program's status is 0 in any case, since the language
-// has no other.
-fn main() {
-    let named = os::arg_count() == 2;
+// not lowered. That, and a read or a write that fails, is told on standard error; the program's status is 0 in any case, and who calls it
+// sees that it printed nothing.
+fn main(rt: HostRuntime) {
+    let named = files::arg_count(rt) == 2;
     let mut sheet = files::sheet_room();
-    let got = read_sheet(named, &mut sheet);
+    let got = read_sheet(rt, named, &mut sheet);
     let n = got.len;
-    if !got.ok || !files::sheet_fits(n) {
+    if !got.ok || !files::sheet_fits(rt, n) {
         return;
     }
     let mut out = [0u8; 348320];
     let m = put_sheet(&sheet[..n], named, &mut out);
-    if !io::write_all(STDOUT_FILENO, &out[0..m]) {
-        os::fail(b"listing: standard output");
-    }
+    write_out(rt, b"listing: ", &out[0..m]);
 }

@@ -1,4 +1,6 @@
 // look_record LISTING CONSTANTS STORE RECORD: prints a record, the words that it would write on a store, and the record that follows it.
+#![tactic(auto)]
+
 ghost use Rattle.std.specs.Prelude.{◌≤◌, length};
 ghost use Rattle.std.proofs.Math.ListN.{get_elem?};
 ghost use Rattle.records.specs.Record.{records};
@@ -85,55 +87,57 @@ fn put_text(out: &mut [u8], listing: &[u8], constants: &[u8], store: &[u8], star
     put_look(out, listing, constants.len() / 8, start, &answer)
 }
 
-fn look(listing: &[u8], constants: &[u8], store: &[u8], start: u64) {
+fn look(rt: HostRuntime, listing: &[u8], constants: &[u8], store: &[u8], start: u64) {
     let mut out = [0u8; 320];
     let n = put_text(&mut out, listing, constants, store, start);
-    files::print(&out, n);
+    files::print(rt, &out, n);
 }
 
 // Of each file one byte more is read than it can have, so that a longer one is refused and not cut.
-fn look_on_store(listing: &[u8], constants: &[u8], start: u64) {
+fn look_on_store(rt: HostRuntime, listing: &[u8], constants: &[u8], start: u64) {
     let mut store = [0u8; 12817];
-    let got = files::read_arg(3, &mut store);
+    let got = files::read_arg(rt, 3, &mut store);
     let n = got.len;
     if got.ok {
-        look(listing, constants, &store[..n], start);
+        look(rt, listing, constants, &store[..n], start);
     }
 }
 
-fn look_with_constants(listing: &[u8], start: u64) {
+fn look_with_constants(rt: HostRuntime, listing: &[u8], start: u64) {
     let mut constants = [0u8; 2049];
-    let got = files::read_arg(2, &mut constants);
+    let got = files::read_arg(rt, 2, &mut constants);
     let n = got.len;
     if got.ok {
-        look_on_store(listing, &constants[..n], start);
+        look_on_store(rt, listing, &constants[..n], start);
     }
 }
 
-fn look_at(start: u64) {
+fn look_at(rt: HostRuntime, start: u64) {
     let mut listing = [0u8; 65537];
-    let got = files::read_arg(1, &mut listing);
+    let got = files::read_arg(rt, 1, &mut listing);
     let n = got.len;
     if got.ok {
-        look_with_constants(&listing[..n], start);
+        look_with_constants(rt, &listing[..n], start);
     }
 }
 
-fn main() {
+fn main(rt: HostRuntime) {
     if !files::usage(
-        os::arg_count() == 5,
+        rt,
+        files::arg_count(rt) == 5,
         b"look_record LISTING CONSTANTS STORE RECORD",
     ) {
         return;
     }
     let mut text = [0u8; 32];
-    let n = os::arg(4, &mut text);
+    let n = files::arg(rt, 4, &mut text);
     let start = start_of(&text[..n]);
     if files::holds(
+        rt,
         4,
         start.ok,
         b"no record's index, which is 0 to 18446744073709551615",
     ) {
-        look_at(start.number);
+        look_at(rt, start.number);
     }
 }

@@ -1,5 +1,7 @@
 // lower_sheet SHEET LISTING CONSTANTS [ORIGINS]: lowers a sheet, makes the files of its listing and of its constants, where one is named the
 // file of their origins too, and says what came of it. On a refusal no file is made.
+#![tactic(auto)]
+
 ghost use Rattle.std.specs.Prelude.{◌≤◌, ◌≡◌, length};
 ghost use Rattle.text.specs.Line.{Prints};
 ghost use Rattle.text.specs.Puts.{Puts};
@@ -58,11 +60,11 @@ fn lower_bytes(
 }
 
 // Makes the file of the origins where one is named: two bytes for each constant.
-fn make_origins(origins: &[u8], size: usize) -> bool {
-    if os::arg_count() == 4 {
+fn make_origins(rt: HostRuntime, origins: &[u8], size: usize) -> bool {
+    if files::arg_count(rt) == 4 {
         return true;
     }
-    files::make_arg(4, origins, size) == 0
+    files::make_arg(rt, 4, origins, size) == 0
 }
 
 // No more constants than a table has.
@@ -74,27 +76,28 @@ fn at_most_256(words: usize) -> usize
 
 // Makes all files that are named, or none.
 fn make_files(
+    rt: HostRuntime,
     listing: &[u8],
     bytes: usize,
     constants: &[u8],
     origins: &[u8],
     words: usize,
 ) -> bool {
-    if files::make_arg(2, listing, bytes) != 0 {
+    if files::make_arg(rt, 2, listing, bytes) != 0 {
         return false;
     }
     let count = at_most_256(words);
-    if files::make_arg(3, constants, 8 * count) == 0 {
-        if make_origins(origins, 2 * count) {
+    if files::make_arg(rt, 3, constants, 8 * count) == 0 {
+        if make_origins(rt, origins, 2 * count) {
             return true;
         }
-        files::remove_arg(3);
+        files::remove_arg(rt, 3);
     }
-    files::remove_arg(2);
+    files::remove_arg(rt, 2);
     false
 }
 
-fn lower_file(sheet: &[u8]) {
+fn lower_file(rt: HostRuntime, sheet: &[u8]) {
     let mut listing = [0u8; 65536];
     let mut constants = [0u8; 2048];
     let mut origins = [0u8; 512];
@@ -110,25 +113,26 @@ fn lower_file(sheet: &[u8]) {
     );
     let bytes = word_at(&answer, 16) as usize;
     let words = word_at(&answer, 24) as usize;
-    if word_at(&answer, 0) == 0 && !make_files(&listing, bytes, &constants, &origins, words) {
+    if word_at(&answer, 0) == 0 && !make_files(rt, &listing, bytes, &constants, &origins, words) {
         return;
     }
-    files::print(&out, n);
+    files::print(rt, &out, n);
 }
 
 // A sheet of which not all is read is not lowered.
-fn main() {
-    let given = os::arg_count();
+fn main(rt: HostRuntime) {
+    let given = files::arg_count(rt);
     if !files::usage(
+        rt,
         given == 4 || given == 5,
         b"lower_sheet SHEET LISTING CONSTANTS [ORIGINS]",
     ) {
         return;
     }
     let mut sheet = files::sheet_room();
-    let got = files::read_arg(1, &mut sheet);
+    let got = files::read_arg(rt, 1, &mut sheet);
     let n = got.len;
-    if got.ok && files::sheet_fits(n) {
-        lower_file(&sheet[..n]);
+    if got.ok && files::sheet_fits(rt, n) {
+        lower_file(rt, &sheet[..n]);
     }
 }

@@ -1,5 +1,7 @@
 // play_listing LISTING CONSTANTS STORE AFTER [START]: plays a listing on a store from a record on, makes the file of the store after it,
 // and says what came of it. On a refusal no file is made.
+#![tactic(auto)]
+
 ghost use Rattle.text.specs.Line.{Prints};
 ghost use Rattle.interface.specs.Calls.{play_call};
 ghost use Rattle.play_listing.specs.Plays.{answer_line, Plays};
@@ -31,70 +33,75 @@ fn play_bytes(
     answer_line(answer)
 }
 
-fn print(line: Line) {
+fn print(rt: HostRuntime, line: Line) {
     let bytes = line.bytes;
-    files::print(&bytes, line.len);
+    files::print(rt, &bytes, line.len);
 }
 
-fn play(listing: &[u8], constants: &[u8], store: &mut [u8], start: u64) {
+fn play(rt: HostRuntime, listing: &[u8], constants: &[u8], store: &mut [u8], start: u64) {
     let mut answer = [0u8; 24];
     let line = play_bytes(listing, constants, store, start, &mut answer);
-    if word_at(&answer, 0) == 0 && files::make_arg(4, store, store.len()) != 0 {
+    if word_at(&answer, 0) == 0 && files::make_arg(rt, 4, store, store.len()) != 0 {
         return;
     }
-    print(line);
+    print(rt, line);
 }
 
 // Of each file one byte more is read than it can have, so that a longer one is refused and not cut.
-fn play_on_store(listing: &[u8], constants: &[u8], start: u64) {
+fn play_on_store(rt: HostRuntime, listing: &[u8], constants: &[u8], start: u64) {
     let mut store = [0u8; 12817];
-    let got = files::read_arg(3, &mut store);
+    let got = files::read_arg(rt, 3, &mut store);
     let n = got.len;
     if got.ok {
-        play(listing, constants, &mut store[..n], start);
+        play(rt, listing, constants, &mut store[..n], start);
     }
 }
 
-fn play_with_constants(listing: &[u8], start: u64) {
+fn play_with_constants(rt: HostRuntime, listing: &[u8], start: u64) {
     let mut constants = [0u8; 2049];
-    let got = files::read_arg(2, &mut constants);
+    let got = files::read_arg(rt, 2, &mut constants);
     let n = got.len;
     if got.ok {
-        play_on_store(listing, &constants[..n], start);
+        play_on_store(rt, listing, &constants[..n], start);
     }
 }
 
-fn play_from(start: u64) {
+fn play_from(rt: HostRuntime, start: u64) {
     let mut listing = [0u8; 65537];
-    let got = files::read_arg(1, &mut listing);
+    let got = files::read_arg(rt, 1, &mut listing);
     let n = got.len;
     if got.ok {
-        play_with_constants(&listing[..n], start);
+        play_with_constants(rt, &listing[..n], start);
     }
 }
 
-fn play_from_argument() {
+fn play_from_argument(rt: HostRuntime) {
     let mut text = [0u8; 32];
-    let n = os::arg(5, &mut text);
+    let n = files::arg(rt, 5, &mut text);
     let start = start_of(&text[..n]);
     if files::holds(
+        rt,
         5,
         start.ok,
         b"no record's index, which is 0 to 18446744073709551615",
     ) {
-        play_from(start.number);
+        play_from(rt, start.number);
     }
 }
 
-fn main() {
-    let count = os::arg_count();
+fn main(rt: HostRuntime) {
+    let count = files::arg_count(rt);
     if count == 5 {
-        play_from(0);
+        play_from(rt, 0);
         return;
     }
     if count == 6 {
-        play_from_argument();
+        play_from_argument(rt);
         return;
     }
-    files::usage(false, b"play_listing LISTING CONSTANTS STORE AFTER [START]");
+    files::usage(
+        rt,
+        false,
+        b"play_listing LISTING CONSTANTS STORE AFTER [START]",
+    );
 }

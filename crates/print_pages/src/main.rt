@@ -1,4 +1,6 @@
 // print_pages LISTING CONSTANTS: lays a listing and its constants out on pages, and prints them; or that there is no page; or the refusal.
+#![tactic(auto)]
+
 ghost use Rattle.std.specs.Prelude.{◌-◌, ◌≤◌, ◌≡◌, length};
 ghost use Rattle.text.specs.Puts.{Puts};
 ghost use Rattle.pages.specs.Printed.{least};
@@ -47,17 +49,17 @@ fn put_part(out: &mut [u8], listing: &[u8], constants: &[u8], first: usize) -> P
 }
 
 // Prints at most 112 pages; how many there are in all.
-fn print_part(listing: &[u8], constants: &[u8], first: usize) -> usize {
+fn print_part(rt: HostRuntime, listing: &[u8], constants: &[u8], first: usize) -> usize {
     let mut out = [0u8; 490560];
     let part = put_part(&mut out, listing, constants, first);
-    files::print(&out, part.len);
+    files::print(rt, &out, part.len);
     part.pages
 }
 
 // A listing of 65,536 bytes and 256 constants have at most 1,097 pages.
-fn print_all(listing: &[u8], constants: &[u8]) {
+fn print_all(rt: HostRuntime, listing: &[u8], constants: &[u8]) {
     for k in 0..10usize {
-        let pages = print_part(listing, constants, 112 * k);
+        let pages = print_part(rt, listing, constants, 112 * k);
         if pages <= 112 * k + 112 {
             return;
         }
@@ -65,23 +67,27 @@ fn print_all(listing: &[u8], constants: &[u8]) {
 }
 
 // Of each file one byte more is read than it can have, so that a longer one is refused and not cut.
-fn print_with_constants(listing: &[u8]) {
+fn print_with_constants(rt: HostRuntime, listing: &[u8]) {
     let mut constants = [0u8; 2049];
-    let got = files::read_arg(2, &mut constants);
+    let got = files::read_arg(rt, 2, &mut constants);
     let n = got.len;
     if got.ok {
-        print_all(listing, &constants[..n]);
+        print_all(rt, listing, &constants[..n]);
     }
 }
 
-fn main() {
-    if !files::usage(os::arg_count() == 3, b"print_pages LISTING CONSTANTS") {
+fn main(rt: HostRuntime) {
+    if !files::usage(
+        rt,
+        files::arg_count(rt) == 3,
+        b"print_pages LISTING CONSTANTS",
+    ) {
         return;
     }
     let mut listing = [0u8; 65537];
-    let got = files::read_arg(1, &mut listing);
+    let got = files::read_arg(rt, 1, &mut listing);
     let n = got.len;
     if got.ok {
-        print_with_constants(&listing[..n]);
+        print_with_constants(rt, &listing[..n]);
     }
 }

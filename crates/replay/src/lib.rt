@@ -1,4 +1,6 @@
 // What programs that replay a list of cases share: numbers in bytes, whole cases, slices compared, the counts and their report.
+#![tactic(auto)]
+
 pub mod cases;
 pub mod numbers;
 pub mod report;

@@ -1,21 +1,22 @@
 // Lowers a list of sheets, from standard input, through `complexify`. Writes how many cases were answered with each number, how many
 // cases the list holds, and how many of them differ from the answer, the listing or the constants that the list expects.
 // The list in `stdin` is `sheets` as oracle's `make-lists FOLDER 280 3` writes it (oracle/src/lists.rs has its form).
+#![tactic(auto)]
+
 mod case;
 mod tally;
 
-use libc::{STDIN_FILENO, STDOUT_FILENO};
-use replay::report::{report, room};
+use replay::report::{print_bytes, read_list, report, room};
 use tally::replay_list;
 
 // Reads the list, of at most 524,288 bytes.
-fn main() {
+fn main(rt: HostRuntime) {
     let mut t = [0u64; 258];
     let mut list = room();
-    let n = io::read_full(STDIN_FILENO, &mut list);
+    let n = read_list(&mut rt.stdin(), &mut list);
     if replay_list(&mut t, &list[..n]) {
-        report(&t, b" sheets");
+        report(&rt, &t, b" sheets");
     } else {
-        io::write_all(STDOUT_FILENO, b"the list is malformed\n");
+        print_bytes(&rt, b"the list is malformed\n");
     }
 }

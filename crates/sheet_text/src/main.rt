@@ -1,5 +1,7 @@
 // sheet_text [SHEET]: prints a sheet, from a file or from standard input, as text, one line for its mode, each real place, each constant
 // and each instruction; or the refusal.
+#![tactic(auto)]
+
 ghost use Rattle.std.specs.Prelude.{◌≤◌, length};
 ghost use Rattle.text.specs.Puts.{Puts};
 ghost use Rattle.assembly.specs.SheetText.{printed_text};
@@ -27,18 +29,18 @@ fn put_sheet(out: &mut [u8], sheet: &[u8]) -> usize
     put_lines(out, sheet, s)
 }
 
-fn print_sheet(sheet: &[u8]) {
+fn print_sheet(rt: HostRuntime, sheet: &[u8]) {
     let mut out = [0u8; 110080];
     let n = put_sheet(&mut out, sheet);
-    files::print(&out, n);
+    files::print(rt, &out, n);
 }
 
 // A sheet of which not all is read is not printed.
-fn main() {
+fn main(rt: HostRuntime) {
     let mut sheet = files::sheet_room();
-    let got = files::read_input(&mut sheet);
+    let got = files::read_input(rt, &mut sheet);
     let n = got.len;
-    if got.ok && files::sheet_fits(n) {
-        print_sheet(&sheet[..n]);
+    if got.ok && files::sheet_fits(rt, n) {
+        print_sheet(rt, &sheet[..n]);
     }
 }

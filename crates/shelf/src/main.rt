@@ -1,10 +1,11 @@
 // Reads a sheet from standard input and prints how much shelf it will take, or the refusal.
+#![tactic(auto)]
+
 ghost use Rattle.text.specs.Line.{empty_line, Adds, Prints};
 ghost use Rattle.shelf.specs.Printed.{figures_text, printed};
 
 use figures::entry::shelf;
-use files::read_all;
-use libc::{STDIN_FILENO, STDOUT_FILENO};
+use files::{read_all, write_out};
 use text::line::{Line, empty_line};
 use text::lines::refused_line;
 
@@ -36,22 +37,25 @@ fn text_of(sheet: &[u8]) -> Line
 }
 
 // A sheet of which not all is read has no figures. That, and a read or a write that fails, is told on standard error; the program's status is
-// 0 in any case, since the language has no other.
-fn main() {
+// 0 in any case, and who calls it sees that it printed nothing.
+fn main(rt: HostRuntime) {
     let mut sheet = files::sheet_room();
-    let got = read_all(STDIN_FILENO, &mut sheet);
+    let got = read_all(
+        rt,
+        b"shelf: ",
+        b"standard input",
+        &mut rt.stdin(),
+        &mut sheet,
+    );
     if !got.ok {
-        os::fail(b"shelf: standard input");
         return;
     }
     let n = got.len;
-    if !files::sheet_fits(n) {
+    if !files::sheet_fits(rt, n) {
         return;
     }
     let line = text_of(&sheet[..n]);
     let bytes = line.bytes;
     let m = line.len;
-    if !io::write_all(STDOUT_FILENO, &bytes[0..m]) {
-        os::fail(b"shelf: standard output");
-    }
+    write_out(rt, b"shelf: ", &bytes[0..m]);
 }

@@ -1,4 +1,6 @@
 // show_store STORE: prints every word of a store, one a line, by its name and its bits.
+#![tactic(auto)]
+
 ghost use Rattle.std.specs.Prelude.{◌≤◌, length};
 ghost use Rattle.text.specs.Puts.{Puts};
 ghost use Rattle.show_store.specs.Shown.{shown};
@@ -22,21 +24,21 @@ fn put_words(out: &mut [u8], store: &[u8]) -> usize
     at
 }
 
-fn print_words(store: &[u8]) {
+fn print_words(rt: HostRuntime, store: &[u8]) {
     let mut out = [0u8; 128160];
     let n = put_words(&mut out, store);
-    files::print(&out, n);
+    files::print(rt, &out, n);
 }
 
 // One byte more than a store has is read, so that a longer file is none.
-fn main() {
-    if !files::usage(os::arg_count() == 2, b"show_store STORE") {
+fn main(rt: HostRuntime) {
+    if !files::usage(rt, files::arg_count(rt) == 2, b"show_store STORE") {
         return;
     }
     let mut store = [0u8; 12817];
-    let got = files::read_arg(1, &mut store);
+    let got = files::read_arg(rt, 1, &mut store);
     let n = got.len;
-    if got.ok && files::holds(1, n == 12816, b"not a store, which has 12816 bytes") {
-        print_words(&store[..n]);
+    if got.ok && files::holds(rt, 1, n == 12816, b"not a store, which has 12816 bytes") {
+        print_words(rt, &store[..n]);
     }
 }

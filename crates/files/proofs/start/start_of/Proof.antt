@@ -9,62 +9,62 @@ use Rattle.files.proofs.Digits.{no_digit, some-digit, below, above, large, digit
 use Rattle.files.proofs.start.start_of.Statement.{statement}
 use Rattle.files.proofs.start.start_of.Tie as tie
 
-abbrev invariant-loop : tie.invariant-loop
-invariant-loop s n₀ i₀ n i = start_from n (drop i s) ≡ start_from 0 s
+abbrev invariant-loop-i : tie.invariant-loop-i
+invariant-loop-i s n₀ i₀ n i = start_from n (drop i s) ≡ start_from 0 s
 
-abbrev decreases-loop : tie.decreases-loop
-decreases-loop s n₀ i₀ n i = length s - i
+abbrev decreases-loop-i : tie.decreases-loop-i
+decreases-loop-i s n₀ i₀ n i = length s - i
 
-pub start-of-spec : {M : Type 1} → statement M
-start-of-spec =
+pub start_of_spec : {M : Type 1} → statement M
+start_of_spec =
     tie.close
     (tie.spec
-    invariant-loop
-    decreases-loop
+    invariant-loop-i
+    decreases-loop-i
     (λ c κs. search rules)
-    (λ c. c.none.ensures ∙ no_digit c.before.before.before.args.s.now c.before.if1.true)
+    (λ c. c.none.ensures ∙ no_digit c.args.s.now c.if-s-eq0.true)
     (λ c. refl)
     (λ c. omega arith) (λ c κs. search rules)
     (λ c.
-    let s = c.before.before.before.before.before.before.before.args.s.now in
-    let l = c.before.before.before.before.loop in
-    c.none2.ensures
-    ∙ sym (below s l.n l.i c.before.before.before.loop-test.true c.before.if2.true)
+    let s = c.args.s.now in
+    let l = c.loop-i in
+    c.none-then-b-lt48.ensures
+    ∙ sym (below s l.n l.i c.loop-i-test.true c.if-b-lt48.true)
     ∙ l.invariant
-    ∙ some-digit s c.before.before.before.before.before.if1.false)
+    ∙ some-digit s c.if-s-eq0.false)
     (λ c κs. search rules)
     (λ c.
-    let s = c.before.before.before.before.before.before.before.before.args.s.now in
-    let l = c.before.before.before.before.before.loop in
-    c.none3.ensures
-    ∙ sym (above s l.n l.i c.before.before.before.before.loop-test.true c.before.before.if2.false c.before.if3.true)
+    let s = c.args.s.now in
+    let l = c.loop-i in
+    c.none-then-high.ensures
+    ∙ sym (above s l.n l.i c.loop-i-test.true c.if-b-lt48.false c.if-high.true)
     ∙ l.invariant
-    ∙ some-digit s c.before.before.before.before.before.before.if1.false)
+    ∙ some-digit s c.if-s-eq0.false)
     (λ c κs. search rules)
     (λ c.
-    let s = c.before.before.before.before.before.before.before.before.before.args.s.now in
-    let l = c.before.before.before.before.before.before.loop in
-    let k = c.before.if4.true in
-    c.none4.ensures
-    ∙ sym (large s l.n l.i c.before.before.before.before.before.loop-test.true c.before.before.before.if2.false c.before.before.if3.false (omega (arith, k)))
+    let s = c.args.s.now in
+    let l = c.loop-i in
+    let k = c.if-n-gt1844674407370955161.true in
+    c.none-then-n-gt1844674407370955161.ensures
+    ∙ sym (large s l.n l.i c.loop-i-test.true c.if-b-lt48.false c.if-high.false (omega (arith, k)))
     ∙ l.invariant
-    ∙ some-digit s c.before.before.before.before.before.before.before.if1.false)
+    ∙ some-digit s c.if-s-eq0.false)
     (λ c. omega arith) (λ c. omega arith) (λ c. omega arith) (λ c. omega arith) (λ c κs. search rules)
     (λ c.
-    let s = c.before.before.before.before.before.before.before.before.before.before.args.s.now in
-    let l = c.before.before.before.before.before.before.before.loop in
-    let k = c.before.if5.true in
-    c.none5.ensures
-    ∙ sym (large s l.n l.i c.before.before.before.before.before.before.loop-test.true c.before.before.before.before.if2.false c.before.before.before.if3.false (omega (arith, k)))
+    let s = c.args.s.now in
+    let l = c.loop-i in
+    let k = c.if-n-digit.true in
+    c.none-then-n-digit.ensures
+    ∙ sym (large s l.n l.i c.loop-i-test.true c.if-b-lt48.false c.if-high.false (omega (arith, k)))
     ∙ l.invariant
-    ∙ some-digit s c.before.before.before.before.before.before.before.before.if1.false)
+    ∙ some-digit s c.if-s-eq0.false)
     (λ c. omega arith) (λ c. omega arith) (λ c. omega arith) (λ c. omega arith)
     (λ c.
-    let l = c.before.before.before.before.before.before.loop in
-    let low = c.before.if4.false in
-    let k = c.if5.false in
-    sym (digit c.before.before.before.before.before.before.before.before.before.args.s.now l.n l.i c.before.before.before.before.before.loop-test.true c.before.before.before.if2.false c.before.before.if3.false (omega (arith, low, k))) ∙ l.invariant)
+    let l = c.loop-i in
+    let low = c.if-n-gt1844674407370955161.false in
+    let k = c.if-n-digit.false in
+    sym (digit c.args.s.now l.n l.i c.loop-i-test.true c.if-b-lt48.false c.if-high.false (omega (arith, low, k))) ∙ l.invariant)
     (λ c.
-    let s = c.before.before.before.before.args.s.now in
-    let l = c.before.loop in
-    sym (spelled s l.n l.i c.loop-test.false) ∙ l.invariant ∙ some-digit s c.before.before.if1.false))
+    let s = c.args.s.now in
+    let l = c.loop-i in
+    sym (spelled s l.n l.i c.loop-i-test.false) ∙ l.invariant ∙ some-digit s c.if-s-eq0.false))

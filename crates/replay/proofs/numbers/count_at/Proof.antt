@@ -6,10 +6,10 @@ use Rattle.replay.specs.Numbers.{u32_at}
 use Rattle.replay.proofs.numbers.count_at.Statement.{statement}
 use Rattle.replay.proofs.numbers.count_at.Tie as tie
 
-pub count-at-spec : {M : Type 1} → statement M
+pub count_at_spec : {M : Type 1} → statement M
 unfolding u32_at word_at
-count-at-spec =
+count_at_spec =
     tie.close
     (tie.spec
     (λ c κs. search rules)
-    (λ c. let a = c.before.before.args in let e = c.word-at.ensures in (ap (λ (w : ℕ). w % 4294967296) e ∙ low_half (drop a.i a.s.now) (λ k. rw (get_or-drop a.i a.s.now k 0) (c.before.shared-slice-known.given (a.i + k)).fits), omega arith)))
+    (λ c. let a = c.args in let e = c.word_at.ensures in (ap (λ (w : ℕ). w % 4294967296) e ∙ low_half (drop a.i a.s.now) (λ k. rw (get_or-drop a.i a.s.now k 0) (c.shared_slice_known-1.given (a.i + k)).fits), omega arith)))

@@ -4,22 +4,22 @@ use Rattle.replay.proofs.Sameness.{other_length, Decides, differ-at, same_next, 
 use Rattle.replay.proofs.same.same_bytes.Statement.{statement}
 use Rattle.replay.proofs.same.same_bytes.Tie as tie
 
-abbrev invariant-loop : tie.invariant-loop
-invariant-loop a b i₀ i = (i ≤ length a) × ((length a ≡ length b) × Decides a b i)
+abbrev invariant-loop-i : tie.invariant-loop-i
+invariant-loop-i a b i₀ i = (i ≤ length a) × ((length a ≡ length b) × Decides a b i)
 
-abbrev decreases-loop : tie.decreases-loop
-decreases-loop a b i₀ i = length a - i
+abbrev decreases-loop-i : tie.decreases-loop-i
+decreases-loop-i a b i₀ i = length a - i
 
-pub same-bytes-spec : {M : Type 1} → statement M
-same-bytes-spec =
+pub same_bytes_spec : {M : Type 1} → statement M
+same_bytes_spec =
     tie.close
     (tie.spec
-    invariant-loop
-    decreases-loop
-    (λ c. sym (other_length _ _ c.if1.true))
+    invariant-loop-i
+    decreases-loop-i
+    (λ c. sym (other_length _ _ c.if-a-b.true))
     (λ c. (omega arith, (omega arith, refl)))
     (λ c. search rules) (λ c. search rules)
-    (λ c. differ-at _ _ c.before.before.before.before.loop.i c.before.before.before.before.loop.invariant.1.1 (omega arith) (omega arith) c.if2.true)
+    (λ c. differ-at _ _ c.loop-i.i c.loop-i.invariant.1.1 (omega arith) (omega arith) c.if-a-i.true)
     (λ c. omega arith) (λ c. omega arith)
-    (λ c. (omega arith, (omega arith, same_next _ _ c.before.before.before.before.loop.i c.before.before.before.before.loop.invariant.1.1 (omega arith) (omega arith) c.if2.false)))
-    (λ c. same-all _ _ c.before.loop.i c.before.loop.invariant.1.1 (omega arith) (omega arith)))
+    (λ c. (omega arith, (omega arith, same_next _ _ c.loop-i.i c.loop-i.invariant.1.1 (omega arith) (omega arith) c.if-a-i.false)))
+    (λ c. same-all _ _ c.loop-i.i c.loop-i.invariant.1.1 (omega arith) (omega arith)))

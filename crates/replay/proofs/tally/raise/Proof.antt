@@ -5,11 +5,11 @@ use Rattle.replay.specs.Tally.{raised}
 use Rattle.replay.proofs.tally.raise.Statement.{statement}
 use Rattle.replay.proofs.tally.raise.Tie as tie
 
-pub raise-spec : {M : Type 1} → statement M
+pub raise_spec : {M : Type 1} → statement M
 unfolding raised
-raise-spec =
+raise_spec =
     tie.close
     (tie.spec
     (λ c. search rules) (λ c. search rules) (λ c κs. search rules) (λ c. search rules) (λ c. search rules) (λ c. search rules)
-    (λ c. simp c.wrapping-add-u64.ensures)
+    (λ c. simp c.wrapping_add_u64.ensures)
     (λ c. sym (set_out _ _ _ (omega arith))))

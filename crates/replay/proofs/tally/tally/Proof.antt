@@ -4,11 +4,11 @@ use Rattle.replay.specs.Tally.{tallied}
 use Rattle.replay.proofs.tally.tally.Statement.{statement}
 use Rattle.replay.proofs.tally.tally.Tie as tie
 
-pub tally-spec : {M : Type 1} → statement M
+pub tally_spec : {M : Type 1} → statement M
 unfolding tallied
-tally-spec =
+tally_spec =
     tie.close
     (tie.spec
     (λ c κs. search rules) (λ c κs. search rules) (λ c κs. search rules)
-    (λ c. simp (c.raise3.ensures, c.before.before.before.raise2.ensures, c.before.before.before.before.before.raise.ensures, c.before.before.if1.true))
-    (λ c. simp (c.before.raise2.ensures, c.before.before.before.raise.ensures, c.if1.false)))
+    (λ c. simp (c.raise-then-differs.ensures, c.raise-2.ensures, c.raise.ensures, c.if-differs.true))
+    (λ c. simp (c.raise-2.ensures, c.raise.ensures, c.if-differs.false)))
