@@ -10,4 +10,4 @@ tell_spec =
     tie.close
     (tie.spec
     (λ c κs. search rules) (λ c. search rules) (λ c κs. search rules) (λ c. search rules) (λ c. search rules)
-    (λ c. (refl, c.save.ensures ∙ ap (λ l. stored c.args.answer.now 0 (bytes_of l)) c.Numbers-of.ensures)))
+    (λ c. (refl, c.save.ensures ∙ ap (λ l. stored c.args.answer.now 0 (bytes_of l)) c.numbers_of-told.ensures)))
