@@ -13,7 +13,7 @@ with_constant_spec =
     (λ c κs. search rules)
     (λ c.
     let a = c.args in
-    refusing 2 c.refuse.ensures (constant-late (sheet_of a.s a.out.now) a.b.now c.if-s-gt2.true))
+    refusing 2 c.refuse.ensures (constant-late (sheet_of a.s a.out.now) a.b.now (omega arith)))
     (λ c κs. search rules)
     (λ c.
     let a = c.args in

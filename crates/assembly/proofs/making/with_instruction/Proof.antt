@@ -15,7 +15,7 @@ with_instruction_spec =
     (λ c κs. search rules)
     (λ c.
     let a = c.args in
-    refusing 3 c.refuse.ensures (instruction-many (sheet_of a.s a.out.now) a.b.now c.if-instructions-ge-LONGEST.true))
+    refusing 3 c.refuse.ensures (instruction-many (sheet_of a.s a.out.now) a.b.now (omega arith)))
     (λ c κs. search rules) (λ c. search rules) (λ c. search rules) (λ c κs. search rules)
     (λ c.
     let a = c.args in

@@ -1,5 +1,6 @@
 -- `reading::blankness_of` meets its contract.
-use mathlib.Core.Path.{sym, ap}
+use native.Mathlib.Omega.{arith}
+use mathlib.Core.Path.{◌≡◌, sym, ap}
 use mathlib.Core.Bool.{cond}
 use Rattle.assembly.specs.Assembled.{is_blank}
 use Rattle.assembly.specs.Reading.{blankness}
@@ -12,7 +13,7 @@ unfolding is_blank
 blankness_of_spec =
     tie.close
     (tie.spec
-    (λ c. sym (ap blankness c.if-b-eq32.true))
-    (λ c. sym (ap blankness c.if-b-eq9.true))
-    (λ c. sym (ap blankness c.if-b-eq13.true))
-    (λ c. sym (ap (λ t. cond t 1 0) (no_blank _ c.if-b-eq32.false c.if-b-eq9.false c.if-b-eq13.false))))
+    (λ c. let e : c.args.b ≡ 32 = omega arith in sym (ap blankness e))
+    (λ c. let e : c.args.b ≡ 9 = omega arith in sym (ap blankness e))
+    (λ c. let e : c.args.b ≡ 13 = omega arith in sym (ap blankness e))
+    (λ c. sym (ap (λ t. cond t 1 0) (no_blank c.args.b (omega arith) (omega arith) (omega arith)))))
