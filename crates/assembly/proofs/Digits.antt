@@ -1,16 +1,16 @@
 -- Hexadecimal digits of a word.
 use Prim.Native.Nat.{ℕ, zero, suc, ◌+◌, ◌-◌, ◌*◌, ◌%◌, ◌≤◌, ◌<◌}
 use mathlib.Core.Path.{◌≡◌, refl, sym, ap, ◌∙◌}
-use mathlib.Core.Bool.{Bool, true, false, cond, ◌&&◌}
+use mathlib.Core.Bool.{true, false, ◌&&◌}
 use mathlib.Core.List.{List, [], ◌∷◌}
 use native.Mathlib.Omega.{arith}
 use native.Mathlib.Numerals.{add-one}
 use borrow.Author.Tests.{lt-leb, le-leb, lt-ltb, le-ltb, ltb-true, eq-eqb, ne_eqb}
 use lib.ListN.{length, drop, get_or, drop_of_length-le}
 use lib.Seq.{drop-cons}
-use lib.Dec.{leb, ltb}
+use lib.Dec.{ltb}
 use Rattle.assembly.specs.Assembled.{digit, is_digit, are_digits, pair, bits_of}
-use Rattle.mir.specs.Read.{Read, got, refused, and_then}
+use Rattle.mir.specs.Read.{got, refused, and_then}
 use Rattle.text.specs.declared.line.Line.{Line}
 use Rattle.text.specs.Line.{add_all}
 use Rattle.mir.proofs.Tables.{and_left, and_right}

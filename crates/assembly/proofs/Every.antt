@@ -2,17 +2,17 @@
 use Prim.Native.Nat.{ℕ, zero, suc, ◌-◌, ◌≤◌}
 use mathlib.Core.Path.{◌≡◌, refl, sym, ap, ◌∙◌}
 use mathlib.Core.Bool.{Bool, true, ◌&&◌}
-use mathlib.Core.List.{List, [], ◌∷◌, map}
+use mathlib.Core.List.{List, ◌∷◌, map}
 use native.Mathlib.Omega.{arith}
 use borrow.Author.Tests.{ne_eqb}
-use lib.Dec.{leb, leb→le, eqb}
+use lib.Dec.{leb, leb→le}
 use lib.ListN.{length, get_or, replicate, get_or-map}
 use Rattle.mir.specs.Read.{Read, got, and_then}
 use Rattle.mir.specs.Encode.{record_of}
 use Rattle.mir.specs.Length.{length_of}
 use Rattle.mir.proofs.Tables.{and_left, and_right}
 use Rattle.text.specs.Text.{ascii}
-use Rattle.assembly.specs.Assembled.{LineKind, mode, real, constant_line, instruction, FirstWord, heads, nothing}
+use Rattle.assembly.specs.Assembled.{mode, real, constant_line, instruction, FirstWord, heads, nothing}
 use Rattle.assembly.specs.Assembled.{Reading, begun, taking_all, no_more}
 use Rattle.assembly.specs.Making.{part_of}
 use Rattle.assembly.proofs.Pieces.{true_t}

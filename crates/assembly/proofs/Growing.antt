@@ -1,14 +1,14 @@
 -- A sheet that stands at the front of lent bytes, with a line more.
-use Prim.Native.Nat.{ℕ, zero, suc, ◌+◌, ◌*◌, ◌≤◌, ◌<◌}
+use Prim.Native.Nat.{ℕ, suc, ◌+◌, ◌*◌, ◌≤◌, ◌<◌}
 use mathlib.Core.Path.{◌≡◌, refl, sym, ap, ◌∙◌, subst}
 use mathlib.Core.Bool.{Bool, true, false, not, cond}
-use mathlib.Core.List.{List, [], ◌∷◌, ◌++◌}
+use mathlib.Core.List.{List, ◌++◌}
 use native.Mathlib.Omega.{arith}
 use native.Mathlib.Numerals.{add-one}
 use borrow.Author.Tests.{lt-ltb, le-ltb, le-leb, lt-leb, eq-eqb, ne_eqb}
-use lib.Dec.{ltb, leb, eqb, eqb-suc-zero}
-use lib.ListN.{length, take, replicate, length-append, length-set}
-use lib.Seq.{sets, sets-eq, length-sets, length-take-le, take_at}
+use lib.Dec.{leb, eqb, eqb-suc-zero}
+use lib.ListN.{length, take, replicate, length-append}
+use lib.Seq.{sets-eq, length-take-le, take_at}
 use Rattle.words.specs.Bytes.{stored}
 use Rattle.words.proofs.Stored.{stored_fits, stored_front}
 use Rattle.mir.specs.declared.records.Loc.{Loc}

@@ -1,21 +1,20 @@
 -- A line that was read has at most 80 bytes: what the code keeps of it is all of it.
-use Prim.Native.Nat.{ℕ, zero, suc, ◌+◌, ◌*◌, ◌≤◌}
+use Prim.Native.Nat.{ℕ, ◌+◌, ◌*◌, ◌≤◌}
 use mathlib.Core.Path.{◌≡◌, refl, sym, ap, ◌∙◌, subst}
 use mathlib.Core.Bool.{Bool, true, false, not, cond, ◌&&◌}
-use mathlib.Core.List.{List, [], ◌∷◌, ◌++◌, map}
+use mathlib.Core.List.{List, [], ◌∷◌, map}
 use native.Mathlib.Omega.{arith}
 use lib.Dec.{eqb, lit≤}
 use lib.ListN.{length, take, get_or, length-append}
 use Rattle.mir.specs.Read.{Read, got, refused, refuse, and_then}
 use Rattle.mir.proofs.Passing.{then, got_same, stopped}
-use Rattle.text.specs.declared.line.Line.{Line}
-use Rattle.text.specs.Line.{empty_line, add_all, Holds}
+use Rattle.text.specs.Line.{empty_line, add_all}
 use Rattle.text.proofs.Whole.{whole}
 use Rattle.assembly.specs.Assembled.{Sort, a_register, a_class, an_index, a_byte, a_mode, bits, LineKind, Reading}
 use Rattle.assembly.specs.Assembled.{number_from, register_words, class_words, index_words, mode_words, are_digits, pair, bits_of, word_bytes}
 use Rattle.assembly.specs.Assembled.{onto, taking, taking_all, no_more, begun, heads, nothing, line_of}
 use Rattle.assembly.specs.declared.reading.LineRead.{LineRead}
-use Rattle.assembly.specs.Making.{Told, part_of, tagged, as_line, told}
+use Rattle.assembly.specs.Making.{part_of, tagged, as_line, told}
 use Rattle.assembly.proofs.Every.{after_first, few}
 
 -- at most so many bytes, where they were read

@@ -1,21 +1,21 @@
 -- A constant's line says the constant's bytes.
-use Prim.Native.Nat.{ℕ, zero, suc, ◌+◌, ◌-◌, ◌*◌, ◌/◌, ◌%◌, ◌≤◌, ◌<◌}
+use Prim.Native.Nat.{ℕ, zero, suc, ◌+◌, ◌*◌, ◌/◌, ◌%◌, ◌<◌}
 use mathlib.Core.Path.{◌≡◌, refl, sym, ap, ◌∙◌, subst}
-use mathlib.Core.Bool.{Bool, true, false, not, cond, ◌&&◌}
+use mathlib.Core.Bool.{Bool, true, not, ◌&&◌}
 use mathlib.Core.List.{List, [], ◌∷◌, ◌++◌, append_assoc, append-nil}
 use native.Mathlib.Omega.{arith}
 use borrow.Author.Tests.{lt-ltb, eqb-true}
 use lib.Dec.{T, ltb, eqb}
-use lib.ListN.{length, get_or}
+use lib.ListN.{length}
 use Rattle.words.specs.Bytes.{number}
-use Rattle.mir.specs.Read.{Read, got, refused, refuse, and_then}
+use Rattle.mir.specs.Read.{got, refuse}
 use Rattle.mir.proofs.Tables.{and_left, and_right}
-use Rattle.text.specs.Text.{ascii, hex_digit, hex_in, hex}
+use Rattle.text.specs.Text.{ascii, hex_digit, hex_in}
 use Rattle.assembly.specs.Lines.{constant_line}
 use Rattle.assembly.specs.Assembled.{digit, is_digit, are_digits, pair, bits_of, Sort, bits, word_bytes, FirstWord, heads}
 use Rattle.assembly.specs.Assembled as Spec
-use Rattle.assembly.proofs.Pieces.{t_true, true_t, both, over, is_word, passing, passes}
-use Rattle.assembly.proofs.Saying.{Fields, none, and, Says, says, retold}
+use Rattle.assembly.proofs.Pieces.{t_true, true_t, both, over, passing, passes}
+use Rattle.assembly.proofs.Saying.{none, and, Says, says, retold}
 use Rattle.assembly.proofs.Rows.{Row, row}
 
 -- a digit is the one of its number, and a word's byte

@@ -1,12 +1,12 @@
 -- The instructions of a sheet, printed and assembled one after the other.
-use Prim.Native.Nat.{ℕ, zero, suc, ◌+◌, ◌-◌, ◌*◌, ◌≤◌, ◌<◌}
+use Prim.Native.Nat.{ℕ, zero, suc, ◌+◌, ◌*◌, ◌≤◌, ◌<◌}
 use mathlib.Core.Path.{◌≡◌, refl, sym, ap, ◌∙◌, subst}
 use mathlib.Core.Bool.{Bool, true, false, not, cond}
-use mathlib.Core.List.{List, [], ◌∷◌, ◌++◌}
+use mathlib.Core.List.{List, [], ◌++◌}
 use native.Mathlib.Omega.{arith}
 use borrow.Author.Tests.{ltb-true, ltb-false, le-ltb, lt-leb, eq-eqb, eqb-true}
 use lib.Dec.{ltb, eqb}
-use lib.ListN.{length, get_or, take, drop, length-drop, drop_of_length-le}
+use lib.ListN.{length, take, drop, length-drop, drop_of_length-le}
 use lib.Seq.{length-take-le, get_or-take, get_or-drop, take_all, take-add, drop-drop}
 use Rattle.mir.specs.declared.records.Instruction.{Instruction}
 use Rattle.mir.specs.Length.{lengths, length_of}
@@ -22,8 +22,8 @@ use Rattle.sheet.specs.Instruction.{fields_from, instruction_from, load_math_fro
 use Rattle.sheet.proofs.Reading.{whole}
 use Rattle.assembly.specs.Lines.{instruction_line}
 use Rattle.assembly.specs.SheetText.{instruction_lines}
-use Rattle.assembly.specs.Assembled.{instruction, Draft, is_got, with_line}
-use Rattle.assembly.proofs.Saying.{Says, Onward, stay, ◌▹◌, onward_as, by_line}
+use Rattle.assembly.specs.Assembled.{Draft, is_got, with_line}
+use Rattle.assembly.proofs.Saying.{Onward, stay, ◌▹◌, onward_as, by_line}
 use Rattle.assembly.proofs.Spelling.{SaysInstruction, Reads, Kind, nop, uni, bi, mov, load, save, load-const, fused, if-else, load-math, load_const_math, label, branch, branch_if}
 
 module _ {n : ℕ} {s : List ℕ} where
@@ -158,6 +158,7 @@ module _ (s : List ℕ) (count : ℕ) (most : count ≤ 251) (bytes : Bytes s) w
       let q = decoded-torn reader (drop at s) (suc m) f (omega (arith, h, d)) in
       let z : suc m ≡ 0 = sym (ap (λ d. d.fault) q) ∙ e in
       absurd (omega (arith, z))
+  next at index stage h k e b more (refused zero) f x5 = elim x5 [ ]
 
   pub all : (fuel at index stage : ℕ) → length s ≤ fuel + at → at ≤ length s → 1 ≤ stage → fault reader (drop at s) ≡ 0
       → index + length (items reader (drop at s)) ≤ 612

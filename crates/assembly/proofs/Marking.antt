@@ -5,12 +5,12 @@ use mathlib.Core.Bool.{Bool, true, false, cond}
 use mathlib.Core.List.{List, [], ◌∷◌}
 use native.Mathlib.Omega.{arith}
 use borrow.Author.Tests.{lt-ltb, le-ltb, eqb-true, eqb-false, eq-eqb, ne_eqb}
-use lib.Dec.{ltb, eqb}
+use lib.Dec.{eqb}
 use lib.ListN.{length, get_or, take, set}
 use lib.Seq.{set_out}
 use lib.Pow.{pow_pos}
 use Rattle.mir.specs.declared.records.Loc.{Loc}
-use Rattle.mir.specs.Read.{Read, got, refused, refuse, and_then}
+use Rattle.mir.specs.Read.{Read, got, refused, refuse}
 use Rattle.mir.specs.Field.{u16_at, classed, place_at}
 use Rattle.mir.proofs.Passing.{either}
 use Rattle.assembly.specs.Assembled.{marked}

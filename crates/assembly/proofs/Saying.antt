@@ -1,16 +1,16 @@
 -- What a printed line says, and lines one after the other.
-use Prim.Native.Nat.{ℕ, zero, suc, ◌+◌, ◌-◌, ◌*◌, ◌≤◌, ◌<◌}
-use mathlib.Core.Path.{◌≡◌, refl, sym, ap, ◌∙◌, subst}
-use mathlib.Core.Bool.{Bool, true, false, cond, ◌&&◌}
-use mathlib.Core.List.{List, [], ◌∷◌, ◌++◌, map, append_assoc, append-nil}
+use Prim.Native.Nat.{ℕ, suc, ◌+◌, ◌≤◌, ◌<◌}
+use mathlib.Core.Path.{◌≡◌, sym, ap, ◌∙◌, subst}
+use mathlib.Core.Bool.{false, cond}
+use mathlib.Core.List.{List, [], ◌∷◌, ◌++◌, append_assoc, append-nil}
 use native.Mathlib.Omega.{arith}
 use borrow.Author.Tests.{ne_eqb}
 use lib.Dec.{T, eqb}
-use lib.ListN.{length, get_or}
-use Rattle.mir.specs.Read.{Read, got, refused, and_then}
-use Rattle.assembly.specs.Assembled.{number_from, word_bytes, Sort, LineKind, FirstWord, nothing, heads, Reading, onto, taking, taking_all, no_more, begun, line_of, pieces, uncommented, words_of, Draft, with_line, first_line, with_words, stepped, after_line, assembled_from}
+use lib.ListN.{get_or}
+use Rattle.mir.specs.Read.{got, and_then}
+use Rattle.assembly.specs.Assembled.{word_bytes, Sort, LineKind, FirstWord, nothing, heads, onto, taking, taking_all, no_more, begun, line_of, pieces, uncommented, words_of, Draft, with_line, first_line, with_words, stepped, after_line, assembled_from}
 use Rattle.assembly.proofs.Pieces.{is_word, are_words, tails, line-words, first, both}
-use Rattle.assembly.proofs.Words.{Stands, head_word}
+use Rattle.assembly.proofs.Words.{head_word}
 
 -- words that stand for bytes, sort by sort
 pub data Fields : List Sort → List (List ℕ) → List ℕ → Type 0 where

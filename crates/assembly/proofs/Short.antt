@@ -1,8 +1,7 @@
 -- No line of a sheet's text is cut: each has at most 80 bytes.
 use Prim.Native.Nat.{ℕ, ◌≤◌, ◌<◌}
 use native.Mathlib.Omega.{arith}
-use mathlib.Core.Bool.{Bool, true, false}
-use lib.Dec.{ltb, eqb, lit≤}
+use lib.Dec.{eqb, lit≤}
 use lib.ListN.{length, length-append}
 use Rattle.mir.specs.declared.ops.ArithOp.{ArithOp}
 use Rattle.mir.specs.Operation.{arith_number}
@@ -10,7 +9,7 @@ use Rattle.mir.specs.declared.records.Loc.{Loc}
 use Rattle.mir.specs.declared.records.Instruction.{Instruction}
 use Rattle.sheet.specs.declared.setup.Mode.{Mode}
 use Rattle.text.specs.Sized.{SizedPlace}
-use Rattle.text.specs.Text.{ascii, decimal_in, decimal, hex_in, register, place}
+use Rattle.text.specs.Text.{ascii, register, place}
 use Rattle.text.proofs.Short.{name_short}
 use Rattle.reports.proofs.Brief.{either, number_short, hex_long, digits}
 use Rattle.assembly.specs.Lines.{mode_line, real_place, real_line, constant_line, named, math_names, math_name, instruction_line, reasons, refused_text}

@@ -1,17 +1,17 @@
 -- The bytes of a word by its sort.
-use Prim.Native.Nat.{ℕ, zero, suc, ◌+◌, ◌%◌, ◌≤◌, ◌<◌}
+use Prim.Native.Nat.{ℕ, suc, ◌+◌, ◌%◌, ◌≤◌, ◌<◌}
 use mathlib.Core.Path.{◌≡◌, refl, sym, ap, ◌∙◌}
 use mathlib.Core.Bool.{Bool, true, false, cond}
 use mathlib.Core.List.{List, [], ◌∷◌}
 use native.Mathlib.Omega.{arith}
 use borrow.Author.Tests.{ne_eqb}
-use lib.Dec.{eqb, lit≤}
+use lib.Dec.{lit≤}
 use lib.ListN.{length}
 use Rattle.mir.specs.Read.{Read, got, refused, and_then}
 use Rattle.text.specs.declared.line.Line.{Line}
 use Rattle.text.specs.Line.{add_all}
 use Rattle.replay.specs.Same.{same}
-use Rattle.assembly.specs.Assembled.{number_from, register_words, class_words, index_words, mode_words, bits_of, word_bytes, Sort, a_register, a_class, an_index, a_byte, a_mode, bits}
+use Rattle.assembly.specs.Assembled.{number_from, register_words, class_words, index_words, mode_words, bits_of, word_bytes, Sort, a_register, a_class, a_byte, a_mode, bits}
 use Rattle.assembly.specs.Reading.{sort_of}
 
 -- below a limit, where it is a number

@@ -1,21 +1,21 @@
 -- An instruction that is read from bytes is printed as a line that says these bytes.
-use Prim.Native.Nat.{ℕ, zero, suc, ◌+◌, ◌-◌, ◌*◌, ◌≤◌, ◌<◌}
+use Prim.Native.Nat.{ℕ, zero, suc, ◌+◌, ◌*◌, ◌≤◌, ◌<◌}
 use mathlib.Core.Path.{◌≡◌, refl, sym, ap, ◌∙◌, subst}
-use mathlib.Core.Bool.{Bool, true, false, cond}
+use mathlib.Core.Bool.{Bool, true, false}
 use mathlib.Core.List.{List, [], ◌∷◌, ◌++◌, map, append_assoc, append-nil}
 use native.Mathlib.Omega.{arith}
 use borrow.Author.Tests.{leb-false, ltb-false}
-use lib.Dec.{T, ltb, leb, eqb}
-use lib.ListN.{length, get_or, take}
+use lib.Dec.{ltb, leb, eqb}
+use lib.ListN.{length, take}
 use Rattle.mir.specs.declared.records.Loc.{Loc}
 use Rattle.mir.specs.declared.records.Instruction.{Instruction}
 use Rattle.mir.specs.Place.{class, index}
 use Rattle.mir.specs.Length.{lengths, length_of}
-use Rattle.mir.specs.Operation.{uni_ops, bin_ops, arith_ops, fused_ops, uni_number, bin_number, arith_number, fused_number, taken}
+use Rattle.mir.specs.Operation.{uni_ops, bin_ops, arith_ops, fused_ops, uni_number, bin_number, arith_number, fused_number}
 use Rattle.mir.specs.Takes.{takes_uni, takes_bin, takes_arith, takes_fused}
 use Rattle.mir.specs.Encode.{record_of, flag_byte}
-use Rattle.mir.specs.Read.{Read, got, refused, and_then}
-use Rattle.mir.specs.Field.{byte_at, u16_at, place_at, save_place, cond_place, saved_to, on_stack}
+use Rattle.mir.specs.Read.{Read, got, and_then}
+use Rattle.mir.specs.Field.{byte_at, u16_at, place_at, save_place, cond_place}
 use Rattle.mir.specs.Kinds.{uni_from, bi_from, mov_from, load_from, save_from, load_const_from, fused_from, if_else_from}
 use Rattle.mir.proofs.IfRead.{IfRead, read, tested, parted, if_read, limited}
 use Rattle.mir.proofs.Decoding.{Bytes}
@@ -23,7 +23,7 @@ use Rattle.sheet.specs.Instruction.{load_math_from, load_const_math_from, own_la
 use Rattle.text.specs.Text.{ascii, decimal, space, place, registers, record_line, record_text, uni_name, bin_name, fused_name}
 use Rattle.text.specs.Text as Text
 use Rattle.assembly.specs.Lines.{named, math_name, instruction_line}
-use Rattle.assembly.specs.Assembled.{counting, Sort, a_register, a_class, an_index, a_byte, instruction, word_bytes, FirstWord, heads}
+use Rattle.assembly.specs.Assembled.{counting, Sort, a_register, a_class, an_index, a_byte, instruction, word_bytes, heads}
 use Rattle.assembly.proofs.Pieces.{tails}
 use Rattle.assembly.proofs.Words.{register_word, index_word, class_word, class_name}
 use Rattle.assembly.proofs.Saying.{Fields, none, and, Says, says, retold}

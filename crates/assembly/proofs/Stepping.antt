@@ -1,8 +1,8 @@
 -- The lines of a text, one after the other.
-use Prim.Native.Nat.{ℕ, zero, suc, ◌+◌, ◌-◌, ◌≤◌, ◌<◌}
+use Prim.Native.Nat.{ℕ, suc, ◌+◌, ◌-◌, ◌≤◌, ◌<◌}
 use mathlib.Core.Path.{◌≡◌, refl, sym, ap, ◌∙◌, subst}
-use mathlib.Core.Bool.{Bool, true, false, cond, ◌&&◌}
-use mathlib.Core.List.{List, [], ◌∷◌, ◌++◌}
+use mathlib.Core.Bool.{Bool, cond, ◌&&◌}
+use mathlib.Core.List.{List, [], ◌∷◌}
 use native.Mathlib.Omega.{arith}
 use native.Mathlib.Numerals.{add-one}
 use borrow.Author.Tests.{eq-eqb, ne_eqb}
@@ -16,7 +16,6 @@ use Rattle.assembly.specs.Assembled.{Assembled, accepted, refused_at, after_line
 use Rattle.assembly.specs.Reading.{before}
 use Rattle.assembly.specs.declared.reading.LineRead.{LineRead}
 use Rattle.assembly.specs.declared.making.Made.{Made}
-use Rattle.assembly.specs.declared.making.MakeAnswer.{MakeAnswer}
 use Rattle.assembly.specs.Making.{part_of, sheet_of, as_sheet, refusal, Low, Room, Makes, with_read, as_assembled}
 use Rattle.assembly.proofs.Cutting.{cutting, ends_within}
 use Rattle.assembly.proofs.Growing.{makes_as}

@@ -1,32 +1,31 @@
 -- Assembling the text of a readable sheet gives its bytes again.
-use Prim.Native.Nat.{ℕ, zero, suc, ◌+◌, ◌-◌, ◌*◌, ◌≤◌, ◌<◌}
+use Prim.Native.Nat.{ℕ, suc, ◌+◌, ◌*◌, ◌≤◌, ◌<◌}
 use mathlib.Core.Path.{◌≡◌, refl, sym, ap, ◌∙◌, subst}
 use mathlib.Core.Bool.{Bool, true, false, not, cond}
 use mathlib.Core.List.{List, [], ◌∷◌, ◌++◌, append-nil}
 use native.Mathlib.Omega.{arith}
 use borrow.Author.Tests.{ltb-false, eqb-true, ne_eqb, not-false}
-use lib.Dec.{T, ltb, eqb}
+use lib.Dec.{ltb, eqb}
 use lib.ListN.{length, get_or, take, drop, replicate, length-drop}
-use lib.Seq.{length-take-le, get_or-drop, get_or-take}
+use lib.Seq.{length-take-le, get_or-take}
 use Rattle.mir.specs.Read.{Read, got, refused, and_then}
 use Rattle.mir.specs.Field.{byte_at, u16_at}
 use Rattle.mir.specs.Decode.{decoded}
 use Rattle.mir.proofs.Passing.{either, passed, clash, got_same}
 use Rattle.mir.proofs.Decoding.{Bytes}
 use Rattle.sheet.specs.declared.setup.Mode.{Mode}
-use Rattle.sheet.specs.declared.setup.Setup.{Setup}
 use Rattle.sheet.specs.Setup.{mode_from, header_from, constants_from, constants_of, setup_with, setup_from, setup}
 use Rattle.sheet.specs.Instruction.{instruction_from, cut}
 use Rattle.sheet.proofs.Limit.{cut-whole, length_cut}
-use Rattle.sheet.proofs.Setting.{Right, right}
+use Rattle.sheet.proofs.Setting.{right}
 use Rattle.text.specs.Text.{ascii}
 use Rattle.assembly.specs.Lines.{mode_line}
-use Rattle.assembly.specs.SheetText.{real_lines, constant_lines, instruction_lines, of_setup, lines_of, sheet_text, Readable}
-use Rattle.assembly.specs.Assembled.{a_mode, mode, heads, word_bytes, Draft, no_sheet, accepted, refused_at, assembled_from, assembled, pieces, unmarked}
+use Rattle.assembly.specs.SheetText.{real_lines, constant_lines, instruction_lines, of_setup, lines_of, sheet_text}
+use Rattle.assembly.specs.Assembled.{a_mode, mode, heads, word_bytes, no_sheet, accepted, refused_at, assembled_from, assembled, pieces, unmarked}
 use Rattle.assembly.specs.RoundTrip.{RoundTrip}
 use Rattle.assembly.proofs.Pieces.{tails}
 use Rattle.assembly.proofs.Words.{mode_byte, mode_name, mode_word}
-use Rattle.assembly.proofs.Saying.{none, and, Says, says, retold, Onward, ◌▹◌, onward_as, by_first}
+use Rattle.assembly.proofs.Saying.{none, and, Says, says, Onward, ◌▹◌, onward_as, by_first}
 use Rattle.assembly.proofs.Rows.{Row, row}
 use Rattle.assembly.proofs.Outcomes.{by_front}
 use Rattle.assembly.proofs.Spelling.{start}

@@ -1,13 +1,13 @@
 -- Each word of a table stands for its number, and for the bytes of its sort.
-use Prim.Native.Nat.{ℕ, zero, suc, ◌+◌, ◌-◌, ◌*◌, ◌/◌, ◌%◌, ◌≤◌, ◌<◌}
-use mathlib.Core.Path.{◌≡◌, refl, sym, ap, ◌∙◌, subst}
-use mathlib.Core.Bool.{Bool, true, false, cond, ◌&&◌}
-use mathlib.Core.List.{List, [], ◌∷◌, ◌++◌, map}
+use Prim.Native.Nat.{ℕ, zero, suc, ◌+◌, ◌<◌}
+use mathlib.Core.Path.{◌≡◌, ap, ◌∙◌, subst}
+use mathlib.Core.Bool.{Bool, false, ◌&&◌}
+use mathlib.Core.List.{List, [], map}
 use native.Mathlib.Omega.{arith}
 use borrow.Author.Tests.{eqb-true}
-use lib.Dec.{T, ltb, eqb}
-use lib.ListN.{length, get_or, get_or-map}
-use Rattle.mir.specs.Read.{Read, got, refused, and_then}
+use lib.Dec.{T, eqb}
+use lib.ListN.{get_or, get_or-map}
+use Rattle.mir.specs.Read.{Read, got, refused}
 use Rattle.mir.proofs.Tables.{and_left, and_right}
 use Rattle.replay.specs.Same.{same}
 use Rattle.sheet.specs.declared.setup.Mode.{Mode}
@@ -15,7 +15,7 @@ use Rattle.text.specs.Text.{ascii, decimal, decimal_in}
 use Rattle.text.specs.Text as Text
 use Rattle.assembly.specs.Lines.{named}
 use Rattle.mir.specs.declared.records.Loc.{Loc}
-use Rattle.mir.specs.Place.{class, index}
+use Rattle.mir.specs.Place.{class}
 use Rattle.assembly.specs.Assembled.{number_from, counting, register_words, class_words, index_words, mode_words, FirstWord, nothing, heads}
 use Rattle.assembly.proofs.Pieces.{t_true, passing, passes, is_word}
 

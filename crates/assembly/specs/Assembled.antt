@@ -8,7 +8,6 @@ use Rattle.mir.specs.Encode.{record_of}
 use Rattle.mir.specs.Read.{Read, got, refused, refuse, and_then}
 use Rattle.mir.specs.Field.{byte_at, place_at}
 use Rattle.sheet.specs.Instruction.{instruction_from}
-use Rattle.lowering.specs.Realness.{bit_at, byte_of}
 use Rattle.replay.specs.Same.{same}
 use Rattle.text.specs.Text.{ascii, decimal, uni_names, bin_names, fused_names}
 use Rattle.text.specs.Text as Text

@@ -1,5 +1,5 @@
 -- The lines of a sheet's text: one for the mode, each real place, each constant and each instruction, in the words that `listing` prints.
-use Rattle.std.specs.Prelude.{ℕ, zero, suc, ◌-◌, cond, List, [], ◌∷◌, ◌++◌, ltb, eqb}
+use Rattle.std.specs.Prelude.{ℕ, ◌-◌, cond, List, [], ◌∷◌, ◌++◌, ltb, eqb}
 use Prim.Native.String.{String}
 use Rattle.mir.specs.declared.ops.ArithOp.{ArithOp}
 use Rattle.mir.specs.Operation.{arith_number}

@@ -1,5 +1,5 @@
 -- How the program reads a text: by positions in its bytes. The answers of the code, as the definitions' own.
-use Rattle.std.specs.Prelude.{ℕ, zero, suc, cond, List, [], ◌∷◌, eqb}
+use Rattle.std.specs.Prelude.{ℕ, suc, cond, List, [], ◌∷◌, eqb}
 use Rattle.mir.specs.Read.{Read, got, refused, and_then}
 use Rattle.text.specs.declared.line.Line.{Line}
 use Rattle.text.specs.Line.{empty_line, add_all}

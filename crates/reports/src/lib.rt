@@ -1,4 +1,6 @@
 // The lines that the commands print, each from its first byte to its line feed.
+#![tactic(auto)]
+
 ghost use Rattle.text.specs.Line.{Adds, Prints};
 ghost use Rattle.reports.specs.Lines.{refusal_line, lowered_line, played_line, word_name, word_line, difference_line, more_text};
 

@@ -7,17 +7,17 @@ use Rattle.assembly.proofs.Writing.{written-long, written-short}
 use Rattle.assembly.proofs.making.assemble.Statement.{statement}
 use Rattle.assembly.proofs.making.assemble.Tie as tie
 
-pub assemble-spec : {M : Type 1} → statement M
-assemble-spec =
+pub assemble_spec : {M : Type 1} → statement M
+assemble_spec =
     tie.close
     (tie.spec
     (λ c κs. search rules)
     (λ c.
-    let e = written-long c.before.before.before.args.t.now c.before.if1.true in
+    let e = written-long c.args.t.now (omega arith) in
     let r = c.too_long.ensures in
     (r.0 ∙ e, r.1 ∙ ap length e))
     (λ c κs. search rules)
     (λ c.
-    let e = written-short c.before.before.before.args.t.now c.before.if1.false in
-    let r = c.sheet-or-refusal.ensures in
+    let e = written-short c.args.t.now (omega arith) in
+    let r = c.sheet_or_refusal.ensures in
     (r.0 ∙ e, r.1 ∙ ap length e)))

@@ -1,7 +1,6 @@
 -- `making::grow` meets its contract.
 use borrow.Author.Rules.{rules}
-use native.Mathlib.Omega.{arith}
-use Rattle.assembly.proofs.Growing.{within, fits}
+use Rattle.assembly.proofs.Growing.{fits}
 use Rattle.assembly.proofs.making.grow.Statement.{statement}
 use Rattle.assembly.proofs.making.grow.Tie as tie
 
@@ -13,4 +12,4 @@ grow_spec =
     (λ c.
     let d = c.before.before.before.before.before.before in
     let a = d.args in
-    fits a.s a.out.now d.requires.0.0 a.count a.instructions d.requires.1 a.stage a.b.now d.requires.0.1 c.before.before.put-bytes.ensures))
+    fits a.s a.out.now d.requires.0.0 a.count a.instructions d.requires.1 a.stage a.b.now d.requires.0.1 c.put_bytes.ensures))

@@ -10,6 +10,6 @@ mark_spec =
     tie.close
     (tie.spec
     (λ c. search rules)
-    (λ c. mark-out c.before.before.args.out.now c.before.before.args.i (omega arith))
+    (λ c. mark-out c.args.out.now c.args.i (omega arith))
     (λ c. search rules) (λ c κs. search rules) (λ c. search rules) (λ c. search rules)
-    (λ c. mark-in c.before.before.before.before.args.out.now c.before.before.before.before.args.i c.with-bit.ensures))
+    (λ c. mark-in c.args.out.now c.args.i c.with_bit.ensures))

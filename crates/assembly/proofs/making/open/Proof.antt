@@ -1,6 +1,5 @@
 -- `making::open` meets its contract.
 use borrow.Author.Rules.{rules}
-use native.Mathlib.Omega.{arith}
 use Rattle.assembly.proofs.Growing.{refusing, no_mode, mode_put}
 use Rattle.assembly.proofs.making.open.Statement.{statement}
 use Rattle.assembly.proofs.making.open.Tie as tie
@@ -11,12 +10,12 @@ open_spec =
     (tie.spec
     (λ c κs. search rules)
     (λ c.
-    let a = c.before.before.before.before.args in
-    refusing 0 c.refuse.ensures (no_mode a.head a.b.now c.before.if1.true))
+    let a = c.args in
+    refusing 0 c.refuse.ensures (no_mode a.head a.b.now c.if-head-ne0.true))
     (λ c κs. search rules) (λ c. search rules) (λ c κs. search rules) (λ c. search rules) (λ c. search rules)
     (λ c.
     let p = c.before.before.before.before.before.before.before in
     let d = p.before.before.before.before.before in
     let a = d.args in
-    mode_put a.head a.out.now a.b.now p.before.before.if1.false d.requires.1 d.requires.0 p.put-bytes.ensures
-    (search rules) c.before.before.put-bytes2.ensures))
+    mode_put a.head a.out.now a.b.now p.if-head-ne0.false d.requires.1 d.requires.0 p.put_bytes.ensures
+    (search rules) c.put_bytes-2.ensures))

@@ -7,19 +7,19 @@ use Rattle.assembly.proofs.Writing.{sheet-written, line-written}
 use Rattle.assembly.proofs.making.sheet_or_refusal.Statement.{statement}
 use Rattle.assembly.proofs.making.sheet_or_refusal.Tie as tie
 
-pub sheet-or-refusal-spec : {M : Type 1} → statement M
-sheet-or-refusal-spec =
+pub sheet_or_refusal_spec : {M : Type 1} → statement M
+sheet_or_refusal_spec =
     tie.close
     (tie.spec
     (λ c. search rules) (λ c κs. search rules)
     (λ c.
-    let m = c.before.before.before.make in
-    let h : m.result.len ≤ length m.new.0 = omega (arith, m.ensures.1, m.auto.0) in
-    sheet-written m.result m.new.0 m.ensures.0 c.if1.true h)
+    let m = c.make-e in
+    let h : m.result.len ≤ length m.new.out = omega (arith, m.ensures.1, m.auto.out) in
+    sheet-written m.result m.new.out m.ensures.0 c.if-e-eq0.true h)
     (λ c κs. search rules) (λ c. search rules) (λ c. search rules) (λ c κs. search rules)
     (λ c.
-    let l = c.before.before.before.before.before in
-    let m = l.before.before.before.before.make in
-    let h : 80 ≤ length m.new.0 = search rules in
-    line-written m.result m.new.0 m.ensures.0 l.before.if1.false l.refused-line.ensures h
-    c.before.put-bytes.ensures))
+    let l = c in
+    let m = l.make-e in
+    let h : 80 ≤ length m.new.out = search rules in
+    line-written m.result m.new.out m.ensures.0 l.if-e-eq0.false l.refused_line-line.ensures h
+    c.put_bytes.ensures))

@@ -14,10 +14,10 @@ step_spec =
     (λ c κs. search rules)
     (λ c. omega arith)
     (λ c. omega arith)
-    (λ c. let k = ends_within 35 c.before.before.before.before.args.l.now 0 c.before.piece-end.result (omega arith) c.before.piece-end.ensures in omega (arith, k))
+    (λ c. let k = ends_within 35 c.args.l.now 0 c.piece_end-end.result (omega arith) c.piece_end-end.ensures in omega (arith, k))
     (λ c κs. search rules)
     (λ c. search rules)
     (λ c.
-    let a = c.before.before.before.before.before.before.before.before.args in
-    let p = c.before.before.before.before.before.piece-end in
-    by-words (sheet_of a.s a.out.now) a.l.now (comment_cut a.l.now p.result p.ensures) c.before.before.with-words.ensures))
+    let a = c.args in
+    let p = c.piece_end-end in
+    by-words (sheet_of a.s a.out.now) a.l.now (comment_cut a.l.now p.result p.ensures) c.with_words.ensures))

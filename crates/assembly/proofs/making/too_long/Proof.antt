@@ -8,8 +8,8 @@ use Rattle.assembly.proofs.Writing.{line_first}
 use Rattle.assembly.proofs.making.too_long.Statement.{statement}
 use Rattle.assembly.proofs.making.too_long.Tie as tie
 
-pub too-long-spec : {M : Type 1} → statement M
-too-long-spec =
+pub too_long_spec : {M : Type 1} → statement M
+too_long_spec =
     tie.close
     (tie.spec
     (λ c κs. search rules) (λ c. search rules) (λ c. search rules) (λ c κs. search rules)
@@ -17,4 +17,4 @@ too-long-spec =
     let out : List ℕ = replicate 69184 0 in
     let e = length-replicate {A = ℕ} 69184 0 in
     let h : 80 ≤ length out = omega (arith, e) in
-    line_first out c.before.before.before.before.before.long-line.ensures h c.before.put-bytes.ensures))
+    line_first out c.long_line-line.ensures h c.put_bytes.ensures))

@@ -6,19 +6,19 @@ use Rattle.assembly.proofs.Growing.{makes_as, refusing, constant-late, constant-
 use Rattle.assembly.proofs.making.with_constant.Statement.{statement}
 use Rattle.assembly.proofs.making.with_constant.Tie as tie
 
-pub with-constant-spec : {M : Type 1} → statement M
-with-constant-spec =
+pub with_constant_spec : {M : Type 1} → statement M
+with_constant_spec =
     tie.close
     (tie.spec
     (λ c κs. search rules)
     (λ c.
-    let a = c.before.before.before.before.before.args in
-    refusing 2 c.refuse.ensures (constant-late (sheet_of a.s a.out.now) a.b.now c.before.if1.true))
+    let a = c.args in
+    refusing 2 c.refuse.ensures (constant-late (sheet_of a.s a.out.now) a.b.now (omega arith)))
     (λ c κs. search rules)
     (λ c.
-    let a = c.before.before.before.before.before.before.args in
-    refusing 1 c.refuse2.ensures (constant-many (sheet_of a.s a.out.now) a.b.now (omega arith) c.before.if2.true))
+    let a = c.args in
+    refusing 1 c.refuse-then-count-ge251.ensures (constant-many (sheet_of a.s a.out.now) a.b.now (omega arith) c.if-count-ge251.true))
     (λ c. search rules) (λ c κs. search rules) (λ c. search rules)
     (λ c.
-    let a = c.before.before.before.before.before.before.before.before.before.args in
-    makes_as (constant-put (sheet_of a.s a.out.now) a.b.now (omega arith) (omega arith)) c.before.before.grow.ensures))
+    let a = c.args in
+    makes_as (constant-put (sheet_of a.s a.out.now) a.b.now (omega arith) (omega arith)) c.grow.ensures))

@@ -5,27 +5,27 @@ use Rattle.assembly.specs.Making.{sheet_of}
 use Rattle.assembly.proofs.making.with_line.Statement.{statement}
 use Rattle.assembly.proofs.making.with_line.Tie as tie
 
-pub with-line-spec : {M : Type 1} → statement M
-with-line-spec =
+pub with_line_spec : {M : Type 1} → statement M
+with_line_spec =
     tie.close
     (tie.spec
     (λ c κs. search rules)
     (λ c.
-    let a = c.before.before.before.before.args in
-    refusing 2 c.refuse.ensures (no-second-mode (sheet_of a.s a.out.now) a.b.now c.before.if1.true))
+    let a = c.args in
+    refusing 2 c.refuse.ensures (no-second-mode (sheet_of a.s a.out.now) a.b.now c.if-head-eq0.true))
     (λ c κs. search rules) (λ c. search rules)
     (λ c.
-    let a = c.before.before.before.before.before.before.before.before.args in
+    let a = c.args in
     let s = sheet_of a.s a.out.now in
-    is_real s a.b.now c.before.before.before.before.if2.true c.before.before.with-real.ensures)
+    is_real s a.b.now c.if-head-eq1.true c.with_real.ensures)
     (λ c κs. search rules) (λ c. search rules)
     (λ c.
-    let a = c.before.before.before.before.before.before.before.before.before.args in
+    let a = c.args in
     let s = sheet_of a.s a.out.now in
-    is-constant s a.b.now c.before.before.before.before.if3.true c.before.before.with-constant.ensures)
+    is-constant s a.b.now c.if-head-eq2.true c.with_constant.ensures)
     (λ c κs. search rules) (λ c. search rules)
     (λ c.
     let d = c.before.before.before.before in
-    let a = d.before.before.before.before.before.args in
-    is-instruction (sheet_of a.s a.out.now) a.b.now d.before.before.if1.false d.before.if2.false d.if3.false
-    c.before.before.with-instruction.ensures))
+    let a = d.args in
+    is-instruction (sheet_of a.s a.out.now) a.b.now d.if-head-eq0.false d.if-head-eq1.false d.if-head-eq2.false
+    c.with_instruction.ensures))

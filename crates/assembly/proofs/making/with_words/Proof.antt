@@ -14,48 +14,48 @@ use Rattle.assembly.proofs.Stepping.{step-none, step-heard, unheard-first, unhea
 use Rattle.assembly.proofs.making.with_words.Statement.{statement}
 use Rattle.assembly.proofs.making.with_words.Tie as tie
 
-pub with-words-spec : {M : Type 1} → statement M
-with-words-spec =
+pub with_words_spec : {M : Type 1} → statement M
+with_words_spec =
     tie.close
     (tie.spec
     (λ c κs. search rules)
     (λ c.
     let d = c.before.before.before.before in
     let l = d.args.l.now in
-    let p = c.before.run_end in
+    let p = c.run_end in
     step-none (sheet_of d.args.s d.args.out.now) (words_of l) d.args.s d.args.out.now d.requires refl
-    (no_words l 0 p.result p.ensures c.if1.true))
+    (no_words l 0 p.result p.ensures c.if-l-run_end.true))
     (λ c κs. search rules) (λ c. search rules)
     (λ c κs.
     let d = c.before.before.before.before.before.before.before.before.before.before in
-    let r = c.before.before.before.before.before.read-line in
-    (d.requires, (heard (words_of d.args.l.now) r.result c.before.before.before.before.if2.true r.ensures).short))
+    let r = c.read_line-t in
+    (d.requires, (heard (words_of d.args.l.now) r.result c.if-t.true r.ensures).short))
     (λ c. search rules)
     (λ c.
-    let a = c.before.before.before.before.before.before.before.before.before.before.before.before.before.args in
+    let a = c.args in
     let l = a.l.now in
-    let p = c.before.before.before.before.before.before.before.before.before.before.run_end in
-    let r = c.before.before.before.before.before.before.before.before.read-line in
-    let h = heard (words_of l) r.result c.before.before.before.before.before.before.before.if2.true r.ensures in
+    let p = c.run_end in
+    let r = c.read_line-t in
+    let h = heard (words_of l) r.result c.if-t.true r.ensures in
     step-heard (sheet_of a.s a.out.now) (words_of l) (word-at l 0 p.result p.ensures (p.result + run 0 (drop p.result l)) (omega arith) refl)
-    r.result h c.before.before.with_first.ensures)
+    r.result h c.with_first.ensures)
     (λ c κs. search rules)
     (λ c.
-    let a = c.before.before.before.before.before.before.before.before.before.args in
+    let a = c.args in
     let l = a.l.now in
-    let p = c.before.before.before.before.before.before.run_end in
-    let r = c.before.before.before.before.read-line in
-    let h = unheard (words_of l) r.result c.before.before.before.if2.false r.ensures in
+    let p = c.run_end in
+    let r = c.read_line-t in
+    let h = unheard (words_of l) r.result c.if-t.false r.ensures in
     refusing 0 c.refuse.ensures
     (unheard-first (sheet_of a.s a.out.now) (words_of l)
-    (word-at l 0 p.result p.ensures (p.result + run 0 (drop p.result l)) (omega arith) refl) h c.before.if3.true))
+    (word-at l 0 p.result p.ensures (p.result + run 0 (drop p.result l)) (omega arith) refl) h c.if-s-eq0.true))
     (λ c κs. search rules)
     (λ c.
-    let a = c.before.before.before.before.before.before.before.before.before.args in
+    let a = c.args in
     let l = a.l.now in
-    let p = c.before.before.before.before.before.before.run_end in
-    let r = c.before.before.before.before.read-line in
-    let h = unheard (words_of l) r.result c.before.before.before.if2.false r.ensures in
-    refusing 2 c.refuse2.ensures
+    let p = c.run_end in
+    let r = c.read_line-t in
+    let h = unheard (words_of l) r.result c.if-t.false r.ensures in
+    refusing 2 c.refuse-2.ensures
     (unheard-later (sheet_of a.s a.out.now) (words_of l)
-    (word-at l 0 p.result p.ensures (p.result + run 0 (drop p.result l)) (omega arith) refl) h c.before.if3.false)))
+    (word-at l 0 p.result p.ensures (p.result + run 0 (drop p.result l)) (omega arith) refl) h c.if-s-eq0.false)))

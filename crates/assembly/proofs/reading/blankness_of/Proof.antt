@@ -1,5 +1,5 @@
 -- `reading::blankness_of` meets its contract.
-use borrow.Author.Rules.{rules}
+use native.Mathlib.Omega.{arith}
 use mathlib.Core.Path.{◌≡◌, sym, ap}
 use mathlib.Core.Bool.{cond}
 use Rattle.assembly.specs.Assembled.{is_blank}
@@ -8,12 +8,12 @@ use Rattle.assembly.proofs.Runs.{no_blank}
 use Rattle.assembly.proofs.reading.blankness_of.Statement.{statement}
 use Rattle.assembly.proofs.reading.blankness_of.Tie as tie
 
-pub blankness-of-spec : {M : Type 1} → statement M
+pub blankness_of_spec : {M : Type 1} → statement M
 unfolding is_blank
-blankness-of-spec =
+blankness_of_spec =
     tie.close
     (tie.spec
-    (λ c. sym (ap blankness c.if1.true))
-    (λ c. sym (ap blankness c.if2.true))
-    (λ c. sym (ap blankness c.if3.true))
-    (λ c. sym (ap (λ t. cond t 1 0) (no_blank _ c.before.before.if1.false c.before.if2.false c.if3.false))))
+    (λ c. let e : c.args.b ≡ 32 = omega arith in sym (ap blankness e))
+    (λ c. let e : c.args.b ≡ 9 = omega arith in sym (ap blankness e))
+    (λ c. let e : c.args.b ≡ 13 = omega arith in sym (ap blankness e))
+    (λ c. sym (ap (λ t. cond t 1 0) (no_blank c.args.b (omega arith) (omega arith) (omega arith)))))

@@ -9,56 +9,56 @@ use Rattle.assembly.proofs.Cutting.{ends_within, found, not_yet, none_left}
 use Rattle.assembly.proofs.reading.number_in.Statement.{statement}
 use Rattle.assembly.proofs.reading.number_in.Tie as tie
 
-abbrev invariant-loop : tie.invariant-loop
-invariant-loop row w at₀ n₀ at n = (n ≤ at) × ((at ≤ length row) × (number_from n (pieces 32 (drop at row)) w ≡ number_from 0 (pieces 32 row) w))
+abbrev invariant-loop-at : tie.invariant-loop-at
+invariant-loop-at row w at₀ n₀ at n = (n ≤ at) × ((at ≤ length row) × (number_from n (pieces 32 (drop at row)) w ≡ number_from 0 (pieces 32 row) w))
 
-abbrev decreases-loop : tie.decreases-loop
-decreases-loop row w at₀ n₀ at n = length row - at
+abbrev decreases-loop-at : tie.decreases-loop-at
+decreases-loop-at row w at₀ n₀ at n = length row - at
 
-sub-same-bytes : tie.Need-overflow-sub-same-bytes invariant-loop decreases-loop
-sub-same-bytes c = (ends_within 32 _ _ _ c.before.before.loop.invariant.1.0 c.piece-end.ensures).0
+sub-same-bytes : tie.Need-slice_bounds-same_bytes-count invariant-loop-at decreases-loop-at
+sub-same-bytes c = (ends_within 32 _ _ _ c.loop-at.invariant.1.0 c.piece_end-end.ensures).0
 
-part-start : tie.Need-slice-bounds-same-bytes-start invariant-loop decreases-loop
+part-start : tie.Need-slice_bounds-same_bytes-start invariant-loop-at decreases-loop-at
 part-start c =
-    let k = ends_within 32 _ _ _ c.before.before.loop.invariant.1.0 c.piece-end.ensures in
+    let k = ends_within 32 _ _ _ c.loop-at.invariant.1.0 c.piece_end-end.ensures in
     omega (arith, k)
 
-part_end : tie.Need-slice-bounds-same-bytes-end invariant-loop decreases-loop
+part_end : tie.Need-slice_bounds-same_bytes-end invariant-loop-at decreases-loop-at
 part_end c =
-    let k = ends_within 32 _ _ _ c.before.before.loop.invariant.1.0 c.piece-end.ensures in
+    let k = ends_within 32 _ _ _ c.loop-at.invariant.1.0 c.piece_end-end.ensures in
     omega (arith, k)
 
-returns : tie.Need-returns invariant-loop decreases-loop
+returns : tie.Need-returns-then-same_bytes invariant-loop-at decreases-loop-at
 returns c =
-    let v = c.before.before.before.before.before.loop in
-    found _ _ v.at _ v.n v.invariant.1.1 (omega arith) c.before.before.before.piece-end.ensures (sym c.if1.true ∙ c.before.same_bytes.ensures)
+    let v = c.loop-at in
+    found _ _ v.at _ v.n v.invariant.1.1 (omega arith) c.piece_end-end.ensures (sym c.if-same_bytes.true ∙ c.same_bytes.ensures)
 
-returns-2 : tie.Need-returns-2 invariant-loop decreases-loop
+returns-2 : tie.Need-returns-then-row-end invariant-loop-at decreases-loop-at
 returns-2 c =
-    let v = c.before.before.before.before.before.before.loop in
-    let e = c.before.before.before.before.piece-end.ensures in
-    let a = c.before.before.before.before.before.before.before.before.before.args in
-    none_left a.row.now _ (c.before.before.before.before.piece-end.result + 1) _ (not_yet _ _ v.at _ v.n v.invariant.1.1 (omega arith) e (sym c.before.if1.false ∙ c.before.before.same_bytes.ensures)) (omega arith)
+    let v = c.loop-at in
+    let e = c.piece_end-end.ensures in
+    let a = c.args in
+    none_left a.row.now _ (c.piece_end-end.result + 1) _ (not_yet _ _ v.at _ v.n v.invariant.1.1 (omega arith) e (sym c.if-same_bytes.false ∙ c.same_bytes.ensures)) (omega arith)
 
-loop-less : tie.Need-loop-smaller invariant-loop decreases-loop
+loop-less : tie.Need-loop-at-smaller invariant-loop-at decreases-loop-at
 loop-less c =
-    let v = c.before.before.before.before.before.before.loop in
-    let k = ends_within 32 _ _ _ v.invariant.1.0 c.before.before.before.before.piece-end.ensures in
+    let v = c.loop-at in
+    let k = ends_within 32 _ _ _ v.invariant.1.0 c.piece_end-end.ensures in
     omega (arith, k)
 
-loop-again : tie.Need-loop-preserved invariant-loop decreases-loop
+loop-again : tie.Need-loop-at-preserved invariant-loop-at decreases-loop-at
 loop-again c =
-    let v = c.before.before.before.before.before.before.loop in
-    let e = c.before.before.before.before.piece-end.ensures in
+    let v = c.loop-at in
+    let e = c.piece_end-end.ensures in
     let k = ends_within 32 _ _ _ v.invariant.1.0 e in
-    (omega (arith, k), (omega arith, not_yet _ _ v.at _ v.n v.invariant.1.1 (omega arith) e (sym c.before.if1.false ∙ c.before.before.same_bytes.ensures)))
+    (omega (arith, k), (omega arith, not_yet _ _ v.at _ v.n v.invariant.1.1 (omega arith) e (sym c.if-same_bytes.false ∙ c.same_bytes.ensures)))
 
-pub number-in-spec : {M : Type 1} → statement M
-number-in-spec =
+pub number_in_spec : {M : Type 1} → statement M
+number_in_spec =
     tie.close
     (tie.spec
-    invariant-loop
-    decreases-loop
+    invariant-loop-at
+    decreases-loop-at
     (λ c. (omega arith, (omega arith, refl)))
     (λ c κs. search rules)
     sub-same-bytes
@@ -70,4 +70,4 @@ number-in-spec =
     (λ c. omega arith) (λ c. omega arith)
     loop-less
     loop-again
-    (λ c. none_left c.before.before.before.before.args.row.now _ c.before.loop.at _ c.before.loop.invariant.1.1 (omega arith)))
+    (λ c. none_left c.args.row.now _ c.loop-at.at _ c.loop-at.invariant.1.1 (omega arith)))

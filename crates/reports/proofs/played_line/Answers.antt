@@ -1,0 +1,16 @@
+-- `reports::played_line` meets its contract.
+use borrow.Author.Tests.{eq-eqb, ne_eqb}
+use Rattle.text.specs.Line.{◌▹◌}
+use Rattle.text.specs.Text.{ascii}
+use Rattle.text.proofs.Whole.{prints}
+use Rattle.reports.specs.Lines.{played_line}
+use Rattle.reports.proofs.Brief.{played_short}
+use Rattle.reports.proofs.played_line.Goals as goal
+
+pub returns-then-number-ne0 : goal.returns-then-number-ne0
+unfolding ascii played_line
+returns-then-number-ne0 c = simp (ne_eqb _ _ c.if-number-ne0.true) c.refusal_line.ensures
+
+pub returns : goal.returns
+unfolding ascii played_line
+returns c = simp (eq-eqb _ _ c.if-number-ne0.false) (prints c.empty_line.ensures (c.text.ensures ▹ c.number.ensures ▹ c.number-2.ensures ▹ c.byte.ensures) (played_short 0 c.args.index c.args.played))
