@@ -29,7 +29,7 @@ use Rattle.lowering.specs.Labels.{Role, role, Standing, none_standing, sees, lat
 use Rattle.lowering.specs.Lower.{Ended, ended, past, lower_from, barred}
 use Rattle.lowering.specs.Origins.{origins_from}
 use Rattle.lowering.proofs.Ahead.{label_in, seen_first}
-use Rattle.lowering.proofs.Tests.{no, neither, goes_on, refused-label, refused-barred, refused-long}
+use Rattle.lowering.proofs.Tests.{no, neither, goes_on as admitted_on, refused-label, refused-barred, refused-long}
 use Rattle.lines.proofs.Fitting.{push_all_fits}
 use Rattle.complexifier.specs.Does.{state}
 use Rattle.rerun.specs.declared.output.Output.{Output}
@@ -187,7 +187,7 @@ module _ (mode : Mode) (i : Instruction) {stage stage' listing constants : List 
       record {
         same = λ is fault rest stood m u.
             let next = passed (role i) p.low.real stood in
-            (goes_on mode (length listing) i stood (past rest) _ before (λ n. ended_at n listing constants p) _
+            (admitted_on mode (length listing) i stood (past rest) _ before (λ n. ended_at n listing constants p) _
             (record { placed = m; allowed = b; equal = u; fits = omega (arith, room, written-length) }))
             ∙ ap (λ s. lower_from mode (length listing) is fault (past rest) next (suc p.index) (take p.written listing ++ bytes) s) (sym e.kept)
             ∙ sym (λ j. lower_from mode (length listing) is fault (past rest) next (add-one p.index j) (x j) (state t.low (y j)));

@@ -22,7 +22,7 @@ use Rattle.lowering.specs.Rerun.{rerun}
 use Rattle.lowering.specs.Labels as Labels
 use Rattle.lowering.specs.Labels.{Role, role, Standing, none_standing, misplaced, unequal, passed}
 use Rattle.lowering.specs.Lower.{barred, past}
-use Rattle.lowering.proofs.Tests.{no, neither, goes_on, refused-label, refused-barred, refused-long}
+use Rattle.lowering.proofs.Tests.{no, neither, goes_on as admitted_on, refused-label, refused-barred, refused-long}
 use Rattle.mir.specs.Read.{Read, got, refused}
 use Rattle.sheet.proofs.Limit.{nothing, on-here, on-done, on-full}
 use Rattle.sheet.proofs.Ranges.{InRange}
@@ -168,7 +168,7 @@ module _ (mode : Mode) (i : Instruction) {g g' k : List ℕ} {p : CountCursor} {
       record {
         same = λ is fault rest stood m u.
             let behind = passed (role i) p.low.real stood in
-            (goes_on mode 65536 i stood (past rest) p.taken.bytes before (λ n. refusal n p.index) _
+            (admitted_on mode 65536 i stood (past rest) p.taken.bytes before (λ n. refusal n p.index) _
             (record { placed = m; allowed = b; equal = u; fits = ltb-false _ _ h }))
             ∙ ap (λ s. shelf_from mode is fault (past rest) behind (suc p.index) (counted p.taken (role i) records) s) (sym e.kept)
             ∙ sym (λ j. shelf_from mode is fault (past rest) behind (add-one p.index j) (counted p.taken (role i) records) (state t.low (y j)));

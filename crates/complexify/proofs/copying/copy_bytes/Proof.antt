@@ -6,9 +6,9 @@ use Rattle.words.proofs.Stored.{stored_fits}
 use Rattle.complexify.proofs.copying.copy_bytes.Statement.{statement}
 use Rattle.complexify.proofs.copying.copy_bytes.Tie as tie
 
-pub copy-bytes-spec : {M : Type 1} → statement M
-copy-bytes-spec =
+pub copy_bytes_spec : {M : Type 1} → statement M
+copy_bytes_spec =
     tie.close
     (tie.spec
     (λ c κs. search rules) (λ c. search rules)
-    (λ c. c.before.before.put-bytes.ensures ∙ stored_fits _ _ _ (omega arith)))
+    (λ c. c.put_bytes.ensures ∙ stored_fits _ _ _ (omega arith)))

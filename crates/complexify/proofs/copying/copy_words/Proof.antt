@@ -6,9 +6,9 @@ use Rattle.words.proofs.Stored.{stored_fits}
 use Rattle.complexify.proofs.copying.copy_words.Statement.{statement}
 use Rattle.complexify.proofs.copying.copy_words.Tie as tie
 
-pub copy-words-spec : {M : Type 1} → statement M
-copy-words-spec =
+pub copy_words_spec : {M : Type 1} → statement M
+copy_words_spec =
     tie.close
     (tie.spec
     (λ c κs. search rules) (λ c. search rules)
-    (λ c. c.before.before.put-words.ensures ∙ stored_fits _ _ _ (omega arith)))
+    (λ c. c.put_words.ensures ∙ stored_fits _ _ _ (omega arith)))

@@ -7,11 +7,11 @@ use Rattle.sheet.proofs.Setting.{length_constants}
 use Rattle.complexify.proofs.copying.put_constants.Statement.{statement}
 use Rattle.complexify.proofs.copying.put_constants.Tie as tie
 
-pub put-constants-spec : {M : Type 1} → statement M
-put-constants-spec =
+pub put_constants_spec : {M : Type 1} → statement M
+put_constants_spec =
     tie.close
     (tie.spec
-    (λ c κs. c.before.if1.true)
+    (λ c κs. c.if-count-constants.true)
     (λ c. search rules)
-    (λ c. let a = c.before.before.before.before.before.before.before.args in let h = c.before.before.before.before.if1.true in c.before.before.copy-constants.ensures ∙ sym (stored_fits _ _ _ (omega (arith, h, length_constants a.sheet.now a.count 0))))
-    (λ c. let a = c.before.before.before.args in let h = c.if1.false in sym (stored_full _ _ _ (omega (arith, h, length_constants a.sheet.now a.count 0)))))
+    (λ c. let a = c.args in let h = c.if-count-constants.true in c.copy_constants.ensures ∙ sym (stored_fits _ _ _ (omega (arith, h, length_constants a.sheet.now a.count 0))))
+    (λ c. let a = c.args in let h = c.if-count-constants.false in sym (stored_full _ _ _ (omega (arith, h, length_constants a.sheet.now a.count 0)))))

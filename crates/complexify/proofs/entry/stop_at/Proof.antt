@@ -3,8 +3,8 @@ use borrow.Author.Rules.{rules}
 use Rattle.complexify.proofs.entry.stop_at.Statement.{statement}
 use Rattle.complexify.proofs.entry.stop_at.Tie as tie
 
-pub stop-at-spec : {M : Type 1} → statement M
-stop-at-spec =
+pub stop_at_spec : {M : Type 1} → statement M
+stop_at_spec =
     tie.close
     (tie.spec
     (λ c. search rules))

@@ -9,17 +9,17 @@ use Rattle.complexify.proofs.Turns.{turn-barred, turn-finished, listed-few, list
 use Rattle.complexify.proofs.turn.lower_one.Statement.{statement}
 use Rattle.complexify.proofs.turn.lower_one.Tie as tie
 
-pub lower-one-spec : {M : Type 1} → statement M
-lower-one-spec =
+pub lower_one_spec : {M : Type 1} → statement M
+lower_one_spec =
     tie.close
     (tie.spec
     (λ c κs. search rules) (λ c κs. search rules) (λ c κs. search rules)
-    (λ c. simp c.refused.ensures (turn-barred c.before.before.before.before.before.before.before.before.before.requires.0 (sym (c.before.before.barred.ensures ∙ ap (λ x. barred x c.before.before.before.before.before.before.before.before.before.args.instruction c.before.before.before.before.before.before.before.before.before.args.p.low.real) c.before.before.before.is-stable.ensures) ∙ c.before.if1.true)))
-    (λ c. let r = c.before.before.before.before.before.before.before.before.requires.0 in omega (arith, r.count, r.words))
-    (λ c. let r = c.before.before.before.before.before.before.before.before.before.requires.0 in let l : length (take c.before.before.before.before.before.before.before.before.before.args.p.count c.before.before.before.before.before.before.before.before.before.args.constants.now) ≡ c.before.before.before.before.before.before.before.before.before.args.p.count = simp length-take (omega (arith, r.count, r.words)) in sym l)
+    (λ c. simp c.refused.ensures (turn-barred c.requires.0 (sym (c.barred.ensures ∙ ap (λ x. barred x c.args.instruction c.args.p.low.real) c.is_stable.ensures) ∙ c.if-barred.true)))
+    (λ c. let r = c.requires.0 in omega (arith, r.count, r.words))
+    (λ c. let r = c.requires.0 in let l : length (take c.args.p.count c.args.constants.now) ≡ c.args.p.count = simp length-take (omega (arith, r.count, r.words)) in sym l)
     (λ c κs. search rules)
-    (λ c. let w : length c.before.before.rerun.result.added.words ≡ 3 = search (rules, c.before.before.rerun.type-inv) in let h = listed-few c.before.before.before.before.before.before.before.before.before.before.before.before.before.args.mode c.before.before.before.before.before.before.before.before.before.before.before.before.before.args.instruction c.before.before.before.before.before.before.before.before.before.before.before.before.before.requires.0 c.before.before.rerun.ensures (sym (c.before.before.before.before.before.before.barred.ensures ∙ ap (λ x. barred x c.before.before.before.before.before.before.before.before.before.before.before.before.before.args.instruction c.before.before.before.before.before.before.before.before.before.before.before.before.before.args.p.low.real) c.before.before.before.before.before.before.before.is-stable.ensures) ∙ c.before.before.before.before.before.if1.false) w in let q = c.before.before.rerun.auto.1.1.1.0 in let g = c.before.before.before.before.before.before.before.before.before.before.before.before.before.requires.0.stage in omega (arith, h, q, g))
-    (λ c. let w : length c.before.before.before.rerun.result.added.words ≡ 3 = search (rules, c.before.before.before.rerun.type-inv) in let h = listed-length c.before.before.before.before.before.before.before.before.before.before.before.before.before.before.args.mode c.before.before.before.before.before.before.before.before.before.before.before.before.before.before.args.instruction c.before.before.before.before.before.before.before.before.before.before.before.before.before.before.requires.0 c.before.before.before.rerun.ensures (sym (c.before.before.before.before.before.before.before.barred.ensures ∙ ap (λ x. barred x c.before.before.before.before.before.before.before.before.before.before.before.before.before.before.args.instruction c.before.before.before.before.before.before.before.before.before.before.before.before.before.before.args.p.low.real) c.before.before.before.before.before.before.before.before.is-stable.ensures) ∙ c.before.before.before.before.before.before.if1.false) w in sym h)
-    (λ c κs. let w : length c.before.before.before.before.before.rerun.result.added.words ≡ 3 = search (rules, c.before.before.before.before.before.rerun.type-inv) in let h = listed-fits c.before.before.before.before.before.before.before.before.before.before.before.before.before.before.before.before.args.mode c.before.before.before.before.before.before.before.before.before.before.before.before.before.before.before.before.args.instruction c.before.before.before.before.before.before.before.before.before.before.before.before.before.before.before.before.requires.0 c.before.before.before.before.before.rerun.ensures (sym (c.before.before.before.before.before.before.before.before.before.barred.ensures ∙ ap (λ x. barred x c.before.before.before.before.before.before.before.before.before.before.before.before.before.before.before.before.args.instruction c.before.before.before.before.before.before.before.before.before.before.before.before.before.before.before.before.args.p.low.real) c.before.before.before.before.before.before.before.before.before.before.is-stable.ensures) ∙ c.before.before.before.before.before.before.before.before.if1.false) w in h c.before.before.before.before.before.before.before.before.before.before.before.before.before.before.before.before.requires.1)
+    (λ c. let w : length c.rerun-t.result.added.words ≡ 3 = search (rules, c.rerun-t.type_inv) in let h = listed-few c.args.mode c.args.instruction c.requires.0 c.rerun-t.ensures (sym (c.barred.ensures ∙ ap (λ x. barred x c.args.instruction c.args.p.low.real) c.is_stable.ensures) ∙ c.if-barred.false) w in let q = c.rerun-t.auto.out in let g = c.requires.0.stage in omega (arith, h, q, g))
+    (λ c. let w : length c.rerun-t.result.added.words ≡ 3 = search (rules, c.rerun-t.type_inv) in let h = listed-length c.args.mode c.args.instruction c.requires.0 c.rerun-t.ensures (sym (c.barred.ensures ∙ ap (λ x. barred x c.args.instruction c.args.p.low.real) c.is_stable.ensures) ∙ c.if-barred.false) w in sym h)
+    (λ c κs. let w : length c.rerun-t.result.added.words ≡ 3 = search (rules, c.rerun-t.type_inv) in let h = listed-fits c.args.mode c.args.instruction c.requires.0 c.rerun-t.ensures (sym (c.barred.ensures ∙ ap (λ x. barred x c.args.instruction c.args.p.low.real) c.is_stable.ensures) ∙ c.if-barred.false) w in h c.requires.1)
     (λ c. search rules) (λ c. search rules) (λ c. search rules)
-    (λ c. let w : length c.before.before.before.before.before.before.before.before.before.before.rerun.result.added.words ≡ 3 = search (rules, c.before.before.before.before.before.before.before.before.before.before.rerun.type-inv) in turn-finished c.before.before.before.before.before.before.before.before.before.before.before.before.before.before.before.before.before.before.before.before.before.args.mode c.before.before.before.before.before.before.before.before.before.before.before.before.before.before.before.before.before.before.before.before.before.args.instruction c.before.before.before.before.before.before.before.before.before.before.before.before.before.before.before.before.before.before.before.before.before.requires.0 c.before.before.before.before.before.before.before.before.before.before.rerun.ensures (sym (c.before.before.before.before.before.before.before.before.before.before.before.before.before.before.barred.ensures ∙ ap (λ x. barred x c.before.before.before.before.before.before.before.before.before.before.before.before.before.before.before.before.before.before.before.before.before.args.instruction c.before.before.before.before.before.before.before.before.before.before.before.before.before.before.before.before.before.before.before.before.before.args.p.low.real) c.before.before.before.before.before.before.before.before.before.before.before.before.before.before.before.is-stable.ensures) ∙ c.before.before.before.before.before.before.before.before.before.before.before.before.before.if1.false) w c.before.before.before.before.before.before.before.before.before.before.before.before.before.before.before.before.before.before.before.before.before.args.next c.before.before.before.before.finish.ensures))
+    (λ c. let w : length c.rerun-t.result.added.words ≡ 3 = search (rules, c.rerun-t.type_inv) in turn-finished c.args.mode c.args.instruction c.requires.0 c.rerun-t.ensures (sym (c.barred.ensures ∙ ap (λ x. barred x c.args.instruction c.args.p.low.real) c.is_stable.ensures) ∙ c.if-barred.false) w c.args.next c.finish.ensures))
