@@ -1,4 +1,4 @@
--- fused_multiply_add of IEEE 754 (5.4.1): (x × y) + z as if with unbounded range and precision, rounded once. Assumes nothing.
+-- fusedMultiplyAdd of IEEE 754 (5.4.1): (x × y) + z as if with unbounded range and precision, rounded once. Assumes nothing.
 use Rattle.std.specs.Prelude.{ℕ, ◌*◌, Bool, cond, eqb, Float}
 use Rattle.std.specs.Bool.{beq}
 use Rattle.std.specs.Float.{nan, inf, fin, Format}

@@ -1,4 +1,4 @@
--- round_to_integral of IEEE 754 (5.3.1), in each direction of 4.3, which src/integral.rt declares. Assumes nothing.
+-- roundToIntegral of IEEE 754 (5.3.1), in each direction of 4.3, which src/integral.rt declares. Assumes nothing.
 use Rattle.std.specs.Prelude.{ℕ, ◌+◌, ◌*◌, ◌/◌, ◌%◌, Bool, cond, eqb, Float}
 use Rattle.std.specs.Float.{nan, inf, fin, Format}
 use Rattle.std.specs.Float.Ieee.{up, down, round}

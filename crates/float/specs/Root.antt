@@ -1,4 +1,4 @@
--- square_root of IEEE 754 (5.4.1), over whole numbers. Assumes nothing.
+-- squareRoot of IEEE 754 (5.4.1), over whole numbers. Assumes nothing.
 use Prim.Native.Nat.{ℕ, zero, suc, ◌+◌, ◌-◌, ◌*◌, ◌/◌, ◌^◌, compare}
 use Rattle.std.specs.Prelude.{cond, false, leb, Float}
 use Rattle.std.specs.Float.{nan, inf, fin, Format}
@@ -24,7 +24,7 @@ round_root f n =
     let q = whole_root n / 2 ^ k in
     units f false (nearest q (compare (4 * n) ((2 * q + 1) * (2 * q + 1) * 4 ^ k))) k
 
--- A NaN gives a NaN (6.2), +infinity itself (6.1), either zero itself (6.3: square_root(-0) is -0), and every other negative operand a NaN (7.2).
+-- A NaN gives a NaN (6.2), +infinity itself (6.1), either zero itself (6.3: squareRoot(-0) is -0), and every other negative operand a NaN (7.2).
 -- Counted in squares of the smallest value, 2 ^ -low, the operand is a whole number.
 unfoldable pub square_root : Format → Float → Float
 unfolding round_root

@@ -62,15 +62,15 @@ half a = times a 0x3fe0_0000_0000_0000
 abbrev pub recip : ℕ → ℕ
 recip a = divide 0x3ff0_0000_0000_0000 a
 
--- square_root
+-- squareRoot
 abbrev pub root : ℕ → ℕ
 root a = unary square_root a
 
--- "MulAdd is fused_multiply_add": a * b + c
+-- "MulAdd is fusedMultiplyAdd": a * b + c
 abbrev pub mul_add : ℕ → ℕ → ℕ → ℕ
 mul_add a b c = ternary fused_multiply_add a b c
 
--- round_to_integral (5.3.1), in each direction
+-- roundToIntegral (5.3.1), in each direction
 abbrev pub integral : Direction → ℕ → ℕ
 integral d a = unary (round_to_integral d) a
 

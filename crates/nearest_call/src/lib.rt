@@ -1,4 +1,6 @@
 // The entry of `nearest` as a C function. Words go in and out as eight bytes each, the lowest first.
+#![tactic(auto)]
+
 ghost use Rattle.std.specs.Prelude.{◌≡◌};
 ghost use Rattle.words.specs.Bytes.{words_of};
 ghost use Rattle.nearest.specs.Nearest.{nearest};

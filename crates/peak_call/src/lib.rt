@@ -1,4 +1,6 @@
 // The running peak as a C function. Words go in and out as eight bytes each, the lowest first.
+#![tactic(auto)]
+
 ghost use Rattle.std.specs.Prelude.{◌≡◌};
 ghost use Rattle.peak_call.specs.PeakCall.{peak_call};
 

@@ -1,4 +1,5 @@
 -- `nearest_call::tulipcricket_nearest_unguarded` meets its contract.
+use native.Mathlib.Omega.{arith}
 use borrow.Author.Tests.{ne_eqb}
 use Rattle.nearest.specs.Answer.{as_values}
 use Rattle.nearest_call.specs.Call.{nearest_call}
@@ -17,12 +18,12 @@ tulipcricket_nearest_unguarded_spec =
     (λ c.
     let s = c.before.before.before.before.before.before.before.before.before in
     wrong-points s.args.re s.args.im s.args.points.now s.args.answer.now
-    c.if-answer-ne24.false c.if-points-ne0.true
+    c.if-answer-ne24.false (λ h. omega arith)
     c.save.ensures)
     (λ c κs. search rules) (λ c κs. search rules) (λ c. search rules) (λ c κs. search rules) (λ c κs. search rules) (λ c. search rules)
     (λ c.
     let s = c.before.before.before.before.before.before.before.before.before.before.before.before in
     given s.args.re s.args.im s.args.points.now s.args.answer.now
     c.if-answer-ne24.false (as_values c.nearest_words-found.result)
-    c.if-points-ne0.false c.nearest_words-found.ensures c.number_of_lem.ensures
-    c.Numbers-of.ensures c.save-2.ensures))
+    (omega arith) c.nearest_words-found.ensures c.number_of.ensures
+    c.numbers_of-told.ensures c.save-2.ensures))
