@@ -25,6 +25,6 @@ lower_spec =
     (λ c κs. let a = c.args in (begin-ready a.sheet.now a.listing.now a.constants.now a.origins.now c.read_setup-setup.result c.read_setup-setup.ensures c.if-setup-ne0.false c.if-listing-gt65536.false c.if-constants-ne256.false c.if-origins-ne256.false refl c.copy_constants.ensures, (omega arith, begin-origins a.sheet.now a.listing.now a.constants.now a.origins.now c.read_setup-setup.result c.read_setup-setup.ensures c.if-setup-ne0.false c.if-listing-gt65536.false c.if-constants-ne256.false c.if-origins-ne256.false c.put_origins.ensures)))
     (λ c κs. let w = c.run_marked-stop.ensures.0.listing in omega (arith, w.fits, w.long))
     (λ c. search rules)
-    (λ c. c.run_marked-stop.auto.1.1.1.1.1.0 ∙ c.copy_constants.auto.1.1.0)
-    (λ c. c.run_marked-stop.auto.1.1.1.1.1.1.0 ∙ c.put_origins.auto.0)
+    (λ c. c.run_marked-stop.auto.constants ∙ c.copy_constants.auto.constants)
+    (λ c. c.run_marked-stop.auto.origins ∙ c.put_origins.auto.origins)
     (λ c. let a = c.args in let e = c.run_marked-stop.ensures in let q = answering a.sheet.now a.listing.now a.constants.now a.origins.now c.read_setup-setup.result c.read_setup-setup.ensures c.if-setup-ne0.false c.if-listing-gt65536.false c.if-constants-ne256.false c.if-origins-ne256.false c.copy_constants.ensures (ap (λ ρ. record { real = ρ; root_defined = false }) c.fresh.ensures) c.put_origins.ensures e.1 e.0 c.marked.ensures in (q.answered, q.bytes, q.words, q.names)))

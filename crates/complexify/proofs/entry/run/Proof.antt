@@ -51,10 +51,10 @@ run_spec =
     (λ c. let i = c.loop-p.invariant.0.index in omega (arith, i))
     (λ c κs. let v = c.loop-p.invariant in let w = (turn-taken v.0.ready (still v.0.index c.if-p-eq-LONGEST.false) c.pass_at-number.ensures c.loop-p-test.true c.if-number-ne0.false c.one-t.ensures).turned.words in let n = v.0.ready.words in let m = v.6.long in (w.more, let f = w.fits in omega (arith, f, n, m)))
     (λ c. let v = c.loop-p.invariant in let h = (turn-taken v.0.ready (still v.0.index c.if-p-eq-LONGEST.false) c.pass_at-number.ensures c.loop-p-test.true c.if-number-ne0.false c.one-t.ensures).on c.if-t.false in let i = c.loop-p-test.true in omega (arith, h, i))
-    (λ c. let v = c.loop-p.invariant in let m = c.pass_at-number.auto.marks in let k = c.one-t.auto.stage in let t = (turn-taken v.0.ready (still v.0.index c.if-p-eq-LONGEST.false) c.pass_at-number.ensures c.loop-p-test.true c.if-number-ne0.false c.one-t.ensures) in let z = c.if-t.false in
-    let u = underway-next v.0 t k.0 (still v.0.index c.if-p-eq-LONGEST.false) z in
+    (λ c. let v = c.loop-p.invariant in let m = c.pass_at-number.auto in let k = c.one-t.auto in let t = (turn-taken v.0.ready (still v.0.index c.if-p-eq-LONGEST.false) c.pass_at-number.ensures c.loop-p-test.true c.if-number-ne0.false c.one-t.ensures) in let z = c.if-t.false in
+    let u = underway-next v.0 t k.stage (still v.0.index c.if-p-eq-LONGEST.false) z in
     let d = dating-next v.6 t z (not-before u) v.0.ready.words c.put_origins.ensures in
-    (u, m.0 ∙ v.1, m.1.0 ∙ v.2, k.1.0 ∙ v.3, k.1.1.0 ∙ v.4, d.long ∙ sym v.6.long ∙ v.5, d))
+    (u, m.marks ∙ v.1, m.rows ∙ v.2, k.listing ∙ v.3, k.constants ∙ v.4, d.long ∙ sym v.6.long ∙ v.5, d))
     (λ c κs. search rules) (λ c. search rules) (λ c. search rules) (λ c. search rules) (λ c. search rules) (λ c. search rules)
     (λ c. let v = c.loop-p.invariant in let a = c.args in let x = ended (instruction_from a.own) a.sheet.now c.loop-p.p.at c.loop-p-test.false in
     (ran-ended v.0 x c.stop_at-2.ensures, dated-ended v.0 v.6 x c.stop_at-2.ensures)))
