@@ -1,5 +1,6 @@
 -- `pages::call::part_of` meets its contract.
 use borrow.Author.Rules.{rules}
+use native.Mathlib.Omega.{arith}
 use mathlib.Core.Path.{sym}
 use lib.Seq.{length-take-le}
 use Rattle.words.proofs.Stored.{loaded}
@@ -14,15 +15,15 @@ part_of_spec =
     (λ c κs. search rules)
     (λ c.
     let a = c.args in
-    torn-words a.first a.most a.listing.now a.constants.now a.out.now c.if-constants-ne0.true c.refuse.ensures)
+    torn-words a.first a.most a.listing.now a.constants.now a.out.now (omega arith) c.refuse.ensures)
     (λ c κs. search rules)
     (λ c.
     let a = c.args in
-    too_many a.first a.most a.listing.now a.constants.now a.out.now c.if-constants-ne0.false c.if-n-gt256.true c.refuse-then-n-gt256.ensures)
+    too_many a.first a.most a.listing.now a.constants.now a.out.now (omega arith) c.if-n-gt256.true c.refuse-then-n-gt256.ensures)
     (λ c. search rules) (λ c κs. search rules) (λ c. search rules)
     (λ c. sym (length-take-le _ _ (search rules)))
     (λ c κs. search rules) (λ c. search rules)
     (λ c.
     let a = c.args in
-    whole_words a.first a.most a.listing.now a.constants.now a.out.now c.if-constants-ne0.false
+    whole_words a.first a.most a.listing.now a.constants.now a.out.now (omega arith)
     (loaded _ a.constants.now c.load.ensures (search rules)) c.part.ensures))
