@@ -1,6 +1,6 @@
 -- Every row of an accepted listing fits its columns; so every line has 73 bytes, and nothing is cut.
-use Prim.Native.Nat.{ℕ, zero, suc, ◌+◌, ◌-◌, ◌*◌, ◌/◌, ◌≤◌, ◌<◌}
-use mathlib.Core.Path.{◌≡◌, refl, sym, ap, ◌∙◌, subst}
+use Prim.Native.Nat.{ℕ, zero, suc, ◌+◌, ◌*◌, ◌≤◌}
+use mathlib.Core.Path.{◌≡◌, refl, sym, ap, ◌∙◌}
 use mathlib.Core.List.{List, [], ◌∷◌, ◌++◌, append_assoc}
 use native.Mathlib.Nat.{zero-add, suc-add}
 use native.Mathlib.Omega.{arith}
@@ -9,11 +9,11 @@ use lib.Seq.{take-append_seam, drop-append-add, drop-drop}
 use Rattle.mir.specs.declared.records.Record.{Record}
 use Rattle.mir.proofs.Decoding.{Bytes, items}
 use Rattle.mir.proofs.Decoding as Decoding
-use Rattle.records.specs.Record.{record_from, records}
+use Rattle.records.specs.Record.{record_from}
 use Rattle.player_machine.proofs.Refusing.{Accepted, accepted}
 use Rattle.text.specs.Text.{decimal, space}
 use Rattle.text.specs.Sized.{SizedRecord}
-use Rattle.pages.specs.Pages.{right, left, Row, row_line, blank_line, constant_row, record_row, numbered, rows, lines, pages_from, page_count, pages_text}
+use Rattle.pages.specs.Pages.{right, left, Row, row_line, blank_line, constant_row, record_row, numbered, lines, pages_from, page_count}
 use Rattle.pages.specs.Printed.{from_record0, rows_of}
 use Rattle.pages.specs.Uncut.{unindented, trimmed, Whole, Each, UncutLaw, Joined}
 use Rattle.pages.proofs.Trimming.{read_left, read_right}

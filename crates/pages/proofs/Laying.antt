@@ -1,13 +1,13 @@
 -- Pages from one on, and what laying out gives back.
 use Prim.Native.Nat.{ℕ, zero, suc, ◌+◌, ◌-◌, ◌*◌, ◌/◌, ◌≤◌, ◌<◌}
 use mathlib.Core.Path.{◌≡◌, refl, sym, ap, ◌∙◌, subst}
-use mathlib.Core.Bool.{Bool, true, false, not, cond}
+use mathlib.Core.Bool.{Bool, true, false, cond}
 use mathlib.Core.List.{List, [], ◌∷◌, ◌++◌}
 use native.Mathlib.Nat.{zero-add}
 use native.Mathlib.Omega.{arith}
 use borrow.Author.Tests.{lt-ltb, le-ltb, eq-eqb, ne_eqb, eqb-true, ltb-true}
 use lib.Dec.{ltb, eqb}
-use lib.ListN.{length, take, drop}
+use lib.ListN.{length, drop}
 use lib.Seq.{sets, sets-eq}
 use Rattle.mir.proofs.Decoding.{Bytes, items}
 use Rattle.records.specs.Record.{record_from, records}
@@ -18,11 +18,10 @@ use Rattle.player.specs.declared.Verdict.{Verdict}
 use Rattle.player.specs.Positions.{Behind, Judged}
 use Rattle.text.specs.Puts.{Puts}
 use Rattle.pages.specs.Pages.{Row, constant_row, record_row, numbered, lines, pages_from, page_count}
-use Rattle.pages.specs.Printed.{Printed, refused, printed_by, from_record0, rows_of, printed, least, printed_part}
+use Rattle.pages.specs.Printed.{refused, printed_by, from_record0, rows_of, printed, least, printed_part}
 use Rattle.pages.specs.declared.PagesAnswer.{PagesAnswer}
 use Rattle.pages.specs.Standing.{rows_at}
 use Rattle.pages.specs.Values.{whole}
-use Rattle.pages.specs.Uncut.{Each}
 use Rattle.pages.proofs.Aligned.{Fits}
 use Rattle.pages.proofs.Sizes.{few}
 use Rattle.pages.proofs.Fitting.{behind, numbered_long, rows_long, taken, rows_few, rows_fit, lines_long}

@@ -8,7 +8,6 @@ use lib.ListN.{length}
 use Rattle.mir.specs.declared.records.Loc.{Loc}
 use Rattle.mir.specs.declared.records.Work.{Work}
 use Rattle.mir.specs.declared.records.Record.{Record}
-use Rattle.mir.specs.Place.{index}
 use Rattle.mir.specs.Operation.{arith_ops}
 use Rattle.mir.specs.Takes.{takes_arith}
 use Rattle.mir.specs.Read.{Read, got, refused}

@@ -1,18 +1,17 @@
 -- The lines from a position on: a constant's, a record's or a blank one, and those behind it.
-use Prim.Native.Nat.{ℕ, zero, suc, ◌+◌, ◌-◌, ◌≤◌, ◌<◌}
-use mathlib.Core.Path.{◌≡◌, refl, sym, ap, ◌∙◌}
+use Prim.Native.Nat.{ℕ, suc, ◌+◌, ◌-◌, ◌≤◌, ◌<◌}
+use mathlib.Core.Path.{◌≡◌, sym, ap, ◌∙◌}
 use mathlib.Core.List.{List, [], ◌∷◌, ◌++◌}
 use native.Mathlib.Omega.{arith}
 use lib.ListN.{length, drop, get_or, drop_of_length-le, length-append}
-use lib.Seq.{sets, drop-cons}
+use lib.Seq.{drop-cons}
 use Rattle.mir.specs.declared.records.Record.{Record}
 use Rattle.mir.proofs.Decoding.{items, Here, Done}
 use Rattle.records.specs.Record.{record_from}
 use Rattle.text.specs.declared.line.Line.{Line}
 use Rattle.text.specs.Line.{Prints}
-use Rattle.text.specs.Puts.{Puts}
-use Rattle.text.proofs.Putting.{Owes, all, less, none}
-use Rattle.pages.specs.Pages.{Row, row_line, blank_line, constant_row, record_row, numbered, lines}
+use Rattle.text.proofs.Putting.{Owes}
+use Rattle.pages.specs.Pages.{row_line, blank_line, constant_row, record_row, numbered, lines}
 use Rattle.pages.specs.Standing.{rows_at, FirstLine}
 use Rattle.pages.specs.declared.columns.LineAt.{LineAt}
 

@@ -8,17 +8,13 @@ use native.Mathlib.Omega.{arith}
 use borrow.Author.Tests.{ne_eqb}
 use lib.Dec.{T, eqb, ltb}
 use lib.ListN.{length}
-use Rattle.mir.specs.declared.ops.UniOp.{UniOp}
-use Rattle.mir.specs.declared.ops.BinOp.{BinOp}
-use Rattle.mir.specs.declared.ops.ArithOp.{ArithOp}
-use Rattle.mir.specs.declared.ops.FusedOp.{FusedOp}
 use Rattle.mir.specs.declared.records.Loc.{Loc}
 use Rattle.mir.specs.declared.records.Work.{Work}
 use Rattle.mir.specs.declared.records.Record.{Record}
 use Rattle.mir.specs.Operation.{uni_number, bin_number, arith_number, fused_number}
 use Rattle.mir.specs.Encode.{flag_byte}
 use Rattle.mir.proofs.Tables.{and_left, and_right}
-use Rattle.text.specs.Text.{ascii, decimal_in, decimal, hex_digit, hex_in, hex, space, register, registers, place, name_of, uni_names, uni_name, bin_names, bin_name, fused_names, fused_name, complex_names, complex_name, work_name, record_name, work_operands, record_operands}
+use Rattle.text.specs.Text.{ascii, decimal_in, decimal, hex_digit, hex_in, hex, space, register, registers, place, name_of, uni_names, bin_names, fused_names, complex_names, work_name, record_name, work_operands, record_operands}
 use Rattle.pages.specs.Pages.{spaces, right, left}
 use Rattle.pages.specs.Uncut.{unindented, onto, trimmed}
 
@@ -128,6 +124,7 @@ firm (b ∷ c ∷ l) = firm (c ∷ l)
 
 last_kept : (e : Bool) (b : ℕ) → T (not e) → cond e [] (b ∷ []) ≡ b ∷ []
 last_kept false b h = refl
+last_kept true b h = elim h [ ]
 
 firm_kept : (t : List ℕ) → T (firm t) → trimmed t ≡ t
 firm_kept [] h = refl

@@ -1,7 +1,6 @@
 -- The rows that stand from a line on, where the records behind it begin at a position of the listing.
-use Rattle.std.specs.Prelude.{ℕ, suc, ◌+◌, ◌-◌, ◌≡◌, List, ◌++◌, length, drop}
+use Rattle.std.specs.Prelude.{ℕ, suc, ◌-◌, ◌≡◌, List, ◌++◌, length, drop}
 use Rattle.records.specs.Record.{records}
-use Rattle.text.specs.declared.line.Line.{Line}
 use Rattle.text.specs.Line.{Prints}
 use Rattle.pages.specs.declared.columns.LineAt.{LineAt}
 use Rattle.pages.specs.Pages.{Row, constant_row, record_row, numbered, lines}

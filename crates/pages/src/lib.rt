@@ -1,4 +1,6 @@
 // A listing and its constants on pages of paper.
+#![tactic(auto)]
+
 ghost use Rattle.std.specs.Prelude.{◌-◌, ◌*◌, ◌≤◌, ◌≡◌, length};
 ghost use Rattle.records.specs.Record.{records};
 ghost use Rattle.text.specs.Puts.{Puts};

@@ -6,14 +6,14 @@ use Rattle.pages.proofs.Laying.{first_record, from_later, judged_zero}
 use Rattle.pages.proofs.position.Statement.{statement}
 use Rattle.pages.proofs.position.Tie as tie
 
-pub position-spec : {M : Type 1} → statement M
-position-spec =
+pub position_spec : {M : Type 1} → statement M
+position_spec =
     tie.close
     (tie.spec
-    (λ c. first_record c.before.before.before.args.listing.now c.if1.true)
+    (λ c. first_record c.args.listing.now c.if-k-eq0.true)
     (λ c κs. search rules)
     (λ c.
     let p = c.before.before.before.before in
     let a = p.args in
     let z = from_later a.listing.now (length a.constants.now) a.k (taken a.listing.now a.constants.now p.requires.0) p.requires.1 in
-    c.judge.ensures.from (judged_zero c.judge.ensures z)))
+    c.judge-v.ensures.from (judged_zero c.judge-v.ensures z)))

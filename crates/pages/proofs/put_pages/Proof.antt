@@ -7,35 +7,35 @@ use Rattle.pages.proofs.Laying.{few-lines, later, these, enough, no_pages}
 use Rattle.pages.proofs.put_pages.Statement.{statement}
 use Rattle.pages.proofs.put_pages.Tie as tie
 
-pub put-pages-spec : {M : Type 1} → statement M
-put-pages-spec =
+pub put_pages_spec : {M : Type 1} → statement M
+put_pages_spec =
     tie.close
     (tie.spec
-    (λ c. let a = c.before.before.before.before.args in no_pages a.out.now a.first (rows_of a.listing.now a.constants.now) c.if1.true)
+    (λ c. let a = c.args in no_pages a.out.now a.first (rows_of a.listing.now a.constants.now) c.if-n-eq0.true)
     (λ c.
-    let p = c.before.before.before.before in
+    let p = c in
     let a = p.args in
-    let f = few-lines a.listing.now a.constants.now a.first a.n p.requires.0 (λ i. (c.before.before.shared-slice-known.given i).fits) p.requires.1.0 (omega arith) in
+    let f = few-lines a.listing.now a.constants.now a.first a.n p.requires.0 (λ i. (c.shared_slice_known-1.given i).fits) p.requires.1.0 (omega arith) in
     omega (arith, f))
     (λ c κs. search rules)
     (λ c κs.
-    let p = c.before.before.before.before.before in
+    let p = c in
     let a = p.args in
-    let l = later a.listing.now a.constants.now a.first a.n p.requires.0 (λ i. (c.before.before.before.shared-slice-known.given i).fits) p.requires.1.0 (omega arith) in
-    (p.requires.0, omega (arith, l, c.left-of.ensures)))
+    let l = later a.listing.now a.constants.now a.first a.n p.requires.0 (λ i. (c.shared_slice_known-1.given i).fits) p.requires.1.0 (omega arith) in
+    (p.requires.0, omega (arith, l, c.left_of.ensures)))
     (λ c.
-    let p = c.before.before.before.before.before.before.before in
+    let p = c in
     let a = p.args in
-    let f = few-lines a.listing.now a.constants.now a.first a.n p.requires.0 (λ i. (c.before.before.before.before.before.shared-slice-known.given i).fits) p.requires.1.0 (omega arith) in
+    let f = few-lines a.listing.now a.constants.now a.first a.n p.requires.0 (λ i. (c.shared_slice_known-1.given i).fits) p.requires.1.0 (omega arith) in
     omega (arith, f))
     (λ c κs.
-    let p = c.before.before.before.before.before.before.before in
+    let p = c in
     let a = p.args in (
-      few-lines a.listing.now a.constants.now a.first a.n p.requires.0 (λ i. (c.before.before.before.before.before.shared-slice-known.given i).fits) p.requires.1.0 (omega arith),
-      enough a.listing.now a.constants.now a.first a.n p.requires.0 (λ i. (c.before.before.before.before.before.shared-slice-known.given i).fits) c.before.before.left-of.ensures c.before.position.ensures a.out.now p.requires.1.1,
+      few-lines a.listing.now a.constants.now a.first a.n p.requires.0 (λ i. (c.shared_slice_known-1.given i).fits) p.requires.1.0 (omega arith),
+      enough a.listing.now a.constants.now a.first a.n p.requires.0 (λ i. (c.shared_slice_known-1.given i).fits) c.left_of.ensures c.position-from.ensures a.out.now p.requires.1.1,
     ))
-    (λ c. long c.before.before.put-lines.ensures)
+    (λ c. long c.put_lines.ensures)
     (λ c.
-    let p = c.before.before.before.before.before.before.before.before.before.before in
+    let p = c in
     let a = p.args in
-    renamed (these a.listing.now a.constants.now a.first a.n p.requires.0 (λ i. (c.before.before.before.before.before.before.before.before.shared-slice-known.given i).fits) c.before.before.before.before.before.left-of.ensures c.before.before.before.before.position.ensures) c.before.before.put-lines.ensures))
+    renamed (these a.listing.now a.constants.now a.first a.n p.requires.0 (λ i. (c.shared_slice_known-1.given i).fits) c.left_of.ensures c.position-from.ensures) c.put_lines.ensures))

@@ -6,14 +6,14 @@ use Rattle.pages.proofs.Calls.{called}
 use Rattle.pages.proofs.call.tulipcricket_pages_unguarded.Statement.{statement}
 use Rattle.pages.proofs.call.tulipcricket_pages_unguarded.Tie as tie
 
-pub tulipcricket-pages-unguarded-spec : {M : Type 1} → statement M
+pub tulipcricket_pages_unguarded_spec : {M : Type 1} → statement M
 unfolding pages_call
-tulipcricket-pages-unguarded-spec =
+tulipcricket_pages_unguarded_spec =
     tie.close
     (tie.spec
-    (λ c. simp (ne_eqb _ _ c.if1.true))
+    (λ c. simp (ne_eqb _ _ c.if-answer-ne24.true))
     (λ c κs. search rules) (λ c. search rules) (λ c. search rules) (λ c κs. search rules) (λ c. search rules) (λ c. search rules) (λ c. search rules)
     (λ c.
-    let a = c.before.before.before.before.before.before.before.before.before.before.before.before.before.before.before.before.args in
-    called a.listing.now a.constants.now a.pages.now a.answer.now c.before.before.before.before.before.before.before.before.before.part_of.result c.before.before.before.before.before.before.before.before.before.before.before.if1.false
-    c.before.before.before.before.before.before.before.before.before.part_of.ensures c.before.before.before.save.ensures))
+    let a = c.args in
+    called a.listing.now a.constants.now a.pages.now a.answer.now c.part_of-a.result c.if-answer-ne24.false
+    c.part_of-a.ensures c.save.ensures))

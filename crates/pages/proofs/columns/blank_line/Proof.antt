@@ -4,9 +4,9 @@ use Rattle.pages.proofs.Aligned.{blank}
 use Rattle.pages.proofs.columns.blank_line.Statement.{statement}
 use Rattle.pages.proofs.columns.blank_line.Tie as tie
 
-pub blank-line-spec : {M : Type 1} → statement M
-blank-line-spec =
+pub blank_line_spec : {M : Type 1} → statement M
+blank_line_spec =
     tie.close
     (tie.spec
     (λ c κs. search rules) (λ c κs. search rules)
-    (λ c. blank c.before.empty-line.ensures c.fill-to.ensures))
+    (λ c. blank c.empty_line.ensures c.fill_to.ensures))

@@ -5,9 +5,9 @@ use Rattle.pages.proofs.Aligned.{so-many}
 use Rattle.pages.proofs.columns.fill_to.Statement.{statement}
 use Rattle.pages.proofs.columns.fill_to.Tie as tie
 
-pub fill-to-spec : {M : Type 1} → statement M
-fill-to-spec =
+pub fill_to_spec : {M : Type 1} → statement M
+fill_to_spec =
     tie.close
     (tie.spec
     (λ c κs. search rules) (λ c κs. search rules) (λ c κs. search rules)
-    (λ c. so-many c.before.before.left-of.ensures c.before.spaces.ensures ▹ c.byte.ensures))
+    (λ c. so-many c.left_of.ensures c.spaces.ensures ▹ c.byte.ensures))

@@ -4,14 +4,14 @@ use Rattle.pages.proofs.Aligned.{head}
 use Rattle.pages.proofs.columns.index_line.Statement.{statement}
 use Rattle.pages.proofs.columns.index_line.Tie as tie
 
-pub index-line-spec : {M : Type 1} → statement M
-index-line-spec =
+pub index_line_spec : {M : Type 1} → statement M
+index_line_spec =
     tie.close
     (tie.spec
     (λ c κs. search rules) (λ c κs. search rules) (λ c κs. search rules) (λ c κs. search rules) (λ c κs. search rules) (λ c κs. search rules)
     (λ c κs. search rules)
     (λ c.
-    head c.before.before.before.before.before.before.before.args.index
-    c.before.before.before.before.before.before.empty-line.ensures c.before.before.before.before.before.decimal.ensures
-    c.before.before.before.left-of.ensures c.before.before.before.before.empty-line2.ensures
-    c.before.before.spaces.ensures c.before.decimal2.ensures c.byte.ensures))
+    head c.args.index
+    c.empty_line.ensures c.decimal-digits.ensures
+    c.left_of.ensures c.empty_line-2.ensures
+    c.spaces.ensures c.decimal.ensures c.byte.ensures))

@@ -1,7 +1,6 @@
 -- `pages::columns::line_at` meets its contract.
 use borrow.Author.Rules.{rules}
 use native.Mathlib.Omega.{arith}
-use mathlib.Core.Path.{sym}
 use Rattle.mir.proofs.Decoding.{ended}
 use Rattle.records.specs.Record.{record_from}
 use Rattle.records.proofs.Reading.{here-record, torn-record}
@@ -10,24 +9,24 @@ use Rattle.pages.proofs.Standing.{constant-first, record-first, blank-first}
 use Rattle.pages.proofs.columns.line_at.Statement.{statement}
 use Rattle.pages.proofs.columns.line_at.Tie as tie
 
-pub line-at-spec : {M : Type 1} → statement M
-line-at-spec =
+pub line_at_spec : {M : Type 1} → statement M
+line_at_spec =
     tie.close
     (tie.spec
     (λ c. search rules) (λ c. search rules) (λ c κs. search rules)
-    (λ c. constant-first (omega arith) c.constant-line.ensures)
+    (λ c. constant-first (omega arith) c.constant_line.ensures)
     (λ c κs. search rules)
     (λ c.
-    let a = c.before.before.before.before.before.args in
-    blank-first (omega arith) (ended (record_from (length a.constants.now)) a.listing.now a.from (omega arith)) c.blank-line.ensures)
+    let a = c.args in
+    blank-first (omega arith) (ended (record_from (length a.constants.now)) a.listing.now a.from (omega arith)) c.blank_line.ensures)
     (λ c κs. search rules) (λ c. search rules) (λ c. search rules) (λ c κs. search rules) (λ c. search rules) (λ c κs. search rules)
     (λ c.
-    let a = c.before.before.before.before.before.before.before.before.before.args in
+    let a = c.args in
     record-first (omega arith)
-    (here-record (length a.constants.now) a.listing.now a.from c.before.before.before.before.read-record.ensures c.before.before.q.given.1)
-    c.record-line.ensures)
+    (here-record (length a.constants.now) a.listing.now a.from c.read_record-q.ensures c.in-Got.is)
+    c.record_line.ensures)
     (λ c.
-    let a = c.before.before.before.before.before.before.before.before.args in
+    let a = c.args in
     blank-first (omega arith)
-    (torn-record (length a.constants.now) a.listing.now a.from c.before.before.before.read-record.ensures c.before.enum_told.given.1 (omega arith))
-    c.blank-line2.ensures))
+    (torn-record (length a.constants.now) a.listing.now a.from c.read_record-q.ensures c.in-Refused.is (omega arith))
+    c.blank_line-in-Refused.ensures))

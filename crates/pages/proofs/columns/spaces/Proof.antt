@@ -10,24 +10,24 @@ use Rattle.pages.proofs.Aligned.{turn, ended}
 use Rattle.pages.proofs.columns.spaces.Statement.{statement}
 use Rattle.pages.proofs.columns.spaces.Tie as tie
 
-abbrev invariant-loop : tie.invariant-loop
-invariant-loop n line₀ i₀ line i = (i ≤ n) × (add_all line (spaces (n - i)) ≡ add_all line₀ (spaces n))
+abbrev invariant-loop-i : tie.invariant-loop-i
+invariant-loop-i n line₀ i₀ line i = (i ≤ n) × (add_all line (spaces (n - i)) ≡ add_all line₀ (spaces n))
 
-abbrev decreases-loop : tie.decreases-loop
-decreases-loop n line₀ i₀ line i = n - i
+abbrev decreases-loop-i : tie.decreases-loop-i
+decreases-loop-i n line₀ i₀ line i = n - i
 
-pub spaces-spec : {M : Type 1} → statement M
-spaces-spec =
+pub spaces_spec : {M : Type 1} → statement M
+spaces_spec =
     tie.close
     (tie.spec
-    invariant-loop
-    decreases-loop
+    invariant-loop-i
+    decreases-loop-i
     (λ c. (search rules, ap (λ k. add_all c.args.line (spaces k)) (sub-zero c.args.n)))
     (λ c κs. search rules) (λ c. search rules) (λ c. search rules)
     (λ c.
-    let n = c.before.before.before.args.n in
-    let v = c.before.before.loop in
-    (search rules, ap (λ l. add_all l (spaces (n - (v.i + 1)))) c.byte.ensures.same ∙ turn v.line n v.i (omega arith) ∙ v.invariant.1))
+    let n = c.args.n in
+    let v = c.loop-i in
+    (search rules, ap (λ l. add_all l (spaces (n - (v.i + 1)))) c.byte-line.ensures.same ∙ turn v.line n v.i (omega arith) ∙ v.invariant.1))
     (λ c.
-    let v = c.before.loop in
-    record { same = sym (ended v.line c.before.before.args.n v.i (omega arith)) ∙ v.invariant.1 }))
+    let v = c.loop-i in
+    record { same = sym (ended v.line c.args.n v.i (omega arith)) ∙ v.invariant.1 }))
