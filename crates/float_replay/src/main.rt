@@ -70,7 +70,14 @@ fn print_name(rt: HostRuntime, k: usize) {
     };
 }
 
-fn print_counts(rt: HostRuntime, before: &[u8], cases: u64, between: &[u8], differ: u64, after: &[u8]) {
+fn print_counts(
+    rt: HostRuntime,
+    before: &[u8],
+    cases: u64,
+    between: &[u8],
+    differ: u64,
+    after: &[u8],
+) {
     print_bytes(&rt, before);
     print_number(&rt, cases);
     print_bytes(&rt, between);

@@ -25,23 +25,21 @@ next t₀ list i before now =
     let e : i * 41 + 41 - i * 41 ≡ 41 = omega arith in
     rw add-one (rw (before, e) at now)
 
-abbrev invariant-loop : tie.invariant-loop
-invariant-loop list t₀ cases i₀ t i = (i ≤ cases) × (t ≡ replayed t₀ list i)
+abbrev invariant-loop-i : tie.invariant-loop-i
+invariant-loop-i list t₀ cases i₀ t i = (i ≤ cases) × (t ≡ replayed t₀ list i)
 
-abbrev decreases-loop : tie.decreases-loop
-decreases-loop list t₀ cases i₀ t i = cases - i
+abbrev decreases-loop-i : tie.decreases-loop-i
+decreases-loop-i list t₀ cases i₀ t i = cases - i
 
-pub replay-spec : {M : Type 1} → statement M
-replay-spec =
+pub replay_spec : {M : Type 1} → statement M
+replay_spec =
     tie.close
     (tie.spec
-    invariant-loop
-    decreases-loop
+    invariant-loop-i
+    decreases-loop-i
     (λ c. (omega arith, none _ _))
     (λ c. omega arith) (λ c. omega arith) (λ c. omega arith) (λ c. omega arith) (λ c. omega arith)
     (λ c κs. simp (length-take, length-drop) (omega arith))
     (λ c. omega arith) (λ c. omega arith)
-    (λ c.
-    let at-loop = c.before.before.before.before in
-    (omega arith, next _ _ at-loop.loop.i at-loop.loop.invariant.1 c.count.ensures))
-    (λ c. c.before.loop.invariant.1 ∙ ap (replayed _ _) (omega arith)))
+    (λ c. (omega arith, next _ _ c.loop-i.i c.loop-i.invariant.1 c.count.ensures))
+    (λ c. c.loop-i.invariant.1 ∙ ap (replayed _ _) (omega arith)))

@@ -5,9 +5,9 @@ use borrow.Author.Tests.{lt-ltb, le-ltb}
 use Rattle.float_replay.proofs.tally.slot.Statement.{statement}
 use Rattle.float_replay.proofs.tally.slot.Tie as tie
 
-pub slot-spec : {M : Type 1} → statement M
-slot-spec =
+pub slot_spec : {M : Type 1} → statement M
+slot_spec =
     tie.close
     (tie.spec
-    (λ c. (simp (lt-ltb _ 35 c.if1.true), omega arith))
-    (λ c. (simp (le-ltb _ 35 c.if1.false), omega arith)))
+    (λ c. (simp (lt-ltb _ 35 c.if-op-lt35.true), omega arith))
+    (λ c. (simp (le-ltb _ 35 c.if-op-lt35.false), omega arith)))

@@ -5,11 +5,11 @@ use Rattle.float_replay.specs.Tally.{tallied}
 use Rattle.float_replay.proofs.tally.tally.Statement.{statement}
 use Rattle.float_replay.proofs.tally.tally.Tie as tie
 
-pub tally-spec : {M : Type 1} → statement M
+pub tally_spec : {M : Type 1} → statement M
 unfolding tallied
-tally-spec =
+tally_spec =
     tie.close
     (tie.spec
     (λ c. search rules) (λ c κs. search rules) (λ c. search rules) (λ c. search rules) (λ c κs. search rules)
-    (λ c. simp (c.before.before.if1.true, c.raise2.ensures, c.before.before.before.raise.ensures))
-    (λ c. simp (c.if1.false, c.before.raise.ensures)))
+    (λ c. simp (c.if-d.true, c.raise-then-d.ensures, c.raise.ensures))
+    (λ c. simp (c.if-d.false, c.raise.ensures)))
