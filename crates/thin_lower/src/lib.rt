@@ -38,15 +38,17 @@ pub fn lower(
         × (origins.new ≡ Spec.origins_after sheet.now listing.old constants.old origins.old) }
 {
     let answer = complexify::entry::lower(sheet, listing, constants, origins);
+    let filled = answer.filled;
     *realness = Held {
         real: answer.real,
-        filled: answer.filled,
+        filled,
     };
+    let drawn = answer.drawn;
     Numbers {
         number: answer.number,
         index: answer.index,
         written: answer.written,
         count: answer.count,
-        drawn: answer.drawn,
+        drawn,
     }
 }

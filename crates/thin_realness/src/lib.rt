@@ -1,5 +1,7 @@
 // The realness record, lent. What changes it calls the method of the by-value record and stores what that returns; what reads it
 // calls the method on a copy.
+#![tactic(auto)]
+
 ghost use Rattle.std.specs.Prelude.{◌≡◌};
 ghost use Rattle.lowering.specs.Realness as Spec;
 

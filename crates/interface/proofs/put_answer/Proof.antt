@@ -4,14 +4,14 @@ use Rattle.interface.proofs.Lowering.{told}
 use Rattle.interface.proofs.put_answer.Statement.{statement}
 use Rattle.interface.proofs.put_answer.Tie as tie
 
-pub put-answer-spec : {M : Type 1} → statement M
-put-answer-spec =
+pub put_answer_spec : {M : Type 1} → statement M
+put_answer_spec =
     tie.close
     (tie.spec
     (λ c. search rules) (λ c. search rules) (λ c κs. search rules) (λ c κs. search rules) (λ c. search rules) (λ c κs. search rules)
     (λ c κs. search rules) (λ c. search rules)
     (λ c.
     let s = c.before.before.before.before.before.before.before.before.before.before.before.before.before.before.before.before.before.before.before in
-    let m = c.before.before.put-marks.ensures in
-    told s.args.a s.args.out.now s.requires (search rules) (search rules) m.1 m.2 c.before.before.before.before.before.before.before.before.before.before.before.before.before.before.save.ensures c.before.before.before.before.before.before.before.before.before.before.before.record-bytes.ensures
-    c.before.before.before.before.before.before.before.before.put-bytes.ensures m.0))
+    let m = c.put_marks.ensures in
+    told s.args.a s.args.out.now s.requires (search rules) (search rules) m.1 m.2 c.save.ensures c.record_bytes-record.ensures
+    c.put_bytes.ensures m.0))

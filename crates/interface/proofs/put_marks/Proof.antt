@@ -7,13 +7,13 @@ use Rattle.words.specs.Bytes.{stored}
 use Rattle.interface.proofs.put_marks.Statement.{statement}
 use Rattle.interface.proofs.put_marks.Tie as tie
 
-pub put-marks-spec : {M : Type 1} → statement M
-put-marks-spec =
+pub put_marks_spec : {M : Type 1} → statement M
+put_marks_spec =
     tie.close
     (tie.spec
     (λ c. search rules) (λ c κs. search rules) (λ c. search rules) (λ c κs. search rules) (λ c. search rules)
     (λ c. (
-      c.before.before.put-flags2.ensures ∙ ap (λ l. stored l 194 (map flag_byte c.before.before.before.before.before.before.before.before.before.before.before.args.t3)) c.before.before.before.before.before.before.before.put-flags.ensures,
+      c.put_flags-2.ensures ∙ ap (λ l. stored l 194 (map flag_byte c.args.drawn)) c.put_flags.ensures,
       search rules,
       search rules,
     )))

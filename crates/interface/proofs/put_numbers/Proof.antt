@@ -10,28 +10,28 @@ use Rattle.interface.proofs.Lowering.{pairs_turn, pairs_ended}
 use Rattle.interface.proofs.put_numbers.Statement.{statement}
 use Rattle.interface.proofs.put_numbers.Tie as tie
 
-abbrev invariant-loop : tie.invariant-loop
-invariant-loop out₀ numbers i₀ out i =
+abbrev invariant-loop-i : tie.invariant-loop-i
+invariant-loop-i out₀ numbers i₀ out i =
     (i ≤ length numbers) × (length out ≡ length out₀) × (sets out (2 * i) (pairs_of (drop i numbers)) ≡ sets out₀ 0 (pairs_of numbers))
 
-abbrev decreases-loop : tie.decreases-loop
-decreases-loop out₀ numbers i₀ out i = length numbers - i
+abbrev decreases-loop-i : tie.decreases-loop-i
+decreases-loop-i out₀ numbers i₀ out i = length numbers - i
 
-pub put-numbers-spec : {M : Type 1} → statement M
-put-numbers-spec =
+pub put_numbers_spec : {M : Type 1} → statement M
+put_numbers_spec =
     tie.close
     (tie.spec
-    invariant-loop
-    decreases-loop
+    invariant-loop-i
+    decreases-loop-i
     (λ c. (search rules, refl, refl))
     (λ c. search rules) (λ c. search rules) (λ c. search rules) (λ c. search rules)
-    (λ c. let h = c.before.loop-test.true in let e = c.before.before.loop.invariant.1 in let p = c.before.before.before.requires in omega (arith, h, e, p))
+    (λ c. let h = c.loop-i-test.true in let e = c.loop-i.invariant.1 in let p = c.requires in omega (arith, h, e, p))
     (λ c. search rules) (λ c. search rules) (λ c. search rules)
-    (λ c. let h = c.before.loop-test.true in let e = c.before.before.loop.invariant.1 in let p = c.before.before.before.requires in simp length-set (omega (arith, h, e, p)))
+    (λ c. let h = c.loop-i-test.true in let e = c.loop-i.invariant.1 in let p = c.requires in simp length-set (omega (arith, h, e, p)))
     (λ c. search rules) (λ c. search rules)
-    (λ c. let a = c.before.before.before.args in
-    let l = c.before.before.loop in
+    (λ c. let a = c.args in
+    let l = c.loop-i in
     (search rules, simp length-set (search rules), sym (pairs_turn l.out a.numbers.now l.i (omega arith)) ∙ l.invariant.2))
     (λ c. search rules)
-    (λ c. let l = c.before.loop in
-    sym (pairs_ended l.out c.before.before.args.numbers.now l.i (omega arith)) ∙ l.invariant.2))
+    (λ c. let l = c.loop-i in
+    sym (pairs_ended l.out c.args.numbers.now l.i (omega arith)) ∙ l.invariant.2))
