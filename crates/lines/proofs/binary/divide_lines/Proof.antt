@@ -1,6 +1,5 @@
 -- `lines::binary::divide_lines` meets its contract.
 use borrow.Author.Rules.{rules}
-use native.Mathlib.Omega.{arith}
 use Rattle.lines.specs.Lists.{◌▹◌}
 use Rattle.mir.specs.Register.{re, im}
 use Rattle.lowering.specs.Lines.{divide_lines}
