@@ -6,25 +6,25 @@ use Rattle.figures.specs.Shelf.{branch_of}
 use Rattle.figures.proofs.counting.branch_of.Statement.{statement}
 use Rattle.figures.proofs.counting.branch_of.Tie as tie
 
-pub branch-of-spec : {M : Type 1} → statement M
+pub branch_of_spec : {M : Type 1} → statement M
 unfolding role
-branch-of-spec =
+branch_of_spec =
     tie.close
     (tie.spec
     (λ c. search rules) (λ c. search rules) (λ c. search rules) (λ c. search rules) (λ c. search rules) (λ c. search rules)
     (λ c. search rules) (λ c. search rules) (λ c. search rules) (λ c. search rules) (λ c. search rules) (λ c. search rules)
     (λ c. search rules) (λ c. search rules)
-    (λ c. sym (ap (λ i. branch_of (role i)) c.enum_told.given.1))
-    (λ c. sym (ap (λ i. branch_of (role i)) c.before.instruction.given.1))
-    (λ c. sym (ap (λ i. branch_of (role i)) c.before.instruction2.given.1))
-    (λ c. sym (ap (λ i. branch_of (role i)) c.before.instruction3.given.1))
-    (λ c. sym (ap (λ i. branch_of (role i)) c.before.instruction4.given.1))
-    (λ c. sym (ap (λ i. branch_of (role i)) c.before.instruction5.given.1))
-    (λ c. sym (ap (λ i. branch_of (role i)) c.before.instruction6.given.1))
-    (λ c. sym (ap (λ i. branch_of (role i)) c.before.instruction7.given.1))
-    (λ c. sym (ap (λ i. branch_of (role i)) c.before.instruction8.given.1))
-    (λ c. sym (ap (λ i. branch_of (role i)) c.before.instruction9.given.1))
-    (λ c. sym (ap (λ i. branch_of (role i)) c.before.instruction10.given.1))
-    (λ c. sym (ap (λ i. branch_of (role i)) c.before.instruction11.given.1))
-    (λ c. sym (ap (λ i. branch_of (role i)) c.before.instruction12.given.1))
-    (λ c. sym (ap (λ i. branch_of (role i)) c.before.instruction13.given.1)))
+    (λ c. sym (ap (λ i. branch_of (role i)) c.in-Nop.is))
+    (λ c. sym (ap (λ i. branch_of (role i)) c.in-Uni.is))
+    (λ c. sym (ap (λ i. branch_of (role i)) c.in-Bi.is))
+    (λ c. sym (ap (λ i. branch_of (role i)) c.in-Mov.is))
+    (λ c. sym (ap (λ i. branch_of (role i)) c.in-Load.is))
+    (λ c. sym (ap (λ i. branch_of (role i)) c.in-Save.is))
+    (λ c. sym (ap (λ i. branch_of (role i)) c.in-LoadConst.is))
+    (λ c. sym (ap (λ i. branch_of (role i)) c.in-Fused.is))
+    (λ c. sym (ap (λ i. branch_of (role i)) c.in-IfElse.is))
+    (λ c. sym (ap (λ i. branch_of (role i)) c.in-LoadMath.is))
+    (λ c. sym (ap (λ i. branch_of (role i)) c.in-LoadConstMath.is))
+    (λ c. sym (ap (λ i. branch_of (role i)) c.in-Label.is))
+    (λ c. sym (ap (λ i. branch_of (role i)) c.in-Branch.is))
+    (λ c. sym (ap (λ i. branch_of (role i)) c.in-BranchIf.is)))

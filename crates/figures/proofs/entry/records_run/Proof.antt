@@ -6,18 +6,18 @@ use borrow.Author.Tests.{eq-eqb, ne_eqb}
 use Rattle.figures.proofs.entry.records_run.Statement.{statement}
 use Rattle.figures.proofs.entry.records_run.Tie as tie
 
-pub records-run-spec : {M : Type 1} → statement M
-records-run-spec =
+pub records_run_spec : {M : Type 1} → statement M
+records_run_spec =
     tie.close
     (tie.spec
-    (λ c. c.before.before.before.requires.block)
-    (λ c. let w = c.before.before.before.before.requires in let t = c.before.before.before.before.args.taken in let x : t.calls ≤ 65536 = omega (arith, w.calls, w.records, w.bytes) in
+    (λ c. c.requires.block)
+    (λ c. let w = c.requires in let t = c.args.taken in let x : t.calls ≤ 65536 = omega (arith, w.calls, w.records, w.bytes) in
     let y : t.block ≤ 65536 = omega (arith, w.block, w.records, w.bytes) in let h : t.calls * t.block ≤ 65536 * 65536 = mul-le-mul x y in omega (arith, h))
-    (λ c. let w = c.before.before.before.before.requires in let t = c.before.before.before.before.args.taken in let x : t.calls ≤ 65536 = omega (arith, w.calls, w.records, w.bytes) in
+    (λ c. let w = c.requires in let t = c.args.taken in let x : t.calls ≤ 65536 = omega (arith, w.calls, w.records, w.bytes) in
     let y : t.block ≤ 65536 = omega (arith, w.block, w.records, w.bytes) in let h : t.calls * t.block ≤ 65536 * 65536 = mul-le-mul x y in omega (arith, h, w.records, w.bytes))
-    (λ c. simp (eq-eqb _ _ c.before.before.if1.true))
-    (λ c. let w = c.before.before.before.requires in let t = c.before.before.before.args.taken in let x : t.calls ≤ 65536 = omega (arith, w.calls, w.records, w.bytes) in
+    (λ c. simp (eq-eqb _ _ c.if-taken-eq0.true))
+    (λ c. let w = c.requires in let t = c.args.taken in let x : t.calls ≤ 65536 = omega (arith, w.calls, w.records, w.bytes) in
     let y : t.block ≤ 65536 = omega (arith, w.block, w.records, w.bytes) in let h : t.calls * t.block ≤ 65536 * 65536 = mul-le-mul x y in omega (arith, h))
-    (λ c. let w = c.before.before.before.before.requires in let t = c.before.before.before.before.args.taken in let x : t.calls ≤ 65536 = omega (arith, w.calls, w.records, w.bytes) in
+    (λ c. let w = c.requires in let t = c.args.taken in let x : t.calls ≤ 65536 = omega (arith, w.calls, w.records, w.bytes) in
     let y : t.block ≤ 65536 = omega (arith, w.block, w.records, w.bytes) in let h : t.calls * t.block ≤ 65536 * 65536 = mul-le-mul x y in omega (arith, h, w.records, w.bytes))
-    (λ c. simp (ne_eqb _ _ c.before.before.if1.false)))
+    (λ c. simp (ne_eqb _ _ c.if-taken-eq0.false)))

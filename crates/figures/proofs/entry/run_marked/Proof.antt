@@ -7,17 +7,17 @@ use Rattle.refusals.proofs.Searching.{bytes_behind, begin-noted}
 use Rattle.figures.proofs.entry.run_marked.Statement.{statement}
 use Rattle.figures.proofs.entry.run_marked.Tie as tie
 
-pub run-marked-spec : {M : Type 1} → statement M
-run-marked-spec =
+pub run_marked_spec : {M : Type 1} → statement M
+run_marked_spec =
     tie.close
     (tie.spec
     (λ c. search rules) (λ c κs. search rules) (λ c. search rules) (λ c. search rules)
     (λ c κs. let b = c.before.before.before.before.before.before.before.before.before in let s = b.args.sheet.now in
-    (b.requires.0, (b.requires.1, begin-noted (drop b.args.start.at s) (replicate 256 0) _ _ _ (bytes_behind s b.args.start.at (λ i. (c.before.before.before.before.before.before.before.before.shared-slice-known.given i).fits)) refl c.before.before.before.before.before.find-labels.ensures (λ e. refl))))
+    (b.requires.0, (b.requires.1, begin-noted (drop b.args.start.at s) (replicate 256 0) _ _ _ (bytes_behind s b.args.start.at (λ i. (c.shared_slice_known-1.given i).fits)) refl c.find_labels.ensures (λ e. refl))))
     (λ c. search rules)
-    (λ c. c.before.before.before.before.run.ensures)
+    (λ c. c.run.ensures)
     (λ c. search rules) (λ c. search rules)
     (λ c κs. let b = c.before.before.before.before.before.before.before.before.before in let s = b.args.sheet.now in
-    (b.requires.0, (b.requires.1, begin-noted (drop b.args.start.at s) (replicate 256 0) _ _ _ (bytes_behind s b.args.start.at (λ i. (c.before.before.before.before.before.before.before.before.shared-slice-known.given i).fits)) refl c.before.before.before.before.before.find-labels.ensures (λ e. absurd (true≢false (sym e ∙ c.before.before.before.if1.false))))))
+    (b.requires.0, (b.requires.1, begin-noted (drop b.args.start.at s) (replicate 256 0) _ _ _ (bytes_behind s b.args.start.at (λ i. (c.shared_slice_known-1.given i).fits)) refl c.find_labels.ensures (λ e. absurd (true≢false (sym e ∙ c.if-find_labels.false))))))
     (λ c. search rules)
-    (λ c. c.before.before.before.before.run2.ensures))
+    (λ c. c.run-2.ensures))

@@ -9,7 +9,7 @@ one_spec =
     tie.close
     (tie.spec
     (λ c κs. search rules) (λ c. search rules)
-    (λ c κs. (c.before.before.before.before.before.before.before.before.before.requires.0, c.before.before.before.before.before.before.before.before.before.requires.1))
+    (λ c κs. (c.requires.0, c.requires.1))
     (λ c. search rules) (λ c κs. search rules) (λ c. search rules) (λ c. search rules)
-    (λ c. let a = c.before.before.before.before.before.before.before.before.before.before.before.before.before.before.args in one-got a.own a.sheet.now a.p.at a.mode a.constants.now c.before.before.before.before.before.before.before.before.before.before.read-instruction.ensures c.before.before.before.before.before.before.before.before.instruction.given.1 c.before.before.before.before.lower-one.ensures)
-    (λ c. let a = c.before.before.before.before.before.before.before.before.args in one-refused a.own a.sheet.now a.p.at a.mode a.constants.now c.before.before.before.before.read-instruction.ensures c.before.before.number.given.1 c.refused.ensures))
+    (λ c. let a = c.args in one-got a.own a.sheet.now a.p.at a.mode a.constants.now c.read_instruction.ensures c.in-Got.is c.lower_one.ensures)
+    (λ c. let a = c.args in one-refused a.own a.sheet.now a.p.at a.mode a.constants.now c.read_instruction.ensures c.in-Refused.is c.refused.ensures))
