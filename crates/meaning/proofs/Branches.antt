@@ -25,7 +25,7 @@ use Rattle.leftovers.proofs.Moves.{OwnWay, working, labelled, branched, decided}
 use Rattle.leftovers.proofs.Instructions.{AllIn, Works}
 use Rattle.leftovers.proofs.Listing.{grows, stays}
 use Rattle.leftovers.proofs.Branches.{Kind, works, label, branch, branch_if, moves, Kinds, Meets, MeetsBy, either, Sound, stands_at, stands-suc, works_role}
-use Rattle.meaning.specs.Value.{R, re_of}
+use Rattle.meaning.specs.Value.{re_of}
 use Rattle.meaning.specs.Means as Means
 use Rattle.meaning.specs.Means.{Values, means, goes, is_label_by, walked, stands}
 use Rattle.meaning.proofs.Leaf.{Ready}

@@ -8,7 +8,7 @@ use Rattle.mir.specs.declared.records.Work.{Work}
 use Rattle.mir.specs.declared.records.Record.{Record}
 use Rattle.sheet.specs.declared.setup.Mode.{Mode}
 use Rattle.sheet.specs.Setup.{is_stable}
-use Rattle.player_machine.specs.Machine.{Store, at, uni_word, bin_word, fused_word, complex_words}
+use Rattle.player_machine.specs.Machine.{at, uni_word, bin_word, fused_word, complex_words}
 use Rattle.mir.specs.Register.{re, im}
 use Rattle.lowering.specs.declared.realness.Realness.{Realness}
 use Rattle.lowering.specs.Realness.{is_real_reg}
@@ -20,7 +20,6 @@ use Rattle.leftovers.proofs.Methods.{two}
 use Rattle.meaning.specs.Value.{Value, R, C, times, scale, quotient}
 use Rattle.meaning.specs.Means as Means
 use Rattle.meaning.specs.Means.{Values, put, leave, divide_leaves, stable_divide}
-use Rattle.meaning.specs.Preserved.{value_of}
 use Rattle.meaning.proofs.Eval.{run}
 use Rattle.meaning.proofs.Leaf.{Ready, passes}
 use Rattle.meaning.proofs.Table.{Begins, three_at}

@@ -1,10 +1,10 @@
 -- The sheets of specs/Examples.antt, computed.
-use Prim.Native.Nat.{ℕ, zero, suc, ◌<◌}
+use Prim.Native.Nat.{ℕ, zero, suc}
 use mathlib.Core.Path.{◌≡◌, refl, sym, ap, ◌∙◌, subst}
 use mathlib.Core.Bool.{Bool, true, false, not, ◌&&◌, ◌||◌}
 use mathlib.Core.List.{List}
 use native.Mathlib.Omega.{arith}
-use lib.ListN.{length, get_or}
+use lib.ListN.{get_or}
 use lib.Dec.{T, eqb, lit≤}
 use lib.Ieee.{of_bits, to_bits, is_nan, add, mul, div}
 use Rattle.mir.specs.declared.ops.UniOp.{UniOp}
@@ -19,7 +19,7 @@ use Rattle.float.specs.Fused.{fused_multiply_add}
 use Rattle.sheet.specs.Setup.{setup, constant_at}
 use Rattle.sheet.specs.Instruction.{instruction_from}
 use Rattle.records.specs.Record.{record_from}
-use Rattle.player_machine.specs.Machine.{Store, at, uni_word, bin_word, fused_word, complex_words, writes, put, exec, is_label, ticks, play}
+use Rattle.player_machine.specs.Machine.{at, uni_word, bin_word, fused_word, complex_words, writes, put, exec, ticks, play}
 use Rattle.player_machine.specs.Jumps.{breach}
 use Rattle.player_machine.specs.Answer.{answer}
 use Rattle.lowering.specs.declared.realness.Realness.{Realness}
@@ -31,7 +31,7 @@ use Rattle.lowering.specs.Labels.{role, later, misplaced, unequal, passed}
 use Rattle.lowering.specs.Lower.{barred, lower_from, lower_sheet}
 use Rattle.leftovers.specs.Leftovers.{Lowered, sheet_of, Accepted, lowered, real_at, play_on}
 use Rattle.leftovers.specs.Examples.{room, zeros, clean}
-use Rattle.entries.specs.Examples.{bytes, words, names, left_of}
+use Rattle.entries.specs.Examples.{left_of}
 use Rattle.leftovers.proofs.Examples.{clean_given}
 use Rattle.entries.proofs.Examples.{accepts, as_left}
 use Rattle.meaning.specs.Settled.{Unmixed}
@@ -107,6 +107,7 @@ spared ρ i t d a e r = go (is_real_reg ρ d) (subst (λ x. T (not x || is_real_
   where
     go : (x : Bool) → T x → x ≡ true
     go true t = refl
+    go false t = elim t [ ]
 
 clean_unmixed : Unmixed (sheet_of clean)
 unfolding clean lower

@@ -7,9 +7,9 @@ use mathlib.Core.List.{List, [], ◌∷◌, ◌++◌}
 use Prim.Native.Nat.{ℕ, suc, ◌<◌, ◌≤◌}
 use native.Mathlib.Omega.{arith}
 use native.Mathlib.Decide.{ℕ_discrete}
-use lib.ListN.{length, set, length-set}
+use lib.ListN.{length, length-set}
 use lib.Seq.{get_or-set_same, get_or-set_other}
-use lib.Dec.{T, eqb, lit<}
+use lib.Dec.{T, lit<}
 use borrow.Author.Tests.{ne_eqb, eq-eqb}
 use Rattle.mir.specs.declared.records.Loc.{Loc}
 use Rattle.mir.specs.declared.records.Work.{Work}
@@ -118,6 +118,7 @@ module _ (k : List ℕ) (d a b : ℕ) (p : Loc) (hd : d < 32) (hp : index p < 25
 
 perhaps_here : (x : Bool) (X : Values) (d : ℕ) (v : Value) (r : ℕ) → T x → r ≡ d → (perhaps x d v X).reg r ≡ v
 perhaps_here true X d v r t e = put_here X d v r e
+perhaps_here false X d v r t e = elim t [ ]
 
 perhaps_other : (x : Bool) (X : Values) (d : ℕ) (v : Value) (r : ℕ) → (T x → r ≢ d) → (perhaps x d v X).reg r ≡ X.reg r
 perhaps_other true X d v r n = put_other X d v r (n tt)
@@ -140,6 +141,10 @@ held {G} h false n n' t = ap₂ C (h.on n (and_left (has n G) (has n' G) t)) (h.
 both_any : (g x y : Bool) → T (x && y) → T (x && (g || y))
 both_any true true true t = tt
 both_any false true true t = tt
+both_any false false y t = elim t [ ]
+both_any false true false t = elim t [ ]
+both_any true false y t = elim t [ ]
+both_any true true false t = elim t [ ]
 
 -- The one computed test: the lines read fresh names, write only what they may, and leave d's halves fresh (g: d becomes real).
 unfoldable pub passes : Pairs → Bool → Bool → Bool → List Work → Bool

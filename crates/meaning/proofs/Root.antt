@@ -2,7 +2,7 @@
 use mathlib.Core.Path.{◌≡◌, refl, sym, ap, ◌∙◌, subst, subst₃}
 use mathlib.Core.Bool.{Bool, true, false, cond}
 use mathlib.Core.List.{List, [], ◌∷◌, ◌++◌, map}
-use Prim.Native.Nat.{ℕ, ◌<◌}
+use Prim.Native.Nat.{ℕ}
 use native.Mathlib.Omega.{arith}
 use lib.ListN.{get_or}
 use lib.Dec.{T, eqb, lit<}
@@ -12,7 +12,7 @@ use Rattle.mir.specs.declared.records.Loc.{Loc}
 use Rattle.mir.specs.declared.records.Work.{Work}
 use Rattle.mir.specs.Register.{re, im}
 use Rattle.float.specs.Word as Word
-use Rattle.player_machine.specs.Machine.{Store, at, place, execs, uni_word, bin_word, fused_word}
+use Rattle.player_machine.specs.Machine.{Store, at, execs, uni_word, bin_word, fused_word}
 use Rattle.lowering.specs.declared.realness.Realness.{Realness}
 use Rattle.lowering.specs.Realness.{is_real_reg, is_real_loc, set_reg}
 use Rattle.lowering.specs.Lines.{stable_exponent, stable_root_magnitude, plain_root_magnitude, root_block}
@@ -21,7 +21,7 @@ use Rattle.lowering.specs.Complexifier.{INFINITY, EXP_MASK_FINITE, FLOOR_FINITE}
 use Rattle.leftovers.proofs.Rows.{ren}
 use Rattle.leftovers.proofs.Names.{name, rename}
 use Rattle.leftovers.proofs.Methods.{two}
-use Rattle.meaning.specs.Value.{Value, R, C, re_of, im_of, each, half_size, larger_plain, larger, smaller, one_root, turned}
+use Rattle.meaning.specs.Value.{Value, R, C, re_of, im_of, each, half_size, larger_plain, larger, smaller, turned}
 use Rattle.meaning.specs.Means.{Values, put, put_place, real_half, root_leaves}
 use Rattle.meaning.specs.Preserved.{value_of}
 use Rattle.meaning.proofs.Eval.{run}

@@ -1,14 +1,12 @@
 -- Root and RealRoot: the steps around the block's call.
 use mathlib.Core.Path.{◌≡◌, refl, sym, ap, ◌∙◌, subst}
 use mathlib.Core.Bool.{Bool, true, false, cond}
-use mathlib.Core.List.{List, [], ◌∷◌, ◌++◌, map, append_assoc}
-use Prim.Native.Nat.{ℕ, suc, ◌+◌, ◌<◌}
-use native.Mathlib.Nat.{add_assoc, suc-add, zero-add}
-use lib.ListN.{length, length-append}
+use mathlib.Core.List.{List}
+use Prim.Native.Nat.{ℕ, ◌<◌}
+use native.Mathlib.Nat.{suc-add, zero-add}
 use lib.Dec.{eqb, lit<}
 use Rattle.mir.specs.declared.records.Work.{Work}
-use Rattle.mir.specs.declared.records.Record.{Record}
-use Rattle.player_machine.specs.Machine.{Store, execs, going, seeking, reach, uni_word}
+use Rattle.player_machine.specs.Machine.{execs, reach, uni_word}
 use Rattle.lowering.specs.Realness.{is_real_reg, set_reg}
 use Rattle.lowering.specs.Lines.{real_root_lines}
 use Rattle.lowering.specs.Complexifier as c

@@ -21,7 +21,7 @@ use Rattle.meaning.specs.Means as Means
 use Rattle.meaning.specs.Means.{Values, halves, real_half, leave_real, plain_mixed}
 use Rattle.meaning.specs.Preserved.{value_of}
 use Rattle.meaning.proofs.Eval.{run}
-use Rattle.meaning.proofs.Leaf.{Ready, leaf, leaves, temp-leaf, re_apart, put_other}
+use Rattle.meaning.proofs.Leaf.{Ready, leaves, temp-leaf, re_apart, put_other}
 use Rattle.meaning.proofs.Stretch.{Computes, works, operand}
 
 -- what is left: both halves, or the real one

@@ -7,7 +7,7 @@ use Prim.Native.Nat.{ℕ, ◌<◌}
 use native.Mathlib.Omega.{arith}
 use native.Mathlib.Decide.{ℕ_discrete, dec_lt}
 use lib.ListN.{get_or}
-use lib.Dec.{lit<, ltb, eqb}
+use lib.Dec.{lit<, ltb}
 use borrow.Author.Tests.{lt-ltb, ne_eqb}
 use Rattle.mir.specs.declared.records.Loc.{Loc}
 use Rattle.mir.specs.Register.{re, im}

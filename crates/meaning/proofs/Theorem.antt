@@ -1,7 +1,7 @@
 -- Playing a sheet's listing computes what the sheet means.
 use mathlib.Core.Path.{◌≡◌, refl, sym, ap, ◌∙◌, subst}
 use mathlib.Core.List.{List, [], ◌∷◌, ◌++◌}
-use Prim.Native.Nat.{ℕ, suc, ◌+◌, ◌-◌, ◌≤◌}
+use Prim.Native.Nat.{ℕ, suc, ◌-◌, ◌≤◌}
 use native.Mathlib.Omega.{arith}
 use lib.ListN.{length, drop}
 use Rattle.mir.specs.declared.records.Record.{Record}
@@ -25,8 +25,6 @@ use Rattle.leftovers.proofs.Branches.{Sound}
 use Rattle.leftovers.proofs.Jumping.{Fair}
 use Rattle.leftovers.proofs.Sheets.{as_lowered, all_in, read_back, answers, sound}
 use Rattle.meaning.specs.Means.{Values}
-use Rattle.complexify.specs.Entry.{answer}
-use Rattle.entries.specs.Entries.{left}
 use Rattle.entries.proofs.Entered.{entered}
 use Rattle.entries.proofs.Demand.{same}
 use Rattle.meaning.specs.Preserved.{values_of, Holds, Every, Preserves, Preserved}

@@ -9,7 +9,6 @@ use Rattle.mir.specs.declared.ops.ArithOp.{ArithOp}
 use Rattle.mir.specs.declared.ops.FusedOp.{FusedOp}
 use Rattle.mir.specs.declared.records.Loc.{Loc}
 use Rattle.mir.specs.declared.records.Instruction.{Instruction}
-use Rattle.mir.specs.Register.{Ret, Temp}
 use Rattle.sheet.specs.declared.setup.Mode.{Mode}
 use Rattle.float.specs.Root.{square_root}
 use Rattle.float.specs.Fused.{fused_multiply_add}
