@@ -13,7 +13,7 @@ TOP = Path(__file__).resolve().parent.parent
 CRATES = TOP / "crates"
 
 # What separates the words of antt; each of these is a token of its own.
-TOKEN = re.compile(r"[(){};,⌜⌝]|[^\s(){};,⌜⌝]+")
+TOKEN = re.compile(r"[(){};,]|[^\s(){};,]+")
 HEAD = re.compile(r"(?:pub |abbrev |unfoldable )*(?P<name>\S+) : (?P<type>.*)", re.DOTALL)
 BLOCK = re.compile(r"(?:pub )?(?P<kind>record|data) (?P<name>\S+)(?P<rest>.*)", re.DOTALL)
 MEMBER = re.compile(r"\s+(?:pub )?(?P<names>[^\s:]+(?: [^\s:]+)*) : (?P<type>.*)", re.DOTALL)
@@ -50,7 +50,7 @@ class Module:
 
     def find(self, word: str) -> tuple[str, str] | Declaration | None:
         """What a word names: a declaration of this file, or a name of another module."""
-        for name in (word, f"_{word}_"):
+        for name in (word, f"◌{word}◌"):
             if name in self.declared:
                 return self.declared[name]
             if name in self.used:
@@ -85,7 +85,7 @@ def words(text: str) -> Iterator[str]:
 
 def file_of(module: str) -> Path | None:
     """The file of a module of this repository's specs/; none for the toolchain's modules and for types that src/ declares."""
-    match = re.fullmatch(r"Rattle·(\w+)(?:·specs)?\.specs\.(.+)", module)
+    match = re.fullmatch(r"Rattle\.(\w+)\.specs\.(.+)", module)
     if not match or match[2].startswith("declared."):
         return None
     path = CRATES / match[1] / "specs" / (match[2].replace(".", "/") + ".antt")
@@ -297,9 +297,15 @@ def believed() -> list[Declaration]:
     for file in sources():
         for function in functions(file):
             if promises_to_a_user(function):
-                ensured = [clause for clause in function.clauses if clause.startswith("ensures ")]
+                ensured = [clause.partition("{")[2] for clause in function.clauses if clause.startswith("ensures ")]
                 starts += named(function.module, " ; ".join(ensured))
     return reached(starts)
+
+
+def is_ours(module: str) -> bool:
+    """Whether a module is of a crate of this repository."""
+    match = re.match(r"Rattle\.(\w+)\.", module)
+    return match is not None and (CRATES / match[1]).is_dir()
 
 
 def toolchain(declarations: Iterable[Declaration]) -> list[str]:
@@ -309,6 +315,6 @@ def toolchain(declarations: Iterable[Declaration]) -> list[str]:
         module = load(declaration.file)
         for word in words(declaration.text()):
             name = module.find(word)
-            if isinstance(name, tuple) and not name[0].startswith("Rattle·"):
+            if isinstance(name, tuple) and not is_ours(name[0]):
                 found.add(name[0])
     return sorted(found)

@@ -53,44 +53,44 @@ needed_at sheet i g n =
     }
 
 pub needed : Needed mixing 1
-needed = needed_at mixing 1 computed.mixing-given computed.mixing-differs
+needed = needed_at mixing 1 computed.mixing_given computed.mixing_differs
 
 pub needed-stable : Needed stable_mixing 1
-needed-stable = needed_at stable_mixing 1 computed.stable-given computed.stable-differs
+needed-stable = needed_at stable_mixing 1 computed.stable_given computed.stable_differs
 
 pub minded : Minded minding_mixing 1 1
 minded =
-    let g = computed.minding-given in
+    let g = computed.minding_given in
     let e = as_left minding_mixing g.accepted in
     record {
       is_half = computed.minding-half;
-      from_real = computed.minding-from;
-      into_complex = computed.minding-into;
-      reached = subst (λ (l : Lowered). standing l 1 zeros 1 ≡ some zeros) e computed.minding-reached;
-      met = met_at minding_mixing 1 g computed.minding-unmixed;
-      alike = subst (λ (l : Lowered). EndAlike l 1 zeros touched) e computed.minding-alike;
+      from_real = computed.minding_from;
+      into_complex = computed.minding_into;
+      reached = subst (λ (l : Lowered). standing l 1 zeros 1 ≡ some zeros) e computed.minding_reached;
+      met = met_at minding_mixing 1 g computed.minding_unmixed;
+      alike = subst (λ (l : Lowered). EndAlike l 1 zeros touched) e computed.minding_alike;
     }
 
 pub met : Met clean 2
-met = met_at clean 2 computed.clean-given computed.clean-unmixed
+met = met_at clean 2 computed.clean_given computed.clean_unmixed
 
 pub jumped-over : JumpedOver jumping 1 2
 jumped-over =
     record {
-      is_half = computed.jumping-half;
-      from_real = computed.jumping-from;
-      into_complex = computed.jumping-into;
-      met = met_at jumping 1 computed.jumping-given computed.jumping-unmixed;
+      is_half = computed.jumping_half;
+      from_real = computed.jumping_from;
+      into_complex = computed.jumping_into;
+      met = met_at jumping 1 computed.jumping_given computed.jumping_unmixed;
     }
 
 pub cleared : Cleared clearing 1
 cleared =
     record {
-      is_equal = computed.clearing-equal;
-      from_real = computed.clearing-real;
+      is_equal = computed.clearing_equal;
+      from_real = computed.clearing_real;
       changes =
-          subst (λ (l : Lowered). Changes l 1 marked 1 marked compared) (as_left clearing computed.clearing-accepted) computed.clearing-changes;
-      cleared = computed.clearing-clears;
-      written = computed.clearing-writes;
+          subst (λ (l : Lowered). Changes l 1 marked 1 marked compared) (as_left clearing computed.clearing_accepted) computed.clearing_changes;
+      cleared = computed.clearing_clears;
+      written = computed.clearing_writes;
       kept = computed.clearing_keeps;
     }

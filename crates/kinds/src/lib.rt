@@ -1,5 +1,7 @@
 // The kinds that sheets and listings share, read from the bytes that begin with the record, as a sheet's instruction over the registers of
 // either. `listing` tells a listing from a sheet; the operation is found by the caller.
+#![tactic(auto)]
+
 ghost use Rattle.std.specs.Prelude.{◌≡◌};
 ghost use Rattle.mir.specs.Kinds.{last_register, mov_from, load_from, save_from, load_const_from, if_else_from};
 ghost use Rattle.mir.specs.Operation.{as_uni, as_bin, as_fused};

@@ -1,4 +1,6 @@
 // Looking before playing: what one record of a listing would write on a store, and the record that follows it.
+#![tactic(auto)]
+
 ghost use Rattle.std.specs.Prelude.{◌≡◌};
 ghost use Rattle.player_machine.specs.Look as Machine;
 ghost use Rattle.look.specs.Numbers.{told};

@@ -12,9 +12,9 @@ use Rattle.lowering.specs.declared.realness.Realness.{Realness}
 use Rattle.lowering.specs.Realness.{real, complex, is_real_reg, is_real_loc, set_reg, set_loc_complex}
 use Rattle.lowering.specs.Pushes as mir
 use Rattle.lowering.specs.Lines.{ensure_lines, stable_divide_lines, stable_recip_lines, stable_abs_lines, stable_root_magnitude, fmov_lines}
-use Rattle.lowering.specs.Lines.{load_lines, save_lines, each_lines, abs_lines, abs2_lines, timesILines, timesNegILines, plain_root_magnitude}
+use Rattle.lowering.specs.Lines.{load_lines, save_lines, each_lines, abs_lines, plain_root_magnitude}
 use Rattle.lowering.specs.Lines.{root_block, real_root_lines, recip_lines, half_lines, minding_half_lines, plus_lines, minus_lines, times_lines, divide_lines}
-use Rattle.lowering.specs.Lines.{real_lines, imaginary_lines, conjugate_lines, complex_lines, order_lines, compare_lines, bits_lines, not_lines, ifelse_lines}
+use Rattle.lowering.specs.Lines.{compare_lines, bits_lines, ifelse_lines}
 
 -- the fields of `Complexifier` that change: `real_regs` with `real_locs`, `root_defined`, and the constants of its `mir`
 pub record State : Type 0 where

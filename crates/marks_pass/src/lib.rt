@@ -1,4 +1,6 @@
 // Which registers a listing draws on before they are filled, in one pass over its bytes.
+#![tactic(auto)]
+
 ghost use Rattle.std.specs.Prelude.{◌≡◌, List, length};
 ghost use Rattle.mir.specs.declared.records.Record.{Record};
 ghost use Rattle.mir.specs.Encode.{encode_all};

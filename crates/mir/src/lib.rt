@@ -1,4 +1,6 @@
 // Registers, places, operations, a sheet's instructions and a listing's records, and the bytes of a record.
+#![tactic(auto)]
+
 pub mod fields;
 pub mod lengths;
 pub mod ops;

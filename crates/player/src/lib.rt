@@ -1,5 +1,7 @@
 // The player: a first pass tests every record, and notes where the block begins. What follows tests none again: where a jump was seen the
 // jump rules are tried, the start record is found, and the records are played on the store, each from its bytes.
+#![tactic(auto)]
+
 ghost use Rattle.std.specs.Prelude.{◌≡◌};
 ghost use Rattle.player_machine.specs.Answer.{answer};
 ghost use Rattle.player.specs.Positions.{Judged};

@@ -1,4 +1,6 @@
 // What a working record does to the store, read from the bytes that begin with it.
+#![tactic(auto)]
+
 ghost use Rattle.std.specs.Prelude.{◌≡◌};
 ghost use Rattle.player_work.specs.Encoded.{encoded, has_work, worked};
 

@@ -1,2 +1,4 @@
 // A listing's records read one by one.
+#![tactic(auto)]
+
 pub mod reader;

@@ -1,5 +1,7 @@
 // What complexify.rs's `root` lists behind its call and moves: the block between its labels. i, j and q are the indices of the constants
 // that stable mode names.
+#![tactic(auto)]
+
 ghost use Rattle.std.specs.Prelude.{map};
 ghost use Rattle.mir.specs.Encode.{buf};
 ghost use Rattle.mir.specs.declared.records.Record.{Record};

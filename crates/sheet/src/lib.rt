@@ -1,3 +1,5 @@
 // A sheet read: its setup, and its instructions one by one.
+#![tactic(auto)]
+
 pub mod reader;
 pub mod setup;

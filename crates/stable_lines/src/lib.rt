@@ -1,5 +1,7 @@
 // What the stable methods of complexify.rs list in place of the plain ones, behind a scale by a power of two. i, j and q are the indices
 // of the constants that they name.
+#![tactic(auto)]
+
 ghost use Rattle.std.specs.Prelude.{map};
 ghost use Rattle.mir.specs.Encode.{buf};
 ghost use Rattle.mir.specs.Register.{re, im};

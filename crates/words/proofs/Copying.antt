@@ -1,11 +1,11 @@
 -- The loops over words and bytes: the word of eight bytes, one turn of each loop, and nothing left at its end.
 use Prim.Native.Nat.{ℕ, zero, suc, ◌+◌, ◌*◌, ◌-◌, ◌/◌, ◌%◌, ◌≤◌, ◌<◌}
 use mathlib.Core.Path.{◌≡◌, refl, sym, ap, ◌∙◌}
-use mathlib.Core.List.{List, [], ◌∷◌, ◌++◌}
+use mathlib.Core.List.{List, [], ◌∷◌}
 use native.Mathlib.Numerals.{add-one}
 use native.Mathlib.Nat.{add-suc}
 use native.Mathlib.Omega.{arith}
-use lib.ListN.{length, take, drop, get_or, set, length-drop, drop_of_length-le}
+use lib.ListN.{length, take, drop, get_or, set, drop_of_length-le}
 use lib.Seq.{sets, take-nil, drop-cons, drop-drop, take-take}
 use Rattle.words.specs.Bytes.{bytes, number, bytes_of, words}
 use Rattle.words.proofs.Lengths.{length_bytes, sets-append}

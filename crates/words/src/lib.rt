@@ -1,5 +1,7 @@
 // Words in bytes: each word is eight bytes, the lowest first. Where there is no room for the whole of what is to be stored, nothing is
 // changed.
+#![tactic(auto)]
+
 ghost use Rattle.std.specs.Prelude.{◌≡◌, ◌+◌, ◌*◌, ◌≤◌, ◌<◌, length, get_or, take};
 ghost use Rattle.std.proofs.lemmas.List.Edits.{sets};
 ghost use Rattle.words.specs.Bytes.{bytes, number, word_at, bytes_of, words, words_of, stored};

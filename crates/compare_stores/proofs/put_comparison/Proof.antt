@@ -6,22 +6,22 @@ use Rattle.compare_stores.proofs.Searching.{no_more, some_more}
 use Rattle.compare_stores.proofs.put_comparison.Statement.{statement}
 use Rattle.compare_stores.proofs.put_comparison.Tie as tie
 
-pub put-comparison-spec : {M : Type 1} → statement M
-put-comparison-spec =
+pub put_comparison_spec : {M : Type 1} → statement M
+put_comparison_spec =
     tie.close
     (tie.spec
     (λ c κs. search rules) (λ c κs. search rules) (λ c. search rules)
     (λ c.
-    let a = c.before.before.before.before.before.before.before.before.before.args in
-    let d = c.before.before.before.before.put-lines.ensures in
-    renamed (no_more a.one.now a.other.now a.most c.before.count-differences.ensures c.if1.true) d.0)
+    let a = c.args in
+    let d = c.put_lines-at.ensures in
+    renamed (no_more a.one.now a.other.now a.most c.count_differences-n.ensures c.if-n-most.true) d.0)
     (λ c. search rules) (λ c κs. search rules) (λ c κs. search rules) (λ c. search rules)
     (λ c.
-    let a = c.before.before.before.before.before.before.before.before.before.before.before.before.before.before.args in
-    let d = c.before.before.before.before.before.before.before.before.before.put-lines.ensures in
+    let a = c.args in
+    let d = c.put_lines-at.ensures in
     let low = d.1 in
     let g = long d.0 in
-    let p = c.before.before.before.more-line.ensures in
+    let p = c.more_line.ensures in
     let f = p.whole.fits in
-    let q = line-put p (omega (arith, low, g, f)) c.before.before.put-line.ensures in
-    renamed (some_more a.one.now a.other.now a.most c.before.before.before.before.before.before.count-differences.ensures c.before.before.before.before.before.if1.false) (d.0 ▹ q)))
+    let q = line-put p (omega (arith, low, g, f)) c.put_line.ensures in
+    renamed (some_more a.one.now a.other.now a.most c.count_differences-n.ensures c.if-n-most.false) (d.0 ▹ q)))

@@ -11,42 +11,42 @@ use Rattle.compare_stores.proofs.Searching.{line_on, line-end, lines_end}
 use Rattle.compare_stores.proofs.put_differences.Statement.{statement}
 use Rattle.compare_stores.proofs.put_differences.Tie as tie
 
-abbrev invariant-loop : tie.invariant-loop
-invariant-loop out₀ one other most at₀ from₀ left₀ out at from left =
+abbrev invariant-loop-left : tie.invariant-loop-left
+invariant-loop-left out₀ one other most at₀ from₀ left₀ out at from left =
     (at + 80 * left ≤ length out) × (at + 80 * left ≤ 80 * most)
     × Owes out₀ 0 (difference_lines one other most 0) out at (difference_lines one other left from)
 
-abbrev decreases-loop : tie.decreases-loop
-decreases-loop out₀ one other most at₀ from₀ left₀ out at from left = left
+abbrev decreases-loop-left : tie.decreases-loop-left
+decreases-loop-left out₀ one other most at₀ from₀ left₀ out at from left = left
 
-pub put-differences-spec : {M : Type 1} → statement M
-put-differences-spec =
+pub put_differences_spec : {M : Type 1} → statement M
+put_differences_spec =
     tie.close
     (tie.spec
-    invariant-loop
-    decreases-loop
+    invariant-loop-left
+    decreases-loop-left
     (λ c. (omega arith, omega arith, all (omega arith)))
     (λ c κs. search rules) (λ c. search rules)
     (λ c.
-    let a = c.before.before.before.before.before.before.before.args in
-    let l = c.before.before.before.loop in
+    let a = c.args in
+    let l = c.loop-left in
     let low = l.invariant.1 in
-    (none l.invariant.2 (line-end a.one.now a.other.now l.from c.before.next-difference.ensures l.left c.if1.true), omega (arith, low)))
+    (none l.invariant.2 (line-end a.one.now a.other.now l.from c.next_difference-i.ensures l.left c.if-i-ge1602.true), omega (arith, low)))
     (λ c. omega arith) (λ c κs. search rules) (λ c. omega arith) (λ c κs. search rules) (λ c κs. search rules) (λ c κs. search rules)
     (λ c. omega arith) (λ c. omega arith) (λ c. omega arith)
     (λ c.
-    let a = c.before.before.before.before.before.before.before.before.before.before.before.before.before.before.args in
-    let l = c.before.before.before.before.before.before.before.before.before.before.loop in
-    let d = c.before.before.before.before.before.before.before.before.next-difference in
+    let a = c.args in
+    let l = c.loop-left in
+    let d = c.next_difference-i in
     let i = d.result in
-    let one = c.before.before.before.before.before.before.word-at.ensures in
-    let other = c.before.before.before.before.before.word-at2.ensures in
-    let p = c.before.before.before.before.difference-line.ensures in
+    let one = c.word_at.ensures in
+    let other = c.word_at-in-loop-left.ensures in
+    let p = c.difference_line-line.ensures in
     let f = p.whole.fits in
     let n = p.whole.count in
     let room = l.invariant.0 in
-    let more = c.before.before.before.before.before.before.before.before.before.loop-test.true in
-    let q = line-put p (omega (arith, f, room, more)) c.before.before.put-line.ensures in
+    let more = c.loop-left-test.true in
+    let q = line-put p (omega (arith, f, room, more)) c.put_line-at.ensures in
     let q' = renamed (λ k. difference_line i (one k) (other k)) q in
     let g = long q in
     let k = q.ends in
@@ -57,8 +57,8 @@ put-differences-spec =
     (omega (arith, n, f, g, k, room, more), omega (arith, n, f, k, low, more), less l.invariant.2 on q'))
     (λ c. search rules)
     (λ c.
-    let a = c.before.before.before.before.before.args in
-    let l = c.before.loop in
+    let a = c.args in
+    let l = c.loop-left in
     let e : l.left ≡ 0 = omega arith in
     let low = l.invariant.1 in
     (none l.invariant.2 (ap (λ n. difference_lines a.one.now a.other.now n l.from) e ∙ lines_end a.one.now a.other.now l.from), omega (arith, low))))

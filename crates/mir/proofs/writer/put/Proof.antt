@@ -1,8 +1,6 @@
 -- `mir::writer::put` meets its contract: the length is the table's.
 use borrow.Author.Rules.{rules}
 use native.Mathlib.Omega.{arith}
-use mathlib.Core.Path.{◌≡◌}
-use lib.ListN.{length}
 use Rattle.mir.specs.Length.{length_of}
 use Rattle.mir.proofs.Puts.{longest, put_full, put_fits}
 use Rattle.mir.proofs.writer.put.Statement.{statement}

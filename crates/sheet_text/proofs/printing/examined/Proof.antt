@@ -12,41 +12,41 @@ use Rattle.sheet_text.proofs.Turns.{Counted, counts-on, counts_end}
 use Rattle.sheet_text.proofs.printing.examined.Statement.{statement}
 use Rattle.sheet_text.proofs.printing.examined.Tie as tie
 
-abbrev invariant-loop : tie.invariant-loop
-invariant-loop sheet first count at₀ n₀ at n = Counted count sheet first at n
+abbrev invariant-loop-at : tie.invariant-loop-at
+invariant-loop-at sheet first count at₀ n₀ at n = Counted count sheet first at n
 
-abbrev decreases-loop : tie.decreases-loop
-decreases-loop sheet first count at₀ n₀ at n = length sheet - at
+abbrev decreases-loop-at : tie.decreases-loop-at
+decreases-loop-at sheet first count at₀ n₀ at n = length sheet - at
 
-pub examined-spec : {M : Type 1} → statement M
-examined-spec =
+pub examined_spec : {M : Type 1} → statement M
+examined_spec =
     tie.close
     (tie.spec
-    invariant-loop decreases-loop
+    invariant-loop-at decreases-loop-at
     (λ c. record { few = omega arith; many = omega arith; fault = refl })
     (λ c.
-    let a = c.before.before.before.before.args in
-    let l = c.before.before.loop in
-    counts_end l.invariant (on-full a.count a.sheet.now l.at c.if1.true (omega arith)))
+    let a = c.args in
+    let l = c.loop-at in
+    counts_end l.invariant (on-full a.count a.sheet.now l.at c.if-n.true (omega arith)))
     (λ c κs. search rules) (λ c. search rules) (λ c. search rules)
     (λ c.
-    let a = c.before.before.before.before.before.before.before.before.args in
-    let l = c.before.before.before.before.before.before.loop in
-    let f = still l.invariant.few c.before.before.before.before.if1.false in
+    let a = c.args in
+    let l = c.loop-at in
+    let f = still l.invariant.few c.if-n.false in
     counts_end l.invariant (on-done a.count a.sheet.now l.at f
-    (torn-instruction a.count a.sheet.now l.at c.before.before.before.read-instruction.ensures c.before.q2.given.1 (omega arith))))
+    (torn-instruction a.count a.sheet.now l.at c.read_instruction-q.ensures c.in-Refused.is (omega arith))))
     (λ c. search rules)
     (λ c.
-    let a = c.before.before.before.before.before.before.before.before.args in
-    let l = c.before.before.before.before.before.before.loop in
-    let h = (here-instruction a.count a.sheet.now l.at c.before.before.before.read-instruction.ensures c.before.q.given.1).on in
+    let a = c.args in
+    let l = c.loop-at in
+    let h = (here-instruction a.count a.sheet.now l.at c.read_instruction-q.ensures c.in-Got.is).on in
     omega (arith, h))
     (λ c.
-    let a = c.before.before.before.before.before.before.before.before.args in
-    let l = c.before.before.before.before.before.before.loop in
-    let f = still l.invariant.few c.before.before.before.before.if1.false in
-    counts-on l.invariant f (here-instruction a.count a.sheet.now l.at c.before.before.before.read-instruction.ensures c.before.q.given.1))
+    let a = c.args in
+    let l = c.loop-at in
+    let f = still l.invariant.few c.if-n.false in
+    counts-on l.invariant f (here-instruction a.count a.sheet.now l.at c.read_instruction-q.ensures c.in-Got.is))
     (λ c.
-    let a = c.before.before.before.args in
-    let l = c.before.loop in
+    let a = c.args in
+    let l = c.loop-at in
     counts_end l.invariant (on-end a.count a.sheet.now l.at l.n (ended (instruction_from a.count) a.sheet.now l.at (omega arith)))))

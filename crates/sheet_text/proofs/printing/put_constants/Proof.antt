@@ -12,21 +12,21 @@ use Rattle.sheet_text.proofs.Turns.{constants-on, constants-end}
 use Rattle.sheet_text.proofs.printing.put_constants.Statement.{statement}
 use Rattle.sheet_text.proofs.printing.put_constants.Tie as tie
 
-abbrev invariant-loop : tie.invariant-loop
-invariant-loop out₀ start sheet count at₀ i₀ out at i =
+abbrev invariant-loop-i : tie.invariant-loop-i
+invariant-loop-i out₀ start sheet count at₀ i₀ out at i =
     (i ≤ count) × (at ≤ start + 80 * i) × (start + 80 * count ≤ length out)
     × Owes out₀ start (constant_lines (constants_of sheet count)) out at (constant_lines (constants_from_on sheet (count - i) i))
 
-abbrev decreases-loop : tie.decreases-loop
-decreases-loop out₀ start sheet count at₀ i₀ out at i = count - i
+abbrev decreases-loop-i : tie.decreases-loop-i
+decreases-loop-i out₀ start sheet count at₀ i₀ out at i = count - i
 
-pub put-constants-spec : {M : Type 1} → statement M
-put-constants-spec =
+pub put_constants_spec : {M : Type 1} → statement M
+put_constants_spec =
     tie.close
     (tie.spec
-    invariant-loop decreases-loop
+    invariant-loop-i decreases-loop-i
     (λ c.
-    let a = c.before.before.args in
+    let a = c.args in
     let e : a.count ≡ a.count - 0 = omega arith in (
       omega arith,
       omega arith,
@@ -35,24 +35,24 @@ put-constants-spec =
     ))
     (λ c κs. search rules) (λ c κs. search rules) (λ c κs. search rules) (λ c. search rules) (λ c. search rules)
     (λ c.
-    let a = c.before.before.before.before.before.before.before.before.before.before.args in
-    let l = c.before.before.before.before.before.before.before.loop in
-    let p = c.before.before.before.before.constant-line.ensures in
-    let more = c.before.before.before.before.before.before.loop-test.true in
-    let word = c.before.before.before.before.before.constant-at.ensures in
+    let a = c.args in
+    let l = c.loop-i in
+    let p = c.constant_line-line.ensures in
+    let more = c.loop-i-test.true in
+    let word = c.constant_at.ensures in
     let f = p.whole.fits in
     let n = p.whole.count in
     let near = l.invariant.1 in
     let room = l.invariant.2 in
-    let q = line-put p (omega (arith, f, near, room, more)) c.before.before.put-line.ensures in
+    let q = line-put p (omega (arith, f, near, room, more)) c.put_line-at.ensures in
     let q' = renamed (ap constant_line word) q in
     let g = long q in
     let k = q.ends in
     (omega (arith, more), omega (arith, n, f, k, near), omega (arith, g, room), less l.invariant.3 (constants-on a.sheet.now a.count l.i more) q'))
     (λ c. search rules)
     (λ c.
-    let a = c.before.before.before.before.args in
-    let l = c.before.loop in
+    let a = c.args in
+    let l = c.loop-i in
     let near = l.invariant.1 in
     let most = l.invariant.0 in
     (none l.invariant.3 (constants-end a.sheet.now a.count l.i (omega arith)), omega (arith, near, most))))

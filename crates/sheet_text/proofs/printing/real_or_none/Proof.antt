@@ -10,14 +10,14 @@ use Rattle.assembly.specs.Lines.{real_line}
 use Rattle.sheet_text.proofs.printing.real_or_none.Statement.{statement}
 use Rattle.sheet_text.proofs.printing.real_or_none.Tie as tie
 
-pub real-or-none-spec : {M : Type 1} → statement M
-real-or-none-spec =
+pub real_or_none_spec : {M : Type 1} → statement M
+real_or_none_spec =
     tie.close
     (tie.spec
     (λ c κs. search rules)
-    (λ c. subst (λ b. Prints (cond b (real_line c.before.before.args.i) []) c.real-line.result) (sym c.before.if1.true) c.real-line.ensures)
+    (λ c. subst (λ b. Prints (cond b (real_line c.args.i) []) c.real_line.result) (sym c.if-real.true) c.real_line.ensures)
     (λ c κs. search rules)
     (λ c.
-    subst (λ b. Prints (cond b (real_line c.before.before.args.i) []) c.empty-line.result) (sym c.before.if1.false)
-    (subst (Prints []) (sym c.empty-line.ensures)
+    subst (λ b. Prints (cond b (real_line c.args.i) []) c.empty_line.result) (sym c.if-real.false)
+    (subst (Prints []) (sym c.empty_line.ensures)
     (record { same = refl; whole = record { size = refl; count = refl; fits = omega arith; bytes = refl } }))))

@@ -1,7 +1,6 @@
 -- `is_real_loc` meets its contract.
 use borrow.Author.Rules.{rules}
 use Rattle.lowering.specs.Realness.{is_real_loc}
-use mathlib.Core.Path.{◌∙◌}
 use Rattle.lowering.proofs.realness.Realness.is_real_loc.Statement.{statement}
 use Rattle.lowering.proofs.realness.Realness.is_real_loc.Tie as tie
 

@@ -1,7 +1,6 @@
 -- `set_loc_complex` meets its contract.
 use borrow.Author.Rules.{rules}
 use Rattle.lowering.specs.Realness.{without_loc}
-use mathlib.Core.Path.{◌∙◌}
 use Rattle.lowering.proofs.realness.Realness.set_loc_complex.Statement.{statement}
 use Rattle.lowering.proofs.realness.Realness.set_loc_complex.Tie as tie
 

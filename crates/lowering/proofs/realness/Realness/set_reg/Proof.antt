@@ -3,7 +3,7 @@ use borrow.Author.Rules.{rules}
 use native.Mathlib.Omega.{arith}
 use lib.ListN.{length}
 use lib.Seq.{set_out}
-use mathlib.Core.Path.{◌≡◌, sym, refl}
+use mathlib.Core.Path.{◌≡◌, refl}
 use Rattle.lowering.proofs.realness.Realness.set_reg.Statement.{statement}
 use Rattle.lowering.proofs.realness.Realness.set_reg.Tie as tie
 
