@@ -1,4 +1,6 @@
 // The two entries as C functions. Words go in and out as eight bytes each, the lowest first.
+#![tactic(auto)]
+
 ghost use Rattle.std.specs.Prelude.{◌≡◌, [], ◌∷◌, map, ◌*◌, ◌≤◌, length};
 ghost use Rattle.std.proofs.lemmas.List.Edits.{sets};
 ghost use Rattle.mir.specs.Encode.{flag_byte};

@@ -1,4 +1,6 @@
 // The lowering entry with the realness record lent.
+#![tactic(auto)]
+
 ghost use Rattle.std.specs.Prelude.{◌≡◌};
 ghost use Rattle.complexify.specs.Entry as Spec;
 ghost use Rattle.thin_lower.specs.Numbers.{numbers_of, held_of};

@@ -44,7 +44,7 @@ returns c =
     let a = c.args in
     let p = c.lower-a.ensures in
     let e = c.requires.constants_len in
-    let below : (i : ℕ) → i < length a.constants.now → get_or a.constants.now i 0 < 256 = λ i h. (c.slice_known-2-1.given i).fits in (
+    let below : (i : ℕ) → i < length a.constants.now → get_or a.constants.now i 0 < 256 = λ i h. search rules in (
       p.0 ∙ same_answer a.sheet.now a.listing.now a.constants.now (replicate 256 0) e refl below,
       p.1 ∙ same-listing a.sheet.now a.listing.now a.constants.now (replicate 256 0) e refl below,
       over a.sheet.now a.listing.now a.constants.now (replicate 256 0) e refl below p.0 p.2 c.save.ensures,
