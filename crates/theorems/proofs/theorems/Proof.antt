@@ -82,5 +82,5 @@ returns c =
       joined = joined;
     }
 
-pub theorems-spec : {M : Type 1} → statement M
-theorems-spec = tie.close (tie.spec returns)
+pub theorems_spec : {M : Type 1} → statement M
+theorems_spec = tie.close (tie.spec returns)
