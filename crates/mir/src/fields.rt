@@ -102,6 +102,7 @@ pub enum Place {
 }
 
 // A place of any class.
+#[tactic(auto, unfolding(crate::specs::Field::place_at, crate::specs::Field::u16_at))]
 pub fn read_place(s: &[u8], i: u8) -> Place
     ensures { as_place result ≡ place_at s.now i }
 {

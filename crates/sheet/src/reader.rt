@@ -92,6 +92,7 @@ fn read_branch(s: &[u8]) -> ReadInstruction
     ReadInstruction::Got(Instruction::Branch(label))
 }
 
+#[tactic(auto, unfolding(crate::specs::Instruction::branch_if_from))]
 fn read_branch_if(s: &[u8]) -> ReadInstruction
     ensures { as_read result ≡ branch_if_from s.now }
 {
