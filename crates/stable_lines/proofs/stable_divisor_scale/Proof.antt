@@ -11,4 +11,4 @@ stable_divisor_scale_spec =
     tie.close
     (tie.spec
     (λ c κs. search rules) (λ c κs. search rules) (λ c κs. search rules) (λ c κs. search rules) (λ c. search rules)
-    (λ c. c.stable_exponent-at.ensures ▹ c.bi-at.ensures ▹ c.load_const-at.ensures ▹ c.bi.ensures))
+    (λ c. search (rules, ◌▹◌)))

@@ -15,7 +15,7 @@ stable_const_spec =
     (tie.spec
     (λ c κs. search rules)
     (λ c. let h = c.requires.0 in let g = c.requires.1 in omega (arith, h))
-    (λ c. found c.position_of-p.ensures c.if-p-n.true)
+    (λ c. found c.position_of-p.ensures (omega arith))
     (λ c. let w : length c.args.added.words ≡ 3 = search rules in let q : 2 ≤ length c.args.added.words = omega (arith, w) in le_trans c.requires.1 q)
     (λ c. let h = c.requires.0 in let g = c.requires.1 in let w : length c.args.added.words ≡ 3 = search rules in let t : length (take c.args.added.count c.args.added.words) ≡ c.args.added.count = simp length-take (omega (arith, g, w)) in sym t)
     (λ c κs. search rules)
