@@ -6,14 +6,14 @@ use Rattle.shelf_call.proofs.Calls.{given}
 use Rattle.shelf_call.proofs.tulipcricket_shelf_unguarded.Statement.{statement}
 use Rattle.shelf_call.proofs.tulipcricket_shelf_unguarded.Tie as tie
 
-returns : tie.Need-returns
+returns : tie.Need-returns-then-answer-ne40
 unfolding shelf_call
-returns c = simp (ne_eqb _ _ c.if1.true)
+returns c = simp (ne_eqb _ _ c.if-answer-ne40.true)
 
-pub tulipcricket-shelf-unguarded-spec : {M : Type 1} → statement M
-tulipcricket-shelf-unguarded-spec =
+pub tulipcricket_shelf_unguarded_spec : {M : Type 1} → statement M
+tulipcricket_shelf_unguarded_spec =
     tie.close
     (tie.spec
     returns
     (λ c κs. search rules) (λ c. search rules) (λ c. search rules) (λ c κs. search rules) (λ c. search rules) (λ c. search rules)
-    (λ c. let a = c.before.before.before.before.before.before.before.before.before.before.before.args in given a.sheet.now a.answer.now c.before.before.before.before.before.before.before.shelf.result c.before.before.before.before.before.before.before.before.if1.false c.before.before.before.before.before.before.before.shelf.ensures c.before.before.before.save.ensures))
+    (λ c. let a = c.args in given a.sheet.now a.answer.now c.shelf-f.result c.if-answer-ne40.false c.shelf-f.ensures c.save.ensures))
