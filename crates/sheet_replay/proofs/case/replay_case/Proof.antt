@@ -23,5 +23,5 @@ replay_case_spec =
     (λ c κs.
     let n = c.count_at-n.ensures.0 in
     let m = c.count_at-m.ensures.0 in
-    (c.requires, (lent _ n m (omega arith) (omega arith) c.all_bytes-listing.ensures.0 c.All-words.ensures.0, lent _ n m (omega arith) (omega arith) c.all_bytes-bytes.ensures.0 c.all_words-words.ensures.0)))
+    (c.requires, (lent _ n m (omega arith) (omega arith) c.all_bytes-listing.ensures.0 c.all_words-constants.ensures.0, lent _ n m (omega arith) (omega arith) c.all_bytes-bytes.ensures.0 c.all_words-words.ensures.0)))
     (λ c. search rules))
