@@ -6,8 +6,8 @@ use Rattle.listing.proofs.Answering.{refused-text, accepted-text}
 use Rattle.listing.proofs.put_text.Statement.{statement}
 use Rattle.listing.proofs.put_text.Tie as tie
 
-pub put-text-spec : {M : Type 1} → statement M
-put-text-spec =
+pub put_text_spec : {M : Type 1} → statement M
+put_text_spec =
     tie.close
     (tie.spec
     (λ c. search rules) (λ c κs. search rules)
@@ -17,10 +17,10 @@ put-text-spec =
     (omega (arith, f), whole-fits p))
     (λ c. search rules)
     (λ c.
-    let a = c.before.before.before.before.before.before.before.before.before.before.before.args in
-    renamed (refused-text a.named a.a a.constants.now a.listing.now c.before.before.before.before.before.before.if1.true) (printing c.before.before.before.refusal.ensures c.before.before.put-line.ensures))
+    let a = c.args in
+    renamed (refused-text a.named a.a a.constants.now a.listing.now c.if-a-ne0.true) (printing c.refusal.ensures c.put_line.ensures))
     (λ c. search rules) (λ c. search rules) (λ c. search rules) (λ c. search rules) (λ c. search rules) (λ c. search rules)
     (λ c κs. search rules) (λ c. search rules)
     (λ c.
-    let a = c.before.before.before.before.before.before.before.before.before.before.before.args in
-    renamed (accepted-text a.named a.a a.constants.now a.listing.now c.before.before.before.before.before.before.if1.false) c.before.before.put-page.ensures))
+    let a = c.args in
+    renamed (accepted-text a.named a.a a.constants.now a.listing.now c.if-a-ne0.false) c.put_page.ensures))

@@ -7,11 +7,11 @@ use Rattle.listing.specs.Printed.{refusal_of}
 use Rattle.listing.proofs.refusal.Statement.{statement}
 use Rattle.listing.proofs.refusal.Tie as tie
 
-pub refusal-spec : {M : Type 1} → statement M
-refusal-spec =
+pub refusal_spec : {M : Type 1} → statement M
+refusal_spec =
     tie.close
     (tie.spec
     (λ c κs. search rules)
-    (λ c. let a = c.before.before.args in subst (λ l. Prints l c.refusal-line.result) (sym (ap (λ (q : Bool). refusal_of q a.number a.index) c.before.if1.true)) c.refusal-line.ensures)
+    (λ c. let a = c.args in subst (λ l. Prints l c.refusal_line.result) (sym (ap (λ (q : Bool). refusal_of q a.number a.index) c.if-named.true)) c.refusal_line.ensures)
     (λ c κs. search rules)
-    (λ c. let a = c.before.before.args in subst (λ l. Prints l c.refused-line.result) (sym (ap (λ (q : Bool). refusal_of q a.number a.index) c.before.if1.false)) c.refused-line.ensures))
+    (λ c. let a = c.args in subst (λ l. Prints l c.refused_line.result) (sym (ap (λ (q : Bool). refusal_of q a.number a.index) c.if-named.false)) c.refused_line.ensures))

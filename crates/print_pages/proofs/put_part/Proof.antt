@@ -7,25 +7,25 @@ use Rattle.print_pages.proofs.Showing.{least_left, shows-refusal, shows-none, sh
 use Rattle.print_pages.proofs.put_part.Statement.{statement}
 use Rattle.print_pages.proofs.put_part.Tie as tie
 
-pub put-part-spec : {M : Type 1} → statement M
+pub put_part_spec : {M : Type 1} → statement M
 unfolding ascii
-put-part-spec =
+put_part_spec =
     tie.close
     (tie.spec
     (λ c κs. search rules) (λ c. search rules) (λ c κs. search rules) (λ c κs. search rules) (λ c. search rules)
     (λ c.
-    let a = c.before.before.before.before.before.before.before.before.before.before.before.before.before.before.before.args in
-    shows-refusal a.first a.listing.now a.constants.now a.out.now c.before.before.before.before.before.before.before.before.before.before.before.before.before.before.before.requires (λ i. (c.before.before.before.before.before.before.before.before.before.before.before.before.before.shared-slice-known.given i).fits) c.before.before.before.before.before.before.before.before.before.before.part_of.result c.before.before.before.before.before.before.before.before.before.before.part_of.ensures c.before.before.before.before.before.before.if1.true c.before.before.before.refusal-line.ensures c.before.before.put-line.ensures)
-    (λ c. search rules) (λ c κs. search rules) (λ c. search rules)
+    let a = c.args in
+    shows-refusal a.first a.listing.now a.constants.now a.out.now c.requires (λ i. (c.shared_slice_known-1.given i).fits) c.part_of-a.result c.part_of-a.ensures c.if-a-ne0.true c.refusal_line.ensures c.put_line-len.ensures)
+    (λ c. search rules) (λ c. search rules)
     (λ c.
-    let a = c.before.before.before.before.before.before.before.before.before.before.before.before.before.before.before.before.args in
-    shows-none a.first a.listing.now a.constants.now a.out.now c.before.before.before.before.before.before.before.before.before.before.before.before.before.before.before.before.requires (λ i. (c.before.before.before.before.before.before.before.before.before.before.before.before.before.before.shared-slice-known.given i).fits) c.before.before.before.before.before.before.before.before.before.before.before.part_of.result c.before.before.before.before.before.before.before.before.before.before.before.part_of.ensures c.before.before.before.before.before.before.before.if1.false c.before.before.before.before.before.if2.true c.before.before.put.ensures)
+    let a = c.args in
+    shows-none a.first a.listing.now a.constants.now a.out.now c.requires (λ i. (c.shared_slice_known-1.given i).fits) c.part_of-a.result c.part_of-a.ensures c.if-a-ne0.false c.if-a-eq0.true c.put-len.ensures)
     (λ c κs. search rules)
     (λ c.
-    let a = c.before.before.before.before.before.before.before.before.before.before.before.before.args in
-    let h = least_left 112 (c.before.before.before.before.before.before.before.part_of.result.pages - a.first) in
+    let a = c.args in
+    let h = least_left 112 (c.part_of-a.result.pages - a.first) in
     omega (arith, h, c.at_once.ensures))
     (λ c. search rules)
     (λ c.
-    let a = c.before.before.before.before.before.before.before.before.before.before.before.before.args in
-    shows-pages a.first a.listing.now a.constants.now a.out.now c.before.before.before.before.before.before.before.before.before.before.before.before.requires (λ i. (c.before.before.before.before.before.before.before.before.before.before.shared-slice-known.given i).fits) c.before.before.before.before.before.before.before.part_of.result c.before.before.before.before.before.before.before.part_of.ensures c.before.before.before.if1.false c.before.if2.false c.at_once.ensures))
+    let a = c.args in
+    shows-pages a.first a.listing.now a.constants.now a.out.now c.requires (λ i. (c.shared_slice_known-1.given i).fits) c.part_of-a.result c.part_of-a.ensures c.if-a-ne0.false c.if-a-eq0.false c.at_once.ensures))

@@ -11,44 +11,44 @@ use Rattle.records.proofs.Reading.{here-record, torn-record}
 use Rattle.listing.proofs.page.count_records.Statement.{statement}
 use Rattle.listing.proofs.page.count_records.Tie as tie
 
-abbrev invariant-loop : tie.invariant-loop
-invariant-loop listing count at₀ n₀ at n =
+abbrev invariant-loop-at : tie.invariant-loop-at
+invariant-loop-at listing count at₀ n₀ at n =
     (n ≤ at) × (n + length (items (record_from count) (drop at listing)) ≡ length (items (record_from count) listing))
 
-abbrev decreases-loop : tie.decreases-loop
-decreases-loop listing count at₀ n₀ at n = length listing - at
+abbrev decreases-loop-at : tie.decreases-loop-at
+decreases-loop-at listing count at₀ n₀ at n = length listing - at
 
-pub count-records-spec : {M : Type 1} → statement M
-count-records-spec =
+pub count_records_spec : {M : Type 1} → statement M
+count_records_spec =
     tie.close
     (tie.spec
-    invariant-loop
-    decreases-loop
+    invariant-loop-at
+    decreases-loop-at
     (λ c. (omega arith, zero-add _))
     (λ c κs. search rules) (λ c. search rules) (λ c. search rules)
     (λ c.
-    let a = c.before.before.before.before.before.before.args in
-    let l = c.before.before.before.before.loop in
-    let d = ap length (torn-record a.count a.listing.now l.at c.before.before.read-record.ensures c.enum_told.given.1 (omega arith)).same in
+    let a = c.args in
+    let l = c.loop-at in
+    let d = ap length (torn-record a.count a.listing.now l.at c.read_record-q.ensures c.in_default.is (omega arith)).same in
     let i = l.invariant.1 in
     omega (arith, d, i))
     (λ c. search rules)
     (λ c.
-    let a = c.before.before.before.before.before.before.before.args in
-    let l = c.before.before.before.before.before.loop in
-    let h = (here-record a.count a.listing.now l.at c.before.before.before.read-record.ensures c.before.q.given.1).on in
+    let a = c.args in
+    let l = c.loop-at in
+    let h = (here-record a.count a.listing.now l.at c.read_record-q.ensures c.in-Got.is).on in
     omega (arith, h))
     (λ c.
-    let a = c.before.before.before.before.before.before.before.args in
-    let l = c.before.before.before.before.before.loop in
-    let h = here-record a.count a.listing.now l.at c.before.before.before.read-record.ensures c.before.q.given.1 in
+    let a = c.args in
+    let l = c.loop-at in
+    let h = here-record a.count a.listing.now l.at c.read_record-q.ensures c.in-Got.is in
     let g = h.on in
     let k = ap length h.same in
     let i = l.invariant.1 in
     (omega (arith, g), omega (arith, k, i)))
     (λ c.
-    let a = c.before.before.before.args in
-    let l = c.before.loop in
+    let a = c.args in
+    let l = c.loop-at in
     let d = ap length (ended (record_from a.count) a.listing.now l.at (omega arith)).same in
     let i = l.invariant.1 in
     omega (arith, d, i)))

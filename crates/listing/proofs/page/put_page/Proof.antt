@@ -8,18 +8,18 @@ use Rattle.listing.proofs.Putting.{constants_short, paged}
 use Rattle.listing.proofs.page.put_page.Statement.{statement}
 use Rattle.listing.proofs.page.put_page.Tie as tie
 
-pub put-page-spec : {M : Type 1} → statement M
-put-page-spec =
+pub put_page_spec : {M : Type 1} → statement M
+put_page_spec =
     tie.close
     (tie.spec
     (λ c κs. search rules)
     (λ c κs.
-    let p = c.constants-heading.ensures in
+    let p = c.constants_heading.ensures in
     let f = p.whole.fits in
     (omega (arith, f), whole-fits p))
     (λ c κs.
-    let p = c.before.before.before.before.constants-heading.ensures in
-    let q = printing p c.before.before.before.put-line.ensures in
+    let p = c.constants_heading.ensures in
+    let q = printing p c.put_line-at.ensures in
     let n = p.whole.count in
     let f = p.whole.fits in
     let g = long q in
@@ -27,33 +27,33 @@ put-page-spec =
     omega (arith, n, f, g, k))
     (λ c κs. search rules) (λ c κs. search rules)
     (λ c κs.
-    let a = c.before.before.before.before.before.before.before.before.before.before.before.before.before.before.before.args in
-    let p = c.before.before.before.before.before.before.before.before.before.before.constants-heading.ensures in
-    let q = printing p c.before.before.before.before.before.before.before.before.before.put-line.ensures in
+    let a = c.args in
+    let p = c.constants_heading.ensures in
+    let q = printing p c.put_line-at.ensures in
     let n = p.whole.count in
     let f = p.whole.fits in
     let g = long q in
     let k = q.ends in
-    let q2 = c.before.before.before.before.before.put-constants.ensures in
+    let q2 = c.put_constants-at.ensures in
     let g2 = long q2 in
     let k2 = q2.ends in
     let s = constants_short 0 a.constants.now in
-    let f2 = c.listing-heading.ensures.whole.fits in
-    (omega (arith, n, f, g, k, g2, k2, s, f2), whole-fits c.listing-heading.ensures))
+    let f2 = c.listing_heading.ensures.whole.fits in
+    (omega (arith, n, f, g, k, g2, k2, s, f2), whole-fits c.listing_heading.ensures))
     (λ c κs.
-    let a = c.before.before.before.before.before.before.before.before.before.before.before.before.before.before.before.before.before.before.before.args in
-    let p = c.before.before.before.before.before.before.before.before.before.before.before.before.before.before.constants-heading.ensures in
-    let q = printing p c.before.before.before.before.before.before.before.before.before.before.before.before.before.put-line.ensures in
+    let a = c.args in
+    let p = c.constants_heading.ensures in
+    let q = printing p c.put_line-at.ensures in
     let n = p.whole.count in
     let f = p.whole.fits in
     let g = long q in
     let k = q.ends in
-    let q2 = c.before.before.before.before.before.before.before.before.before.put-constants.ensures in
+    let q2 = c.put_constants-at.ensures in
     let g2 = long q2 in
     let k2 = q2.ends in
     let s = constants_short 0 a.constants.now in
-    let p3 = c.before.before.before.before.listing-heading.ensures in
-    let q3 = printing p3 c.before.before.before.put-line2.ensures in
+    let p3 = c.listing_heading.ensures in
+    let q3 = printing p3 c.put_line-at-2.ensures in
     let n3 = p3.whole.count in
     let f3 = p3.whole.fits in
     let g3 = long q3 in
@@ -61,10 +61,10 @@ put-page-spec =
     omega (arith, n, f, g, k, g2, k2, s, n3, f3, g3, k3))
     (λ c. search rules)
     (λ c.
-    let a = c.before.before.before.before.before.before.before.before.before.before.before.before.before.before.before.before.before.before.before.before.before.before.args in
+    let a = c.args in
     paged a.constants.now (records (length a.constants.now) a.listing.now).items (length a.listing.now)
-    (printing c.before.before.before.before.before.before.before.before.before.before.before.before.before.before.before.before.before.constants-heading.ensures c.before.before.before.before.before.before.before.before.before.before.before.before.before.before.before.before.put-line.ensures)
-    c.before.before.before.before.before.before.before.before.before.before.before.before.put-constants.ensures
-    c.before.before.before.before.before.before.before.before.before.count-records.ensures
-    (printing c.before.before.before.before.before.before.before.listing-heading.ensures c.before.before.before.before.before.before.put-line2.ensures)
-    c.before.before.put-records.ensures))
+    (printing c.constants_heading.ensures c.put_line-at.ensures)
+    c.put_constants-at.ensures
+    c.count_records-n.ensures
+    (printing c.listing_heading.ensures c.put_line-at-2.ensures)
+    c.put_records.ensures))

@@ -5,16 +5,16 @@ use Rattle.play_replay.specs.Case.{expected}
 use Rattle.play_replay.proofs.case.agrees.Statement.{statement}
 use Rattle.play_replay.proofs.case.agrees.Tie as tie
 
-pub agrees-spec : {M : Type 1} → statement M
+pub agrees_spec : {M : Type 1} → statement M
 unfolding expected
-agrees-spec =
+agrees_spec =
     tie.close
     (tie.spec
     (λ c. search rules) (λ c κs. search rules)
-    (λ c. simp (← c.before.count_at.ensures.0, ne_eqb _ _ c.if1.true))
+    (λ c. simp (← c.count_at.ensures.0, ne_eqb _ _ c.if-a-count_at.true))
     (λ c κs. search rules)
-    (λ c. simp (← c.before.before.before.count_at.ensures.0, eq-eqb _ _ c.before.before.if1.false, ← c.before.word-at.ensures, ne_eqb _ _ c.if2.true))
+    (λ c. simp (← c.count_at.ensures.0, eq-eqb _ _ c.if-a-count_at.false, ← c.word_at.ensures, ne_eqb _ _ c.if-a-word_at.true))
     (λ c κs. search rules)
-    (λ c. simp (← c.before.before.before.before.before.count_at.ensures.0, eq-eqb _ _ c.before.before.before.before.if1.false, ← c.before.before.before.word-at.ensures, eq-eqb _ _ c.before.before.if2.false, ← c.before.word-at2.ensures, ne_eqb _ _ c.if3.true))
+    (λ c. simp (← c.count_at.ensures.0, eq-eqb _ _ c.if-a-count_at.false, ← c.word_at.ensures, eq-eqb _ _ c.if-a-word_at.false, ← c.word_at-2.ensures, ne_eqb _ _ c.if-a-word_at-2.true))
     (λ c κs. search rules)
-    (λ c. simp (← c.before.before.before.before.before.before.count_at.ensures.0, eq-eqb _ _ c.before.before.before.before.before.if1.false, ← c.before.before.before.before.word-at.ensures, eq-eqb _ _ c.before.before.before.if2.false, ← c.before.before.word-at2.ensures, eq-eqb _ _ c.before.if3.false, c.same-words.ensures, c.before.before.before.before.before.before.before.before.before.before.before.requires)))
+    (λ c. simp (← c.count_at.ensures.0, eq-eqb _ _ c.if-a-count_at.false, ← c.word_at.ensures, eq-eqb _ _ c.if-a-word_at.false, ← c.word_at-2.ensures, eq-eqb _ _ c.if-a-word_at-2.false, c.same_words.ensures, c.requires)))

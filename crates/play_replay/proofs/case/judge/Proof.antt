@@ -8,12 +8,12 @@ use Rattle.play_replay.proofs.Judging.{is-answered}
 use Rattle.play_replay.proofs.case.judge.Statement.{statement}
 use Rattle.play_replay.proofs.case.judge.Tie as tie
 
-pub judge-spec : {M : Type 1} → statement M
-judge-spec =
+pub judge_spec : {M : Type 1} → statement M
+judge_spec =
     tie.close
     (tie.spec
     (λ c κs. search rules) (λ c. search rules) (λ c κs. search rules) (λ c. search rules) (λ c. search rules) (λ c. search rules)
     (λ c κs. search rules) (λ c κs. search rules) (λ c. search rules)
     (λ c.
-    let e = is-answered _ c.before.before.before.before.before.before.before.before.count_at.ensures.0 c.before.before.before.before.before.before.before.before.before.before.before.before.before.requires.1.0 c.before.before.before.before.before.before.before.word-at.ensures c.before.before.before.before.before.before.before.before.before.before.before.before.before.requires.1.1.0 c.before.before.before.before.play.ensures in
-    (ap (λ (a : Answer). a.number) e, ap not (c.agrees.ensures ∙ ap (expected _) e))))
+    let e = is-answered _ c.count_at-listing_end.ensures.0 c.requires.1.0 c.word_at-start.ensures c.requires.1.1.0 c.play-a.ensures in
+    (ap (λ (a : Answer). a.number) e, ap not (c.agrees-agreed.ensures ∙ ap (expected _) e))))

@@ -4,9 +4,9 @@ use Rattle.play_replay.proofs.Judging.{made-before}
 use Rattle.play_replay.proofs.case.make_before.Statement.{statement}
 use Rattle.play_replay.proofs.case.make_before.Tie as tie
 
-pub make-before-spec : {M : Type 1} → statement M
-make-before-spec =
+pub make_before_spec : {M : Type 1} → statement M
+make_before_spec =
     tie.close
     (tie.spec
     (λ c κs. search rules) (λ c. search rules) (λ c κs. search rules) (λ c κs. search rules) (λ c. search rules)
-    (λ c. made-before _ c.before.before.before.before.before.before.before.before.requires.1 c.before.before.before.before.before.fill-at.ensures.0 c.before.before.before.before.count_at.ensures.0 c.before.before.patch.ensures))
+    (λ c. made-before _ c.requires.1 c.fill_at.ensures.0 c.count_at.ensures.0 c.patch.ensures))

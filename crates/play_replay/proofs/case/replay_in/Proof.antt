@@ -5,12 +5,12 @@ use Rattle.play_replay.proofs.Judging.{loaded}
 use Rattle.play_replay.proofs.case.replay_in.Statement.{statement}
 use Rattle.play_replay.proofs.case.replay_in.Tie as tie
 
-pub replay-in-spec : {M : Type 1} → statement M
-replay-in-spec =
+pub replay_in_spec : {M : Type 1} → statement M
+replay_in_spec =
     tie.close
     (tie.spec
     (λ c κs. search rules) (λ c. search rules) (λ c κs. search rules) (λ c. search rules) (λ c. search rules) (λ c. search rules)
     (λ c κs. search rules) (λ c κs. search rules) (λ c κs. search rules)
-    (λ c κs. let p = c.before.before.before.before.before.before.before.before.before.before.before.before.before.before.before.before.before.before.before.before.before.before.requires in (p.0, (loaded _ _ c.before.before.before.before.before.before.before.before.before.before.before.before.before.before.before.before.before.count_at.ensures.0 c.before.before.before.before.before.before.before.before.before.before.before.before.before.before.before.before.fill-at.ensures.0 p.1.0 (omega arith) c.before.before.before.before.before.before.before.before.before.before.before.before.before.load.ensures, (c.before.before.before.before.before.before.before.before.before.make-before.ensures, c.before.before.before.before.before.make-after.ensures))))
+    (λ c κs. let p = c.requires in (p.0, (loaded _ _ c.count_at-at.ensures.0 c.fill_at-end.ensures.0 p.1.0 (omega arith) c.load.ensures, (c.make_before.ensures, c.make_after.ensures))))
     (λ c. search rules) (λ c. search rules) (λ c. search rules)
     (λ c. search rules))

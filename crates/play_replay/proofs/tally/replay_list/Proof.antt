@@ -9,28 +9,28 @@ use Rattle.play_replay.specs.Case.{cases}
 use Rattle.play_replay.proofs.tally.replay_list.Statement.{statement}
 use Rattle.play_replay.proofs.tally.replay_list.Tie as tie
 
-abbrev invariant-loop : tie.invariant-loop
-invariant-loop t₀ list n at₀ i₀ t at i = Left cases (replayed_list cases t₀ list) n list i t at
+abbrev invariant-loop-i : tie.invariant-loop-i
+invariant-loop-i t₀ list n at₀ i₀ t at i = Left cases (replayed_list cases t₀ list) n list i t at
 
-abbrev decreases-loop : tie.decreases-loop
-decreases-loop t₀ list n at₀ i₀ t at i = n - i
+abbrev decreases-loop-i : tie.decreases-loop-i
+decreases-loop-i t₀ list n at₀ i₀ t at i = n - i
 
-pub replay-list-spec : {M : Type 1} → statement M
-replay-list-spec =
+pub replay_list_spec : {M : Type 1} → statement M
+replay_list_spec =
     tie.close
     (tie.spec
-    invariant-loop
-    decreases-loop
+    invariant-loop-i
+    decreases-loop-i
     (λ c. no-count cases _ _ (omega arith))
     (λ c κs. search rules)
-    (λ c. begun cases _ _ (omega arith) c.count_at.ensures.0)
+    (λ c. begun cases _ _ (omega arith) c.count_at-n.ensures.0)
     (λ c. omega arith) (λ c. omega arith) (λ c. omega arith) (λ c κs. search rules) (λ c κs. search rules)
-    (λ c. stopped c.before.before.before.before.before.loop.invariant (omega arith) c.before.before.end.ensures c.before.is_cut.ensures c.if2.true)
-    (λ c κs. is_whole _ _ _ _ _ c.before.before.end.ensures c.before.is_cut.ensures c.if2.false)
+    (λ c. stopped c.loop-i.invariant (omega arith) c.end-size.ensures c.is_cut.ensures c.if-is_cut.true)
+    (λ c κs. is_whole _ _ _ _ _ c.end-size.ensures c.is_cut.ensures c.if-is_cut.false)
     (λ c κs. search rules)
     (λ c.
-    let h = ends-inside c.before.before.before.before.before.before.before.before.loop.invariant (is_whole _ _ _ _ _ refl c.before.before.before.before.is_cut.ensures c.before.before.before.if2.false).rest in
+    let h = ends-inside c.loop-i.invariant (is_whole _ _ _ _ _ refl c.is_cut.ensures c.if-is_cut.false).rest in
     omega arith)
     (λ c. omega arith) (λ c. omega arith)
-    (λ c. turned c.before.before.before.before.before.before.before.before.loop.invariant (omega arith) c.before.before.before.before.before.end.ensures c.before.before.before.before.is_cut.ensures c.before.before.before.if2.false c.before.before.replay-case.ensures.0 c.before.before.replay-case.ensures.1 c.tally.ensures (is_whole _ _ _ _ _ refl c.before.before.before.before.is_cut.ensures c.before.before.before.if2.false).rest)
-    (λ c. ended c.before.loop.invariant (omega arith)))
+    (λ c. turned c.loop-i.invariant (omega arith) c.end-size.ensures c.is_cut.ensures c.if-is_cut.false c.replay_case-o.ensures.0 c.replay_case-o.ensures.1 c.tally.ensures (is_whole _ _ _ _ _ refl c.is_cut.ensures c.if-is_cut.false).rest)
+    (λ c. ended c.loop-i.invariant (omega arith)))

@@ -1,22 +1,21 @@
 -- `case::agrees` meets its contract: numbers, realness, then both slices. Assumes nothing.
 use borrow.Author.Rules.{rules}
-use borrow.Author.Tests.{not-true, not-false}
 use Rattle.sheet_replay.specs.Case.{expected}
 use Rattle.sheet_replay.proofs.case.agrees.Statement.{statement}
 use Rattle.sheet_replay.proofs.case.agrees.Tie as tie
 
-pub agrees-spec : {M : Type 1} → statement M
+pub agrees_spec : {M : Type 1} → statement M
 unfolding expected
-agrees-spec =
+agrees_spec =
     tie.close
     (tie.spec
     (λ c κs. search rules)
-    (λ c. simp (← c.before.numbers-agree.ensures, not-true c.before.numbers-agree.result c.if1.true))
+    (λ c. simp (← c.numbers_agree.ensures, c.if-not-numbers_agree.true))
     (λ c κs. search rules)
-    (λ c. simp (← c.before.before.before.numbers-agree.ensures, not-false c.before.before.before.numbers-agree.result c.before.before.if1.false, ← c.before.real-agrees.ensures, not-true c.before.real-agrees.result c.if2.true))
+    (λ c. simp (← c.numbers_agree.ensures, c.if-not-numbers_agree.false, ← c.real_agrees.ensures, c.if-not-real_agrees.true))
     (λ c κs. search rules)
-    (λ c. simp (← c.before.before.before.before.before.numbers-agree.ensures, not-false c.before.before.before.before.before.numbers-agree.result c.before.before.before.before.if1.false, ← c.before.before.before.real-agrees.ensures, not-false c.before.before.before.real-agrees.result c.before.before.if2.false, ← c.before.marks-agree.ensures, not-true c.before.marks-agree.result c.if3.true))
+    (λ c. simp (← c.numbers_agree.ensures, c.if-not-numbers_agree.false, ← c.real_agrees.ensures, c.if-not-real_agrees.false, ← c.marks_agree.ensures, c.if-not-marks_agree.true))
     (λ c κs. search rules)
-    (λ c. simp (← c.before.before.before.before.before.before.before.numbers-agree.ensures, not-false c.before.before.before.before.before.before.before.numbers-agree.result c.before.before.before.before.before.before.if1.false, ← c.before.before.before.before.before.real-agrees.ensures, not-false c.before.before.before.before.before.real-agrees.result c.before.before.before.before.if2.false, ← c.before.before.before.marks-agree.ensures, not-false c.before.before.before.marks-agree.result c.before.before.if3.false, ← c.before.before.before.before.before.before.before.before.before.before.before.before.before.requires.1.0, ← c.before.same_bytes.ensures, not-true c.before.same_bytes.result c.if4.true))
+    (λ c. simp (← c.numbers_agree.ensures, c.if-not-numbers_agree.false, ← c.real_agrees.ensures, c.if-not-real_agrees.false, ← c.marks_agree.ensures, c.if-not-marks_agree.false, ← c.requires.1.0, ← c.same_bytes.ensures, c.if-not-same_bytes.true))
     (λ c κs. search rules)
-    (λ c. simp (← c.before.before.before.before.before.before.before.before.numbers-agree.ensures, not-false c.before.before.before.before.before.before.before.before.numbers-agree.result c.before.before.before.before.before.before.before.if1.false, ← c.before.before.before.before.before.before.real-agrees.ensures, not-false c.before.before.before.before.before.before.real-agrees.result c.before.before.before.before.before.if2.false, ← c.before.before.before.before.marks-agree.ensures, not-false c.before.before.before.before.marks-agree.result c.before.before.before.if3.false, ← c.before.before.before.before.before.before.before.before.before.before.before.before.before.before.requires.1.0, ← c.before.before.same_bytes.ensures, not-false c.before.before.same_bytes.result c.before.if4.false, ← c.before.before.before.before.before.before.before.before.before.before.before.before.before.before.requires.1.1, ← c.same-words.ensures)))
+    (λ c. simp (← c.numbers_agree.ensures, c.if-not-numbers_agree.false, ← c.real_agrees.ensures, c.if-not-real_agrees.false, ← c.marks_agree.ensures, c.if-not-marks_agree.false, ← c.requires.1.0, ← c.same_bytes.ensures, c.if-not-same_bytes.false, ← c.requires.1.1, ← c.same_words.ensures)))

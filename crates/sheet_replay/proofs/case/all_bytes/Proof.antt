@@ -5,9 +5,9 @@ use Rattle.sheet_replay.specs.Case.{lent_bytes}
 use Rattle.sheet_replay.proofs.case.all_bytes.Statement.{statement}
 use Rattle.sheet_replay.proofs.case.all_bytes.Tie as tie
 
-pub all-bytes-spec : {M : Type 1} → statement M
+pub all_bytes_spec : {M : Type 1} → statement M
 unfolding lent_bytes
-all-bytes-spec =
+all_bytes_spec =
     tie.close
     (tie.spec
     (λ c. (refl, search rules)))

@@ -5,9 +5,9 @@ use Rattle.sheet_replay.specs.Case.{lent_words}
 use Rattle.sheet_replay.proofs.case.all_words.Statement.{statement}
 use Rattle.sheet_replay.proofs.case.all_words.Tie as tie
 
-pub all-words-spec : {M : Type 1} → statement M
+pub all_words_spec : {M : Type 1} → statement M
 unfolding lent_words
-all-words-spec =
+all_words_spec =
     tie.close
     (tie.spec
     (λ c. (refl, search rules)))

@@ -4,17 +4,17 @@ use Rattle.sheet_replay.proofs.Judging.{bytes-made, words-made, judged}
 use Rattle.sheet_replay.proofs.case.judge.Statement.{statement}
 use Rattle.sheet_replay.proofs.case.judge.Tie as tie
 
-pub judge-spec : {M : Type 1} → statement M
-judge-spec =
+pub judge_spec : {M : Type 1} → statement M
+judge_spec =
     tie.close
     (tie.spec
     (λ c κs. search rules) (λ c κs. search rules) (λ c κs. search rules) (λ c. search rules) (λ c. search rules) (λ c. search rules)
     (λ c κs. search rules) (λ c. search rules) (λ c. search rules) (λ c. search rules) (λ c κs. search rules) (λ c. search rules)
     (λ c. search rules) (λ c. search rules) (λ c κs. search rules)
     (λ c κs.
-    let a = c.before.before.before.before.before.before.before.before.before.before.before.before.before.before.before.before.before.before.before.before.before.before.before.before.listing-at.ensures.0 in
-    let r = c.before.before.before.before.before.before.before.before.before.before.before.before.before.before.before.before.before.before.before.before.before.before.before.constants-at.ensures.0 in
-    let p = c.before.before.before.before.before.before.before.before.before.before.before.before.before.before.before.before.before.before.before.before.before.before.before.before.before.before.before.before.before.before.requires in
-    (p.0.long, (bytes-made _ a r p.1.1 c.before.before.before.before.before.before.before.before.before.before.before.before.before.before.before.before.before.before.before.put-bytes.ensures, words-made _ a r p.1.1 c.before.before.before.before.before.before.before.before.before.before.before.before.before.before.before.before.before.before.before.before.before.before.end.ensures c.before.before.before.before.before.before.before.before.before.before.before.before.before.before.load.ensures)))
+    let a = c.listing_at-at.ensures.0 in
+    let r = c.constants_at-row.ensures.0 in
+    let p = c.requires in
+    (p.0.long, (bytes-made _ a r p.1.1 c.put_bytes.ensures, words-made _ a r p.1.1 c.end-stop.ensures c.load.ensures)))
     (λ c. search rules) (λ c. search rules) (λ c. search rules) (λ c. search rules)
-    (λ c. let g = c.before.before.before.before.before.before.before.before.before.lower-case.ensures in judged _ c.before.before.before.before.before.before.before.before.before.before.before.before.before.before.before.before.before.before.before.before.before.before.before.before.before.listing-at.ensures.0 c.before.before.before.before.before.before.before.before.before.before.before.before.before.before.before.before.before.before.before.before.before.before.before.before.before.before.before.before.before.before.before.requires.1.0 g.0 g.1 g.2 c.agrees.ensures))
+    (λ c. let g = c.lower_case-a.ensures in judged _ c.listing_at-at.ensures.0 c.requires.1.0 g.0 g.1 g.2 c.agrees-agreed.ensures))

@@ -7,10 +7,10 @@ use Rattle.sheet_replay.specs.Case.{marks_agree}
 use Rattle.sheet_replay.proofs.case.marks_agree.Statement.{statement}
 use Rattle.sheet_replay.proofs.case.marks_agree.Tie as tie
 
-pub marks-agree-spec : {M : Type 1} → statement M
+pub marks_agree_spec : {M : Type 1} → statement M
 unfolding marks_agree
-marks-agree-spec =
+marks_agree_spec =
     tie.close
     (tie.spec
     (λ c κs. search rules) (λ c. search rules) (λ c. search rules) (λ c. search rules) (λ c. search rules) (λ c κs. search rules)
-    (λ c. c.same_bytes.ensures ∙ ap (λ m. same m (take 132 (drop 124 c.before.before.before.before.before.before.before.args.s.now))) c.before.before.before.mark-bytes.ensures))
+    (λ c. c.same_bytes.ensures ∙ ap (λ m. same m (take 132 (drop 124 c.args.s.now))) c.mark_bytes-marks.ensures))

@@ -6,16 +6,16 @@ use Rattle.sheet_replay.proofs.Judging.{count-decides}
 use Rattle.sheet_replay.proofs.case.numbers_agree.Statement.{statement}
 use Rattle.sheet_replay.proofs.case.numbers_agree.Tie as tie
 
-pub numbers-agree-spec : {M : Type 1} → statement M
+pub numbers_agree_spec : {M : Type 1} → statement M
 unfolding numbers_agree
-numbers-agree-spec =
+numbers_agree_spec =
     tie.close
     (tie.spec
     (λ c. search rules) (λ c κs. search rules)
-    (λ c. simp (← c.before.count_at.ensures.0, ne_eqb _ _ c.if1.true))
+    (λ c. simp (← c.count_at.ensures.0, ne_eqb _ _ c.if-a-count_at.true))
     (λ c κs. search rules)
-    (λ c. simp (← c.before.before.before.before.count_at.ensures.0, eq-eqb _ _ c.before.before.before.if1.false, ← c.before.before.count-at2.ensures.0, ne_eqb _ _ c.if2.true))
+    (λ c. simp (← c.count_at.ensures.0, eq-eqb _ _ c.if-a-count_at.false, ← c.count_at-2.ensures.0, ne_eqb _ _ c.if-a-count_at-2.true))
     (λ c κs. search rules)
-    (λ c. simp (← c.before.before.before.before.before.before.before.count_at.ensures.0, eq-eqb _ _ c.before.before.before.before.before.before.if1.false, ← c.before.before.before.before.before.count-at2.ensures.0, eq-eqb _ _ c.before.before.before.if2.false, ← c.before.before.count-at3.ensures.0, ne_eqb _ _ c.if3.true))
+    (λ c. simp (← c.count_at.ensures.0, eq-eqb _ _ c.if-a-count_at.false, ← c.count_at-2.ensures.0, eq-eqb _ _ c.if-a-count_at-2.false, ← c.count_at-3.ensures.0, ne_eqb _ _ c.if-a-count_at-3.true))
     (λ c κs. search rules)
-    (λ c. count-decides c.before.before.before.before.before.before.before.before.before.before.before.before.args.s.now c.before.before.before.before.before.before.before.before.before.before.before.before.args.a c.before.before.before.before.before.before.before.before.before.count_at.ensures.0 c.before.before.before.before.before.before.before.before.if1.false c.before.before.before.before.before.before.before.count-at2.ensures.0 c.before.before.before.before.before.if2.false c.before.before.before.before.count-at3.ensures.0 c.before.before.if3.false c.before.count-at4.ensures.0))
+    (λ c. count-decides c.args.s.now c.args.a c.count_at.ensures.0 c.if-a-count_at.false c.count_at-2.ensures.0 c.if-a-count_at-2.false c.count_at-3.ensures.0 c.if-a-count_at-3.false c.count_at-4.ensures.0))

@@ -6,10 +6,10 @@ use Rattle.sheet_replay.specs.Case.{real_agrees}
 use Rattle.sheet_replay.proofs.case.real_agrees.Statement.{statement}
 use Rattle.sheet_replay.proofs.case.real_agrees.Tie as tie
 
-pub real-agrees-spec : {M : Type 1} → statement M
+pub real_agrees_spec : {M : Type 1} → statement M
 unfolding real_agrees
-real-agrees-spec =
+real_agrees_spec =
     tie.close
     (tie.spec
     (λ c κs. search rules) (λ c. search rules) (λ c. search rules) (λ c. search rules) (λ c. search rules) (λ c κs. search rules)
-    (λ c. simp (c.same_bytes.ensures, c.before.before.before.record-bytes.ensures)))
+    (λ c. simp (c.same_bytes.ensures, c.record_bytes-record.ensures)))

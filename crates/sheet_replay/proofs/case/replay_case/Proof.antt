@@ -7,21 +7,21 @@ use Rattle.sheet_replay.proofs.Judging.{lent}
 use Rattle.sheet_replay.proofs.case.replay_case.Statement.{statement}
 use Rattle.sheet_replay.proofs.case.replay_case.Tie as tie
 
-pub replay-case-spec : {M : Type 1} → statement M
-replay-case-spec =
+pub replay_case_spec : {M : Type 1} → statement M
+replay_case_spec =
     tie.close
     (tie.spec
     (λ c κs. search rules) (λ c κs. search rules) (λ c κs. search rules) (λ c κs. search rules) (λ c κs. search rules)
     (λ c κs. search rules) (λ c. search rules)
-    (λ c. sym (length-take-le c.before.before.count_at.result _ (omega arith)))
+    (λ c. sym (length-take-le c.count_at-n.result _ (omega arith)))
     (λ c. search rules)
-    (λ c. sym (length-take-le c.before.before.count-at2.result _ (omega arith)))
+    (λ c. sym (length-take-le c.count_at-m.result _ (omega arith)))
     (λ c. search rules)
-    (λ c. sym (length-take-le c.before.before.before.before.count_at.result _ (omega arith)))
+    (λ c. sym (length-take-le c.count_at-n.result _ (omega arith)))
     (λ c. search rules)
-    (λ c. sym (length-take-le c.before.before.before.before.count-at2.result _ (omega arith)))
+    (λ c. sym (length-take-le c.count_at-m.result _ (omega arith)))
     (λ c κs.
-    let n = c.before.before.before.before.before.count_at.ensures.0 in
-    let m = c.before.before.before.before.count-at2.ensures.0 in
-    (c.before.before.before.before.before.before.before.before.before.before.before.requires, (lent _ n m (omega arith) (omega arith) c.before.before.before.before.before.before.before.before.before.all-bytes.ensures.0 c.before.before.before.before.before.before.before.before.All-words.ensures.0, lent _ n m (omega arith) (omega arith) c.before.before.before.before.before.before.before.all-bytes2.ensures.0 c.before.before.before.before.before.before.all-words2.ensures.0)))
+    let n = c.count_at-n.ensures.0 in
+    let m = c.count_at-m.ensures.0 in
+    (c.requires, (lent _ n m (omega arith) (omega arith) c.all_bytes-listing.ensures.0 c.all_words-constants.ensures.0, lent _ n m (omega arith) (omega arith) c.all_bytes-bytes.ensures.0 c.all_words-words.ensures.0)))
     (λ c. search rules))
