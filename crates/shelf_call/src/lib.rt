@@ -1,4 +1,6 @@
 // The entry of `shelf` as a C function.
+#![tactic(auto)]
+
 ghost use Rattle.std.specs.Prelude.{◌≡◌};
 ghost use Rattle.shelf_call.specs.Call.{shelf_call};
 
