@@ -3,7 +3,7 @@
 ghost use Rattle.std.specs.Prelude.{◌≡◌, List, ℕ};
 ghost use Rattle.player_work.specs.Encoded.{has_work, worked, uni_encoded, bi_encoded, mov_encoded, load_encoded, save_encoded, load_const_encoded, fused_encoded, if_else_encoded, load_complex_encoded, save_complex_encoded, complex_bi_encoded};
 
-use super::kinds::{
+use super::work_kinds::{
     bi, complex_bi, fused, if_else, load, load_complex, load_const, mov, save, save_complex, uni,
 };
 use mir::fields::{Place, byte, read_place, u16_at};

@@ -11,9 +11,9 @@ use bytes::{
 use mir::fields::u16_at;
 
 mod bytes;
-mod kinds;
 mod operations;
 pub mod words;
+mod work_kinds;
 
 // Whether the bytes encode work; the store is then what the work makes of it.
 pub fn exec(store: &mut [u64], constants: &[u64], s: &[u8]) -> bool

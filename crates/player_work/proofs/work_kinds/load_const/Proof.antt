@@ -1,8 +1,8 @@
 -- `work::kinds::load_const` meets its contract.
 use borrow.Author.Rules.{rules}
 use mathlib.Core.Path.{◌∙◌}
-use Rattle.player_work.proofs.kinds.load_const.Statement.{statement}
-use Rattle.player_work.proofs.kinds.load_const.Tie as tie
+use Rattle.player_work.proofs.work_kinds.load_const.Statement.{statement}
+use Rattle.player_work.proofs.work_kinds.load_const.Tie as tie
 
 pub load_const_spec : {M : Type 1} → statement M
 load_const_spec =

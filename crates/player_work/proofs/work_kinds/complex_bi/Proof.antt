@@ -1,8 +1,8 @@
 -- `work::kinds::complex_bi` meets its contract.
 use borrow.Author.Rules.{rules}
 use mathlib.Core.Path.{◌∙◌}
-use Rattle.player_work.proofs.kinds.complex_bi.Statement.{statement}
-use Rattle.player_work.proofs.kinds.complex_bi.Tie as tie
+use Rattle.player_work.proofs.work_kinds.complex_bi.Statement.{statement}
+use Rattle.player_work.proofs.work_kinds.complex_bi.Tie as tie
 
 pub complex_bi_spec : {M : Type 1} → statement M
 complex_bi_spec =

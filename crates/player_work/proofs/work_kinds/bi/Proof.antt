@@ -1,8 +1,8 @@
 -- `work::kinds::bi` meets its contract.
 use borrow.Author.Rules.{rules}
 use mathlib.Core.Path.{◌∙◌}
-use Rattle.player_work.proofs.kinds.bi.Statement.{statement}
-use Rattle.player_work.proofs.kinds.bi.Tie as tie
+use Rattle.player_work.proofs.work_kinds.bi.Statement.{statement}
+use Rattle.player_work.proofs.work_kinds.bi.Tie as tie
 
 pub bi_spec : {M : Type 1} → statement M
 bi_spec =

@@ -1,8 +1,8 @@
 -- `work::kinds::save` meets its contract.
 use borrow.Author.Rules.{rules}
 use mathlib.Core.Path.{◌∙◌}
-use Rattle.player_work.proofs.kinds.save.Statement.{statement}
-use Rattle.player_work.proofs.kinds.save.Tie as tie
+use Rattle.player_work.proofs.work_kinds.save.Statement.{statement}
+use Rattle.player_work.proofs.work_kinds.save.Tie as tie
 
 pub save_spec : {M : Type 1} → statement M
 save_spec =

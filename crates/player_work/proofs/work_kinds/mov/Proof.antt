@@ -1,8 +1,8 @@
 -- `work::kinds::mov` meets its contract.
 use borrow.Author.Rules.{rules}
 use mathlib.Core.Path.{◌∙◌}
-use Rattle.player_work.proofs.kinds.mov.Statement.{statement}
-use Rattle.player_work.proofs.kinds.mov.Tie as tie
+use Rattle.player_work.proofs.work_kinds.mov.Statement.{statement}
+use Rattle.player_work.proofs.work_kinds.mov.Tie as tie
 
 pub mov_spec : {M : Type 1} → statement M
 mov_spec =

@@ -1,8 +1,8 @@
 -- `work::kinds::load` meets its contract.
 use borrow.Author.Rules.{rules}
 use mathlib.Core.Path.{◌∙◌}
-use Rattle.player_work.proofs.kinds.load.Statement.{statement}
-use Rattle.player_work.proofs.kinds.load.Tie as tie
+use Rattle.player_work.proofs.work_kinds.load.Statement.{statement}
+use Rattle.player_work.proofs.work_kinds.load.Tie as tie
 
 pub load_spec : {M : Type 1} → statement M
 load_spec =

@@ -1,8 +1,8 @@
 -- `work::kinds::uni` meets its contract.
 use borrow.Author.Rules.{rules}
 use mathlib.Core.Path.{◌∙◌}
-use Rattle.player_work.proofs.kinds.uni.Statement.{statement}
-use Rattle.player_work.proofs.kinds.uni.Tie as tie
+use Rattle.player_work.proofs.work_kinds.uni.Statement.{statement}
+use Rattle.player_work.proofs.work_kinds.uni.Tie as tie
 
 pub uni_spec : {M : Type 1} → statement M
 uni_spec =

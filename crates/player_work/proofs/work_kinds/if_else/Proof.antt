@@ -1,8 +1,8 @@
 -- `work::kinds::if_else` meets its contract.
 use borrow.Author.Rules.{rules}
 use mathlib.Core.Path.{◌∙◌}
-use Rattle.player_work.proofs.kinds.if_else.Statement.{statement}
-use Rattle.player_work.proofs.kinds.if_else.Tie as tie
+use Rattle.player_work.proofs.work_kinds.if_else.Statement.{statement}
+use Rattle.player_work.proofs.work_kinds.if_else.Tie as tie
 
 pub if_else_spec : {M : Type 1} → statement M
 if_else_spec =

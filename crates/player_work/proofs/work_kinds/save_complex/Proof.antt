@@ -2,8 +2,8 @@
 use borrow.Author.Rules.{rules}
 use mathlib.Core.Path.{◌∙◌}
 use native.Mathlib.Numerals.{add-one}
-use Rattle.player_work.proofs.kinds.save_complex.Statement.{statement}
-use Rattle.player_work.proofs.kinds.save_complex.Tie as tie
+use Rattle.player_work.proofs.work_kinds.save_complex.Statement.{statement}
+use Rattle.player_work.proofs.work_kinds.save_complex.Tie as tie
 
 pub save_complex_spec : {M : Type 1} → statement M
 save_complex_spec =

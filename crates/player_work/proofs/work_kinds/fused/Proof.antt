@@ -1,8 +1,8 @@
 -- `work::kinds::fused` meets its contract.
 use borrow.Author.Rules.{rules}
 use mathlib.Core.Path.{◌∙◌}
-use Rattle.player_work.proofs.kinds.fused.Statement.{statement}
-use Rattle.player_work.proofs.kinds.fused.Tie as tie
+use Rattle.player_work.proofs.work_kinds.fused.Statement.{statement}
+use Rattle.player_work.proofs.work_kinds.fused.Tie as tie
 
 pub fused_spec : {M : Type 1} → statement M
 fused_spec =
