@@ -32,8 +32,7 @@ pub fn start_of(s: &[u8]) -> Start
         if b < 48 {
             return none();
         }
-        let high = 57 < b;
-        if high {
+        if 57 < b {
             return none();
         }
         if 1844674407370955161 < n {

@@ -36,17 +36,15 @@ start_of_spec =
     (λ c.
     let s = c.args.s.now in
     let l = c.loop-i in
-    c.none-then-high.ensures
-    ∙ sym (above s l.n l.i c.loop-i-test.true c.if-b-lt48.false c.if-high.true)
-    ∙ l.invariant
-    ∙ some-digit s c.if-s-eq0.false)
+    let e = sym (above s l.n l.i c.loop-i-test.true c.if-b-lt48.false (omega arith)) ∙ l.invariant ∙ some-digit s c.if-s-eq0.false in
+    cc)
     (λ c κs. search rules)
     (λ c.
     let s = c.args.s.now in
     let l = c.loop-i in
     let k = c.if-n-gt1844674407370955161.true in
     c.none-then-n-gt1844674407370955161.ensures
-    ∙ sym (large s l.n l.i c.loop-i-test.true c.if-b-lt48.false c.if-high.false (omega (arith, k)))
+    ∙ sym (large s l.n l.i c.loop-i-test.true c.if-b-lt48.false (omega arith) (omega (arith, k)))
     ∙ l.invariant
     ∙ some-digit s c.if-s-eq0.false)
     (λ c. omega arith) (λ c. omega arith) (λ c. omega arith) (λ c. omega arith) (λ c κs. search rules)
@@ -55,7 +53,7 @@ start_of_spec =
     let l = c.loop-i in
     let k = c.if-n-digit.true in
     c.none-then-n-digit.ensures
-    ∙ sym (large s l.n l.i c.loop-i-test.true c.if-b-lt48.false c.if-high.false (omega (arith, k)))
+    ∙ sym (large s l.n l.i c.loop-i-test.true c.if-b-lt48.false (omega arith) (omega (arith, k)))
     ∙ l.invariant
     ∙ some-digit s c.if-s-eq0.false)
     (λ c. omega arith) (λ c. omega arith) (λ c. omega arith) (λ c. omega arith)
@@ -63,7 +61,7 @@ start_of_spec =
     let l = c.loop-i in
     let low = c.if-n-gt1844674407370955161.false in
     let k = c.if-n-digit.false in
-    sym (digit c.args.s.now l.n l.i c.loop-i-test.true c.if-b-lt48.false c.if-high.false (omega (arith, low, k))) ∙ l.invariant)
+    sym (digit c.args.s.now l.n l.i c.loop-i-test.true c.if-b-lt48.false (omega arith) (omega (arith, low, k))) ∙ l.invariant)
     (λ c.
     let s = c.args.s.now in
     let l = c.loop-i in
