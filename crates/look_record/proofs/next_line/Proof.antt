@@ -10,12 +10,12 @@ use Rattle.look_record.proofs.Texts.{next_short}
 use Rattle.look_record.proofs.next_line.Statement.{statement}
 use Rattle.look_record.proofs.next_line.Tie as tie
 
-pub next-line-spec : {M : Type 1} → statement M
+pub next_line_spec : {M : Type 1} → statement M
 unfolding ascii next_line
-next-line-spec =
+next_line_spec =
     tie.close
     (tie.spec
-    (λ c κs. search rules) (λ c. search rules) (λ c κs. search rules)
-    (λ c. simp (eq-eqb _ _ c.before.before.before.if1.true) (prints c.before.before.empty-line.ensures c.text.ensures (omega arith)))
-    (λ c κs. search rules) (λ c. search rules) (λ c κs. search rules) (λ c κs. search rules) (λ c κs. search rules)
-    (λ c. simp (ne_eqb _ _ c.before.before.before.before.before.if1.false) (prints c.before.before.before.before.empty-line2.ensures (c.before.before.text2.ensures ▹ c.before.number.ensures ▹ c.byte.ensures) (next_short c.before.before.before.before.before.before.args.follows))))
+    (λ c κs. search rules) (λ c. search rules)
+    (λ c. simp (eq-eqb _ _ c.if-follows-count.true) (prints c.empty_line.ensures c.text.ensures (omega arith)))
+    (λ c κs. search rules) (λ c. search rules) (λ c κs. search rules) (λ c κs. search rules)
+    (λ c. simp (ne_eqb _ _ c.if-follows-count.false) (prints c.empty_line-2.ensures (c.text-2.ensures ▹ c.number.ensures ▹ c.byte.ensures) (next_short c.args.follows))))

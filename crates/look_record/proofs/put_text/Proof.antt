@@ -9,11 +9,11 @@ use Rattle.look_record.specs.Looks.{look_text}
 use Rattle.look_record.proofs.put_text.Statement.{statement}
 use Rattle.look_record.proofs.put_text.Tie as tie
 
-pub put-text-spec : {M : Type 1} → statement M
-put-text-spec =
+pub put_text_spec : {M : Type 1} → statement M
+put_text_spec =
     tie.close
     (tie.spec
     (λ c. search rules) (λ c κs. search rules) (λ c. search rules) (λ c κs. search rules) (λ c. search rules)
     (λ c.
-    let a = c.before.before.before.before.before.before.before.before.before.before.before.before.args in
-    renamed (ap (λ (k : LookCall). look_text a.listing.now (length a.constants.now / 8) a.start k.answer) c.before.before.before.before.before.before.tulipcricket-look-unguarded.ensures) c.before.before.put-look.ensures))
+    let a = c.args in
+    renamed (ap (λ (k : LookCall). look_text a.listing.now (length a.constants.now / 8) a.start k.answer) c.tulipcricket_look_unguarded.ensures) c.put_look.ensures))

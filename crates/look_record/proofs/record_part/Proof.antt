@@ -12,48 +12,48 @@ use Rattle.look_record.proofs.Texts.{part-here, part-on, part_none, spelled, bla
 use Rattle.look_record.proofs.record_part.Statement.{statement}
 use Rattle.look_record.proofs.record_part.Tie as tie
 
-abbrev invariant-loop : tie.invariant-loop
-invariant-loop listing count start at₀ left₀ at left =
+abbrev invariant-loop-at : tie.invariant-loop-at
+invariant-loop-at listing count start at₀ left₀ at left =
     get_elem? (items (record_from count) (drop at listing)) left ≡ get_elem? (items (record_from count) listing) start
 
-abbrev decreases-loop : tie.decreases-loop
-decreases-loop listing count start at₀ left₀ at left = length listing - at
+abbrev decreases-loop-at : tie.decreases-loop-at
+decreases-loop-at listing count start at₀ left₀ at left = length listing - at
 
-pub record-part-spec : {M : Type 1} → statement M
-record-part-spec =
+pub record_part_spec : {M : Type 1} → statement M
+record_part_spec =
     tie.close
     (tie.spec
-    invariant-loop
-    decreases-loop
+    invariant-loop-at
+    decreases-loop-at
     (λ c. refl)
     (λ c κs. search rules) (λ c. search rules) (λ c. search rules) (λ c κs. search rules)
     (λ c.
-    let a = c.before.before.before.before.before.before.before.args in
-    let l = c.before.before.before.before.before.loop in
-    let d = torn-record a.count a.listing.now l.at c.before.before.before.read-record.ensures c.before.enum_told.given.1 (omega arith) in
-    spelled (ap record_part (sym (part_none l.left d) ∙ l.invariant)) (blank c.empty-line.ensures))
+    let a = c.args in
+    let l = c.loop-at in
+    let d = torn-record a.count a.listing.now l.at c.read_record-q.ensures c.in_default.is (omega arith) in
+    spelled (ap record_part (sym (part_none l.left d) ∙ l.invariant)) (blank c.empty_line.ensures))
     (λ c κs. search rules)
     (λ c.
-    let a = c.before.before.before.before.before.before.before.before.before.args in
-    let l = c.before.before.before.before.before.before.before.loop in
-    let h = here-record a.count a.listing.now l.at c.before.before.before.before.before.read-record.ensures c.before.before.before.q.given.1 in
-    let e = sym (part-here h) ∙ ap (get_elem? (items (record_from a.count) (drop l.at a.listing.now))) (sym c.before.if1.true) ∙ l.invariant in
-    spelled (ap record_part e) c.record-line.ensures.0)
+    let a = c.args in
+    let l = c.loop-at in
+    let h = here-record a.count a.listing.now l.at c.read_record-q.ensures c.in-Got.is in
+    let e = sym (part-here h) ∙ ap (get_elem? (items (record_from a.count) (drop l.at a.listing.now))) (sym c.if-left-eq0.true) ∙ l.invariant in
+    spelled (ap record_part e) c.record_line.ensures.0)
     (λ c. search rules)
     (λ c.
-    let a = c.before.before.before.before.before.before.before.before.args in
-    let l = c.before.before.before.before.before.before.loop in
-    let h = (here-record a.count a.listing.now l.at c.before.before.before.before.read-record.ensures c.before.before.q.given.1).on in
+    let a = c.args in
+    let l = c.loop-at in
+    let h = (here-record a.count a.listing.now l.at c.read_record-q.ensures c.in-Got.is).on in
     omega (arith, h))
     (λ c.
-    let a = c.before.before.before.before.before.before.before.before.args in
-    let l = c.before.before.before.before.before.before.loop in
-    let h = here-record a.count a.listing.now l.at c.before.before.before.before.read-record.ensures c.before.before.q.given.1 in
+    let a = c.args in
+    let l = c.loop-at in
+    let h = here-record a.count a.listing.now l.at c.read_record-q.ensures c.in-Got.is in
     let e : l.left ≡ suc (l.left - 1) = omega arith in
     sym (part-on (l.left - 1) h) ∙ ap (get_elem? (items (record_from a.count) (drop l.at a.listing.now))) (sym e) ∙ l.invariant)
     (λ c κs. search rules)
     (λ c.
-    let a = c.before.before.before.before.args in
-    let l = c.before.before.loop in
+    let a = c.args in
+    let l = c.loop-at in
     let d = ended (record_from a.count) a.listing.now l.at (omega arith) in
-    spelled (ap record_part (sym (part_none l.left d) ∙ l.invariant)) (blank c.empty-line2.ensures)))
+    spelled (ap record_part (sym (part_none l.left d) ∙ l.invariant)) (blank c.empty_line-2.ensures)))

@@ -6,14 +6,14 @@ use Rattle.play_listing.specs.Plays.{answer_line}
 use Rattle.play_listing.proofs.play_bytes.Statement.{statement}
 use Rattle.play_listing.proofs.play_bytes.Tie as tie
 
-pub play-bytes-spec : {M : Type 1} → statement M
-play-bytes-spec =
+pub play_bytes_spec : {M : Type 1} → statement M
+play_bytes_spec =
     tie.close
     (tie.spec
     (λ c κs. search rules) (λ c κs. search rules) (λ c. search rules) (λ c. search rules)
     (λ c.
-    let e = c.before.before.before.before.before.before.tulipcricket-play-unguarded.ensures in
-    let p = c.answer-line in
+    let e = c.tulipcricket_play_unguarded.ensures in
+    let p = c.answer_line in
     record {
       of_store = ap (λ x. x.store) e;
       of_answer = ap (λ x. x.answer) e;

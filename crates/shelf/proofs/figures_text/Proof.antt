@@ -8,12 +8,11 @@ use Rattle.shelf.specs.Printed.{figures_text}
 use Rattle.shelf.proofs.figures_text.Statement.{statement}
 use Rattle.shelf.proofs.figures_text.Tie as tie
 
-pub figures-text-spec : {M : Type 1} → statement M
+pub figures_text_spec : {M : Type 1} → statement M
 unfolding ascii figures_text
-figures-text-spec =
+figures_text_spec =
     tie.close
     (tie.spec
-    (λ c κs. search rules) (λ c. search rules) (λ c κs. search rules) (λ c κs. search rules) (λ c κs. search rules) (λ c. search rules)
-    (λ c κs. search rules) (λ c κs. search rules) (λ c κs. search rules) (λ c. search rules) (λ c κs. search rules) (λ c κs. search rules)
+    (λ c κs. search rules) (λ c. search rules) (λ c κs. search rules) (λ c κs. search rules) (λ c. search rules) (λ c κs. search rules) (λ c κs. search rules) (λ c. search rules) (λ c κs. search rules)
     (λ c κs. search rules)
-    (λ c. let a = c.before.before.before.before.before.before.before.before.before.before.before.before.before.args in subst (λ (l : Line). Adds l (figures_text a.bytes a.constants a.records) c.byte3.result) c.before.before.before.before.before.before.before.before.before.before.before.before.empty-line.ensures ((c.before.before.before.before.before.before.before.before.before.before.text.ensures ▹ c.before.before.before.before.before.before.before.before.before.number.ensures ▹ c.before.before.before.before.before.before.before.before.byte.ensures) ▹ (c.before.before.before.before.before.before.text2.ensures ▹ c.before.before.before.before.before.number2.ensures ▹ c.before.before.before.before.byte2.ensures) ▹ (c.before.before.text3.ensures ▹ c.before.number3.ensures ▹ c.byte3.ensures))))
+    (λ c. let a = c.args in subst (λ (l : Line). Adds l (figures_text a.bytes a.constants a.records) c.byte-3.result) c.empty_line.ensures ((c.text.ensures ▹ c.number.ensures ▹ c.byte.ensures) ▹ (c.text-2.ensures ▹ c.number-2.ensures ▹ c.byte-2.ensures) ▹ (c.text-3.ensures ▹ c.number-3.ensures ▹ c.byte-3.ensures))))

@@ -12,14 +12,14 @@ use Rattle.reports.proofs.Brief.{register_short}
 use Rattle.lower_sheet.proofs.drawn.name_or_none.Statement.{statement}
 use Rattle.lower_sheet.proofs.drawn.name_or_none.Tie as tie
 
-pub name-or-none-spec : {M : Type 1} → statement M
-name-or-none-spec =
+pub name_or_none_spec : {M : Type 1} → statement M
+name_or_none_spec =
     tie.close
     (tie.spec
     (λ c κs. search rules)
-    (λ c. subst (λ b. Prints (cond b [] (space (register c.before.before.args.i))) c.empty-line.result) (sym (eq-eqb _ 0 c.before.if1.true)) (prints c.empty-line.ensures none (omega arith)))
+    (λ c. subst (λ b. Prints (cond b [] (space (register c.args.i))) c.empty_line.result) (sym (eq-eqb _ 0 c.if-mark-eq0.true)) (prints c.empty_line.ensures none (omega arith)))
     (λ c κs. search rules) (λ c κs. search rules) (λ c κs. search rules)
     (λ c.
-    let h = register_short c.before.before.before.before.args.i in
-    subst (λ b. Prints (cond b [] (space (register c.before.before.before.before.args.i))) c.register.result) (sym (ne_eqb _ 0 c.before.before.before.if1.false))
-    (prints c.before.before.empty-line2.ensures (c.before.byte.ensures ▹ c.register.ensures) (omega (arith, h)))))
+    let h = register_short c.args.i in
+    subst (λ b. Prints (cond b [] (space (register c.args.i))) c.register.result) (sym (ne_eqb _ 0 c.if-mark-eq0.false))
+    (prints c.empty_line-2.ensures (c.byte.ensures ▹ c.register.ensures) (omega (arith, h)))))
