@@ -1,6 +1,5 @@
 -- `look::show::show` meets its contract.
 use borrow.Author.Rules.{rules}
-use borrow.Author.Tests.{not-true, not-false}
 use mathlib.Core.Path.{◌∙◌}
 use Rattle.look.proofs.Words.{copied, shows-none, shows-one, shows-two}
 use Rattle.look.proofs.show.show.Statement.{statement}

@@ -10,7 +10,7 @@ use Rattle.marks_pass.proofs.steps.branch.Statement.{statement}
 use Rattle.marks_pass.proofs.steps.branch.Tie as tie
 
 returns : tie.Need-returns-then-l-lt3
-returns c = record { noted = c.note-known.ensures; filled = λ i h. A.made-66 _ _ c.fill_all.ensures i h ∙ sym (ap (λ (q : Bool). cond q true (get_or c.args.filled.now i false)) (lt-ltb c.args.l 3 c.if-l-lt3.true)) }
+returns c = record { noted = c.note-known.ensures; filled = λ i h. A.made-66 _ _ c.fill_all.ensures i h ∙ sym (ap (λ (q : Bool). cond q true (get_or c.args.filled.now i false)) (lt-ltb c.args.l 3 (omega arith))) }
 
 returns-2 : tie.Need-returns
 returns-2 c = record { noted = c.note-known.ensures; filled = λ i h. sym (ap (λ (q : Bool). cond q true (get_or c.args.filled.now i false)) (le-ltb c.args.l 3 (omega arith))) }

@@ -14,7 +14,7 @@ pass_at_spec =
     (tie.spec
     (λ c n. let a = c.args in let h = c.if-sheet-at.true in passed_as (at-past n a.sheet.now a.at (omega (arith, h))) (works-passed (search rules) (search rules) _ _))
     (λ c. search rules) (λ c. search rules) (λ c. search rules) (λ c κs. search rules)
-    (λ c n. let a = c.args in passed_as (at_low n a.sheet.now a.at c.u16_at.ensures c.if-u16_at-lt14.true) (works-passed (search rules) (search rules) _ _))
+    (λ c n. let a = c.args in passed_as (at_low n a.sheet.now a.at c.u16_at.ensures (omega arith)) (works-passed (search rules) (search rules) _ _))
     (λ c κs. search rules) (λ c. search rules) (λ c κs. search rules) (λ c. search rules) (λ c. search rules) (λ c. search rules)
     (λ c n. let a = c.args in
     passed_as (at-headed n a.sheet.now a.at _ (sym c.read_head.ensures ∙ ap as_head c.in-Kind.is)) (c.pass_kind.ensures n))
