@@ -9,15 +9,11 @@ use Rattle.marks_pass.proofs.Arrays as A
 use Rattle.marks_pass.proofs.steps.branch.Statement.{statement}
 use Rattle.marks_pass.proofs.steps.branch.Tie as tie
 
-returns : tie.Need-returns-then-l-lt3
-returns c = record { noted = c.note-known.ensures; filled = λ i h. A.made-66 _ _ c.fill_all.ensures i h ∙ sym (ap (λ (q : Bool). cond q true (get_or c.args.filled.now i false)) (lt-ltb c.args.l 3 (omega arith))) }
-
-returns-2 : tie.Need-returns
-returns-2 c = record { noted = c.note-known.ensures; filled = λ i h. sym (ap (λ (q : Bool). cond q true (get_or c.args.filled.now i false)) (le-ltb c.args.l 3 (omega arith))) }
-
 pub branch_spec : {M : Type 1} → statement M
 branch_spec =
     tie.close
     (tie.spec
-    (λ c κs. search rules) (λ c κs. search rules) (λ c. search rules) (λ c. search rules) returns (λ c. search rules)
-    (λ c. search rules) returns-2)
+    (λ c κs. search rules) (λ c κs. search rules) (λ c. search rules) (λ c. search rules)
+    (λ c. record { noted = c.note-known.ensures; filled = λ i h. A.made-66 _ _ c.fill_all.ensures i h ∙ sym (ap (λ (q : Bool). cond q true (get_or c.args.filled.now i false)) (lt-ltb c.args.l 3 (omega arith))) })
+    (λ c. search rules) (λ c. search rules)
+    (λ c. record { noted = c.note-known.ensures; filled = λ i h. sym (ap (λ (q : Bool). cond q true (get_or c.args.filled.now i false)) (le-ltb c.args.l 3 (omega arith))) }))
