@@ -32,22 +32,22 @@ run_spec =
     (λ c κs. c.loop-p.invariant.0.ready.taken)
     (λ c. search rules) (λ c. search rules) (λ c. search rules)
     (λ c. let v = c.loop-p.invariant in
-    c.figures_at.ensures ∙ halted v.0 (turn_beyond v.0.ready c.if-p-eq-LONGEST.true c.loop-p-test.true) refl)
+    c.figures_at.ensures ∙ halted v.0 (turn_beyond v.0.ready (omega arith) c.loop-p-test.true) refl)
     (λ c κs. search rules)
     (λ c κs. c.loop-p.invariant.0.ready.taken)
     (λ c. search rules) (λ c. search rules) (λ c. search rules)
     (λ c. let v = c.loop-p.invariant in
-    c.figures_at-then-number-ne0.ensures ∙ halted v.0 (turn-halted v.0.ready (still v.0.index c.if-p-eq-LONGEST.false) c.pass_at-number.ensures c.if-number-ne0.true) refl)
+    c.figures_at-then-number-ne0.ensures ∙ halted v.0 (turn-halted v.0.ready (still v.0.index (λ z. omega (arith, z))) c.pass_at-number.ensures c.if-number-ne0.true) refl)
     (λ c. search rules)
-    (λ c κs. let v = c.loop-p.invariant in (v.0.ready, let i = still v.0.index c.if-p-eq-LONGEST.false in omega (arith, i)))
-    (λ c κs. let v = c.loop-p.invariant in (turn-taken v.0.ready (still v.0.index c.if-p-eq-LONGEST.false) c.pass_at-number.ensures c.loop-p-test.true c.if-number-ne0.false c.one-t.ensures).turned.taken)
+    (λ c κs. let v = c.loop-p.invariant in (v.0.ready, let i = still v.0.index (λ z. omega (arith, z)) in omega (arith, i)))
+    (λ c κs. let v = c.loop-p.invariant in (turn-taken v.0.ready (still v.0.index (λ z. omega (arith, z))) c.pass_at-number.ensures c.loop-p-test.true c.if-number-ne0.false c.one-t.ensures).turned.taken)
     (λ c. c.pass_at-number.auto.marks ∙ c.loop-p.invariant.1) (λ c. c.pass_at-number.auto.rows ∙ c.loop-p.invariant.2) (λ c. c.one-t.auto.constants ∙ c.loop-p.invariant.3)
     (λ c. let v = c.loop-p.invariant in
-    c.figures_at-then-t.ensures ∙ halted v.0 (turn-taken v.0.ready (still v.0.index c.if-p-eq-LONGEST.false) c.pass_at-number.ensures c.loop-p-test.true c.if-number-ne0.false c.one-t.ensures) c.if-t.true)
+    c.figures_at-then-t.ensures ∙ halted v.0 (turn-taken v.0.ready (still v.0.index (λ z. omega (arith, z))) c.pass_at-number.ensures c.loop-p-test.true c.if-number-ne0.false c.one-t.ensures) c.if-t.true)
     (λ c. let v = c.loop-p.invariant in
-    let h = (turn-taken v.0.ready (still v.0.index c.if-p-eq-LONGEST.false) c.pass_at-number.ensures c.loop-p-test.true c.if-number-ne0.false c.one-t.ensures).on c.if-t.false in omega (arith, h))
+    let h = (turn-taken v.0.ready (still v.0.index (λ z. omega (arith, z))) c.pass_at-number.ensures c.loop-p-test.true c.if-number-ne0.false c.one-t.ensures).on c.if-t.false in omega (arith, h))
     (λ c. let v = c.loop-p.invariant in let m = c.pass_at-number.auto in let k = c.one-t.auto in
-    (underway-next v.0 (turn-taken v.0.ready (still v.0.index c.if-p-eq-LONGEST.false) c.pass_at-number.ensures c.loop-p-test.true c.if-number-ne0.false c.one-t.ensures) k.stage (still v.0.index c.if-p-eq-LONGEST.false) c.if-t.false, m.marks ∙ v.1, m.rows ∙ v.2, k.constants ∙ v.3))
+    (underway-next v.0 (turn-taken v.0.ready (still v.0.index (λ z. omega (arith, z))) c.pass_at-number.ensures c.loop-p-test.true c.if-number-ne0.false c.one-t.ensures) k.stage (still v.0.index (λ z. omega (arith, z))) c.if-t.false, m.marks ∙ v.1, m.rows ∙ v.2, k.constants ∙ v.3))
     (λ c κs. c.loop-p.invariant.0.ready.taken)
     (λ c. search rules) (λ c. search rules) (λ c. search rules)
     (λ c. let v = c.loop-p.invariant.0 in let a = c.args in let l = c.loop-p in

@@ -17,7 +17,7 @@ finish_spec =
     (tie.spec
     (λ c κs. let f = c.requires in (f.0.listed, (f.0.taken, f.1)))
     (λ c κs. search rules)
-    (λ c. λ i q rs e. too_long (subst (λ (x : Count). 65536 < x.bytes) (c.count_records-taken.ensures i q rs e) c.if-taken-gt65536.true) c.refused.ensures)
+    (λ c. λ i q rs e. too_long (subst (λ (x : Count). 65536 < x.bytes) (c.count_records-taken.ensures i q rs e) (omega arith)) c.refused.ensures)
     (λ c. let f = c.requires.0 in omega (arith, f.index, f.count))
     (λ c. let f = c.requires.0 in omega (arith, f.index, f.count))
     (λ c. c.requires.0.few)
@@ -27,4 +27,4 @@ finish_spec =
     let n = c.count_records-taken.ensures i q rs e in
     let l : length (take a.t.added.count a.t.added.words) ≡ a.t.added.count = simp length-take (omega (arith, f.few)) in
     let h : a.p.constants + length (take a.t.added.count a.t.added.words) ≤ length a.constants.now = omega (arith, l, f.count, f.words) in
-    copied (subst (λ (x : Count). x.bytes ≤ 65536) n c.if-taken-gt65536.false) (ap (λ (x : Count). finished a.t x a.next a.p) n) (c.put_words.ensures ∙ stored_fits _ _ _ h)))
+    copied (subst (λ (x : Count). x.bytes ≤ 65536) n (omega arith)) (ap (λ (x : Count). finished a.t x a.next a.p) n) (c.put_words.ensures ∙ stored_fits _ _ _ h)))
