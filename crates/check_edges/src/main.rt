@@ -4,11 +4,11 @@
 
 ghost use Rattle.std.specs.Prelude.{◌≤◌};
 
-use std::io::Print;
 use mir::records::{Instruction, Record, Work};
 use records::reader::{NextRecord, read_record};
 use sheet::reader::{NextInstruction, read_instruction};
 use sheet::setup::{constant_at, is_minding, is_stable, read_setup};
+use std::io::Print;
 
 fn text(rt: HostRuntime, s: &[u8]) {
     let _ = rt.write_all(s);
@@ -294,7 +294,8 @@ fn registers(rt: HostRuntime) {
     in_listing(rt, b"register 66", b"\x06\x00\x03\x00\x42\x00");
     in_listing(rt, b"second register 66", b"\x06\x00\x03\x00\x00\x42");
     in_listing(
-        rt, b"ComplexBi's last register 66",
+        rt,
+        b"ComplexBi's last register 66",
         b"\x0b\x00\x0d\x00\x00\x00\x00\x00\x00\x00\x42",
     );
 }
@@ -307,15 +308,18 @@ fn places(rt: HostRuntime) {
     in_both(rt, b"save to Mem", b"\x08\x00\x05\x00\x00\x01\x00\x00");
     in_both(rt, b"save to Param", b"\x08\x00\x05\x00\x00\x02\x00\x00");
     in_listing(
-        rt, b"complex save to Param",
+        rt,
+        b"complex save to Param",
         b"\x09\x00\x0c\x00\x00\x00\x02\x00\x00",
     );
     in_both(
-        rt, b"condition on the stack",
+        rt,
+        b"condition on the stack",
         b"\x0a\x00\x08\x00\x00\x00\x00\x00\xff\x00",
     );
     in_both(
-        rt, b"condition in Mem",
+        rt,
+        b"condition in Mem",
         b"\x0a\x00\x08\x00\x00\x00\x00\x01\x00\x00",
     );
 }
@@ -330,7 +334,11 @@ fn operations(rt: HostRuntime) {
     in_both(rt, b"Bi 15", b"\x08\x00\x02\x00\x0f\x00\x00\x00");
     in_both(rt, b"Fused MulSub", b"\x09\x00\x07\x00\x01\x00\x00\x00\x00");
     in_both(rt, b"Fused 4", b"\x09\x00\x07\x00\x04\x00\x00\x00\x00");
-    in_sheet(rt, b"LoadMath 4", b"\x0a\x00\x09\x00\x04\x00\x00\x00\x00\x00");
+    in_sheet(
+        rt,
+        b"LoadMath 4",
+        b"\x0a\x00\x09\x00\x04\x00\x00\x00\x00\x00",
+    );
 }
 
 fn labels(rt: HostRuntime) {
@@ -343,9 +351,14 @@ fn labels(rt: HostRuntime) {
     in_both(rt, b"BranchIf to 3", b"\x07\x00\x11\x00\x1f\x03\x01");
     in_both(rt, b"BranchIf to 2", b"\x07\x00\x11\x00\x1f\x02\x00");
     in_both(rt, b"BranchIf with 2", b"\x07\x00\x11\x00\x1f\x03\x02");
-    in_both(rt, b"BranchIf of register 66", b"\x07\x00\x11\x00\x42\x03\x01");
     in_both(
-        rt, b"BranchIf of register 66 with 2",
+        rt,
+        b"BranchIf of register 66",
+        b"\x07\x00\x11\x00\x42\x03\x01",
+    );
+    in_both(
+        rt,
+        b"BranchIf of register 66 with 2",
         b"\x07\x00\x11\x00\x42\x03\x02",
     );
 }
@@ -355,21 +368,29 @@ fn constants_and_order(rt: HostRuntime) {
     in_both(rt, b"constant 0 of 1", b"\x07\x00\x06\x00\x00\x00\x00");
     in_both(rt, b"constant 1 of 1", b"\x07\x00\x06\x00\x00\x01\x00");
     in_both(rt, b"constant 256 of 1", b"\x07\x00\x06\x00\x00\x00\x01");
-    in_both(rt, b"Uni 20 with register 66", b"\x07\x00\x01\x00\x14\x42\x42");
     in_both(
-        rt, b"Load of register 66 from class 3",
+        rt,
+        b"Uni 20 with register 66",
+        b"\x07\x00\x01\x00\x14\x42\x42",
+    );
+    in_both(
+        rt,
+        b"Load of register 66 from class 3",
         b"\x08\x00\x04\x00\x42\x03\x00\x00",
     );
     in_both(
-        rt, b"constant 1 of 1 to register 66",
+        rt,
+        b"constant 1 of 1 to register 66",
         b"\x07\x00\x06\x00\x42\x01\x00",
     );
     in_sheet(
-        rt, b"LoadMath 4 with register 66 and class 3",
+        rt,
+        b"LoadMath 4 with register 66 and class 3",
         b"\x0a\x00\x09\x00\x04\x42\x42\x03\x00\x00",
     );
     in_sheet(
-        rt, b"LoadConstMath of register 66 with constant 1 of 1",
+        rt,
+        b"LoadConstMath of register 66 with constant 1 of 1",
         b"\x09\x00\x0a\x00\x00\x42\x00\x01\x00",
     );
 }
@@ -438,8 +459,18 @@ fn single_constants(rt: HostRuntime) {
     setup_of(rt, b"constant of 11 bytes", &one_constant(11));
     setup_of(rt, b"constant of 13 bytes", &one_constant(13));
     setup_in(rt, b"constant without its last byte", &one_constant(12), 80);
-    setup_in(rt, b"constant of which 4 bytes stand", &one_constant(12), 73);
-    setup_in(rt, b"constant of which 3 bytes stand", &one_constant(12), 72);
+    setup_in(
+        rt,
+        b"constant of which 4 bytes stand",
+        &one_constant(12),
+        73,
+    );
+    setup_in(
+        rt,
+        b"constant of which 3 bytes stand",
+        &one_constant(12),
+        72,
+    );
 }
 
 // A header and 252 constants, each with its index as its word.
