@@ -62,8 +62,7 @@ fn read_sheet(rt: HostRuntime, named: bool, sheet: &mut [u8]) -> Got
 }
 
 // The text has at most five bytes for each of a listing's 65,536, and 80 for each of the other 258 lines. A sheet of which not all is read is
-// not lowered. That, and a read or a write that fails, is told on standard error; the program's status is 0 in any case, and who calls it
-// sees that it printed nothing.
+// not lowered. That, and a read or a write that fails, is told on standard error; the program's status is 0 in any case.
 fn main(rt: HostRuntime) {
     let named = files::arg_count(rt) == 2;
     let mut sheet = files::sheet_room();

@@ -37,7 +37,7 @@ fn text_of(sheet: &[u8]) -> Line
 }
 
 // A sheet of which not all is read has no figures. That, and a read or a write that fails, is told on standard error; the program's status is
-// 0 in any case, and who calls it sees that it printed nothing.
+// 0 in any case.
 fn main(rt: HostRuntime) {
     let mut sheet = files::sheet_room();
     let got = read_all(
