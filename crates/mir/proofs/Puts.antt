@@ -3,9 +3,13 @@ use Prim.Native.Nat.{ℕ, suc, ◌+◌, ◌-◌, ◌/◌, ◌%◌, ◌≤◌, �
 use mathlib.Core.Path.{◌≡◌, refl, sym, ap, ◌∙◌}
 use mathlib.Core.List.{List, [], ◌∷◌, ◌++◌}
 use native.Mathlib.Omega.{arith}
-use lib.ListN.{length, get_or, take, length-take}
+use lib.ListN.{length, get_or, take, drop, length-take}
 use lib.Dec.{leb, leb→le}
 use lib.Seq.{sets}
+use borrow.Rule.Slice.PartMut.{put_mid}
+use Rattle.std.proofs.lemmas.List.{take_all}
+use Rattle.std.proofs.lemmas.Slice.{put_mid-paste}
+use Rattle.std.proofs.lemmas.List.Edits.{sets-eq}
 use Rattle.mir.specs.Length.{lengths, length_of}
 use Rattle.mir.specs.Encode.{two_bytes, record_of, buf, placed}
 use Rattle.mir.proofs.Placing.{placed_fits, placed_full}
@@ -76,3 +80,10 @@ put_fits l m at k f h s room e =
     ap (λ x. buf x (at + length_of k)) (e ∙ ap (sets l at) (put-bytes k f h s))
     ∙ ap (λ x. buf (sets l at (record_of k (take (length_of k - 4) f))) (at + x)) (sym n)
     ∙ sym (placed_fits l at (record_of k (take (length_of k - 4) f)) (omega arith))
+
+-- what stands in a slice of which a part was written over
+pub put_mid-sets : (a k : ℕ) (xs ys : List ℕ) → length ys ≡ k → a + k ≤ length xs → put_mid a k xs ys ≡ sets xs a ys
+put_mid-sets a k xs ys e room =
+    let h : a + length ys ≤ length xs = omega arith in
+    let d : drop (a + k) xs ≡ drop (a + length ys) xs = ap (λ n. drop (a + n) xs) (sym e) in
+    put_mid-paste a k xs ys ys k refl refl (sym e) ∙ rw (take_all k ys (omega arith), d) (sym (sets-eq ys xs a h))

@@ -8,3 +8,4 @@ pub mod Field
 pub mod Kinds
 pub mod Encode
 pub mod Decode
+pub mod Writing
