@@ -9,7 +9,7 @@ use native.Mathlib.Omega.{arith}
 use Rattle.mir.specs.declared.records.Record.{Record}
 use Rattle.mir.specs.Encode.{buf, encode, encode_all}
 use Rattle.mir.proofs.Placing.{placed_fits}
-use Rattle.lines.specs.Lists.{push_all}
+use Rattle.mir.specs.Writing.{push_all}
 
 pub sets-append : (l : List ℕ) (i : ℕ) (a b : List ℕ) → sets l i (a ++ b) ≡ sets (sets l i a) (i + length a) b
 sets-append l i [] b = simp add-zero

@@ -25,13 +25,15 @@ pub const TEMP_RE: Part = Part::Reg(0);
 
 pub const TEMP_IM: Part = Part::Reg(1);
 
-// The listing register that a part names.
-pub fn number(part: Part) -> u8
-    ensures { result ≡ part_of part }
-{
-    match part {
-        Part::Re(r) => re(r),
-        Part::Im(r) => im(r),
-        Part::Reg(n) => n,
+impl Part {
+    // The listing register that a part names.
+    pub fn number(self) -> u8
+        ensures { result ≡ part_of self }
+    {
+        match self {
+            Part::Re(r) => re(r),
+            Part::Im(r) => im(r),
+            Part::Reg(n) => n,
+        }
     }
 }

@@ -2,10 +2,10 @@
 // written, and the position stays.
 #![tactic(auto, unfolding(crate::specs::Length::length_of))]
 
-ghost use Rattle.std.specs.Prelude.{◌≡◌, ◌-◌, ◌<◌, take};
+ghost use Rattle.std.specs.Prelude.{◌≡◌, ◌-◌, ◌<◌, take, [], ◌∷◌};
 ghost use Rattle.mir.specs.Length.{length_of};
-ghost use Rattle.mir.specs.Encode.{buf, record_of, two_bytes, place_bytes, flag_byte};
-ghost use Rattle.mir.specs.Writing.{written, Places, Pushes};
+ghost use Rattle.mir.specs.Encode.{buf, placed, record_of, two_bytes, place_bytes, flag_byte};
+ghost use Rattle.mir.specs.Writing.{written, Lists};
 ghost use Rattle.mir.specs.declared.records.Work.{Work};
 ghost use Rattle.mir.specs.declared.records.Record.{Record};
 
@@ -54,7 +54,8 @@ impl<'a> Writer<'a> {
     // A record of a kind: its length by the table, the kind, and as many of the fields as the length leaves.
     fn put(&mut self, kind: u8, f: [u8; 7])
         requires { kind < 18 }
-        ensures { Places self.old (record_of kind (take (length_of kind - 4) f)) self.new }
+        ensures lent { self.new.bytes.ghost_name ≡ self.old.bytes.ghost_name }
+        ensures holds { written self.new ≡ placed (written self.old) (record_of kind (take (length_of kind - 4) f)) }
     {
         let length = LENGTHS[kind as usize];
         let n = length as usize;
@@ -67,97 +68,97 @@ impl<'a> Writer<'a> {
     }
 
     pub fn push_uni(&mut self, op: UniOp, dst: u8, s1: u8)
-        ensures { Pushes self.old (Record.Work (Work.Uni op dst s1)) self.new }
+        ensures { Lists self.old (Record.Work (Work.Uni op dst s1) ∷ []) self.new }
     {
         self.put(1, [uni_number(op), dst, s1, 0, 0, 0, 0])
     }
 
     pub fn push_bi(&mut self, op: BinOp, dst: u8, s1: u8, s2: u8)
-        ensures { Pushes self.old (Record.Work (Work.Bi op dst s1 s2)) self.new }
+        ensures { Lists self.old (Record.Work (Work.Bi op dst s1 s2) ∷ []) self.new }
     {
         self.put(2, [bin_number(op), dst, s1, s2, 0, 0, 0])
     }
 
     pub fn push_mov(&mut self, dst: u8, s1: u8)
-        ensures { Pushes self.old (Record.Work (Work.Mov dst s1)) self.new }
+        ensures { Lists self.old (Record.Work (Work.Mov dst s1) ∷ []) self.new }
     {
         self.put(3, [dst, s1, 0, 0, 0, 0, 0])
     }
 
     pub fn push_load(&mut self, dst: u8, loc: Loc)
-        ensures { Pushes self.old (Record.Work (Work.Load dst loc)) self.new }
+        ensures { Lists self.old (Record.Work (Work.Load dst loc) ∷ []) self.new }
     {
         let [k, l, h] = place_bytes(loc);
         self.put(4, [dst, k, l, h, 0, 0, 0])
     }
 
     pub fn push_save(&mut self, src: u8, loc: Loc)
-        ensures { Pushes self.old (Record.Work (Work.Save src loc)) self.new }
+        ensures { Lists self.old (Record.Work (Work.Save src loc) ∷ []) self.new }
     {
         let [k, l, h] = place_bytes(loc);
         self.put(5, [src, k, l, h, 0, 0, 0])
     }
 
     pub fn push_load_const(&mut self, dst: u8, idx: u16)
-        ensures { Pushes self.old (Record.Work (Work.LoadConst dst idx)) self.new }
+        ensures { Lists self.old (Record.Work (Work.LoadConst dst idx) ∷ []) self.new }
     {
         let [l, h] = two_bytes(idx);
         self.put(6, [dst, l, h, 0, 0, 0, 0])
     }
 
     pub fn push_fused(&mut self, op: FusedOp, dst: u8, a: u8, b: u8, c: u8)
-        ensures { Pushes self.old (Record.Work (Work.Fused op dst a b c)) self.new }
+        ensures { Lists self.old (Record.Work (Work.Fused op dst a b c) ∷ []) self.new }
     {
         self.put(7, [fused_number(op), dst, a, b, c, 0, 0])
     }
 
     pub fn push_if_else(&mut self, dst: u8, true_val: u8, false_val: u8, cond: Loc)
-        ensures { Pushes self.old (Record.Work (Work.IfElse dst true_val false_val cond)) self.new }
+        ensures { Lists self.old (Record.Work (Work.IfElse dst true_val false_val cond) ∷ []) self.new }
     {
         let [k, l, h] = place_bytes(cond);
         self.put(8, [dst, true_val, false_val, k, l, h, 0])
     }
 
     pub fn push_load_complex(&mut self, xd: u8, yd: u8, loc: Loc)
-        ensures { Pushes self.old (Record.Work (Work.LoadComplex xd yd loc)) self.new }
+        ensures { Lists self.old (Record.Work (Work.LoadComplex xd yd loc) ∷ []) self.new }
     {
         let [k, l, h] = place_bytes(loc);
         self.put(11, [xd, yd, k, l, h, 0, 0])
     }
 
     pub fn push_save_complex(&mut self, xs: u8, ys: u8, loc: Loc)
-        ensures { Pushes self.old (Record.Work (Work.SaveComplex xs ys loc)) self.new }
+        ensures { Lists self.old (Record.Work (Work.SaveComplex xs ys loc) ∷ []) self.new }
     {
         let [k, l, h] = place_bytes(loc);
         self.put(12, [xs, ys, k, l, h, 0, 0])
     }
 
     pub fn push_complex_bi(&mut self, op: ArithOp, xd: u8, yd: u8, x1: u8, y1: u8, x2: u8, y2: u8)
-        ensures { Pushes self.old (Record.Work (Work.ComplexBi op xd yd x1 y1 x2 y2)) self.new }
+        ensures { Lists self.old (Record.Work (Work.ComplexBi op xd yd x1 y1 x2 y2) ∷ []) self.new }
     {
         self.put(13, [arith_number(op), xd, yd, x1, y1, x2, y2])
     }
 
     pub fn push_label(&mut self, label: u8)
-        ensures { Pushes self.old (Record.Label label) self.new }
+        ensures { Lists self.old (Record.Label label ∷ []) self.new }
     {
         self.put(14, [label, 0, 0, 0, 0, 0, 0])
     }
 
     pub fn push_branch(&mut self, label: u8)
-        ensures { Pushes self.old (Record.Branch label) self.new }
+        ensures { Lists self.old (Record.Branch label ∷ []) self.new }
     {
         self.put(15, [label, 0, 0, 0, 0, 0, 0])
     }
 
     pub fn push_call(&mut self, label: u8)
-        ensures { Pushes self.old (Record.Call label) self.new }
+        ensures { Lists self.old (Record.Call label ∷ []) self.new }
     {
         self.put(16, [label, 0, 0, 0, 0, 0, 0])
     }
 
     pub fn push_branch_if(&mut self, cond: u8, label: u8, is_else: bool)
-        ensures { Pushes self.old (Record.BranchIf cond label is_else) self.new }
+        ensures { Lists self.old (Record.BranchIf cond label is_else ∷ []) self.new }
     {
         self.put(17, [cond, label, flag_byte(is_else), 0, 0, 0, 0])
     }
