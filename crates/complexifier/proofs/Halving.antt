@@ -4,17 +4,17 @@ use mathlib.Core.Path.{◌≡◌, sym, subst}
 use mathlib.Core.Bool.{Bool, true, false}
 use mathlib.Core.List.{map}
 use Rattle.mir.specs.declared.records.Record.{Record}
-use Rattle.mir.specs.Encode.{Buf}
+use Rattle.mir.specs.declared.writer.Writer.{Writer}
 use Rattle.sheet.specs.declared.setup.Mode.{Mode}
 use Rattle.sheet.specs.Setup.{is_minding}
 use Rattle.lowering.specs.Realness.{is_real_reg, set_reg}
 use Rattle.lowering.specs.Lines.{half_lines, minding_half_lines}
 use Rattle.lowering.specs.Complexifier.{copied, minding_half, half_by, half}
-use Rattle.lines.specs.Lists.{Lists}
+use Rattle.mir.specs.Writing.{Lists}
 use Rattle.complexifier.specs.declared.state.Complexifier.{Complexifier}
 use Rattle.complexifier.specs.Does.{Does, recorded, listing, made₁}
 
-module _ {b c : Buf} {s u : Complexifier} (m : Mode) (d a : ℕ) {t : Bool} where
+module _ {b c : Writer} {s u : Complexifier} (m : Mode) (d a : ℕ) {t : Bool} where
   by_mode : t ≡ is_minding m → Does b s (half_by t d a) c u → Does b s (half m d a) c u
   unfolding half
   by_mode e p = subst (λ t. Does b s (half_by t d a) c u) e p

@@ -1,11 +1,10 @@
 // Methods of two operands and of three.
-ghost use Rattle.mir.specs.Encode.{buf};
 ghost use Rattle.complexifier.specs.Does.{Does};
 ghost use Rattle.lowering.specs.Lines.{complex_lines, order_lines};
 ghost use Rattle.lowering.specs.Complexifier.{by_two, both_as_real, both_as_complex, plus, minus, times, bits, compare, ifelse, fused_mul_add, fused_mul_sub, fused_neg_mul_add, fused_neg_mul_sub};
 ghost use Rattle.lowering.specs.Rerun.{rerun_fused};
 
-use super::state::{Complexifier, Listed};
+use super::state::Complexifier;
 use lines::binary::{
     bits_lines, compare_lines, complex_lines, ifelse_lines, minus_lines, order_lines, plus_lines,
     times_lines,
@@ -13,192 +12,118 @@ use lines::binary::{
 use mir::ops::{BinOp, FusedOp, UniOp};
 use mir::records::Loc;
 use mir::registers::RET;
+use mir::writer::Writer;
 
 impl Complexifier {
-    pub fn plus(self, out: &mut [u8], at: usize, dst: u8, s1: u8, s2: u8) -> Listed
-        ensures { Does (buf out.old at) self (plus dst s1 s2) (buf out.new result.at) result.low }
+    pub fn plus(&mut self, out: &mut Writer, dst: u8, s1: u8, s2: u8)
+        ensures { Does out.old self.old (plus dst s1 s2) out.new self.new }
     {
         let x = self.is_real_reg(s1);
         let y = self.is_real_reg(s2);
-        let n = plus_lines(out, at, x, y, dst, s1, s2);
-        Listed {
-            low: self.promote_real(dst, s1, s2),
-            at: n,
-        }
+        plus_lines(out, x, y, dst, s1, s2);
+        self.promote_real(dst, s1, s2);
     }
 
-    pub fn minus(self, out: &mut [u8], at: usize, dst: u8, s1: u8, s2: u8) -> Listed
-        ensures { Does (buf out.old at) self (minus dst s1 s2) (buf out.new result.at) result.low }
+    pub fn minus(&mut self, out: &mut Writer, dst: u8, s1: u8, s2: u8)
+        ensures { Does out.old self.old (minus dst s1 s2) out.new self.new }
     {
         let x = self.is_real_reg(s1);
         let y = self.is_real_reg(s2);
-        let n = minus_lines(out, at, x, y, dst, s1, s2);
-        Listed {
-            low: self.promote_real(dst, s1, s2),
-            at: n,
-        }
+        minus_lines(out, x, y, dst, s1, s2);
+        self.promote_real(dst, s1, s2);
     }
 
-    pub fn times(self, out: &mut [u8], at: usize, dst: u8, s1: u8, s2: u8) -> Listed
-        ensures { Does (buf out.old at) self (times dst s1 s2) (buf out.new result.at) result.low }
+    pub fn times(&mut self, out: &mut Writer, dst: u8, s1: u8, s2: u8)
+        ensures { Does out.old self.old (times dst s1 s2) out.new self.new }
     {
         let x = self.is_real_reg(s1);
         let y = self.is_real_reg(s2);
-        let n = times_lines(out, at, x, y, dst, s1, s2);
-        Listed {
-            low: self.promote_real(dst, s1, s2),
-            at: n,
-        }
+        times_lines(out, x, y, dst, s1, s2);
+        self.promote_real(dst, s1, s2);
     }
 
-    pub fn complex(self, out: &mut [u8], at: usize, dst: u8, s1: u8, s2: u8) -> Listed
-        ensures { Does (buf out.old at) self (by_two complex_lines both_as_complex dst s1 s2) (buf out.new result.at) result.low }
+    pub fn complex(&mut self, out: &mut Writer, dst: u8, s1: u8, s2: u8)
+        ensures { Does out.old self.old (by_two complex_lines both_as_complex dst s1 s2) out.new self.new }
     {
-        let n = complex_lines(out, at, dst, s1, s2);
-        Listed {
-            low: self.set_reg_complex(dst),
-            at: n,
-        }
+        complex_lines(out, dst, s1, s2);
+        self.set_reg_complex(dst);
     }
 
     // `gt`, `lt`
-    pub fn order(self, out: &mut [u8], at: usize, op: BinOp, dst: u8, s1: u8, s2: u8) -> Listed
-        ensures { Does (buf out.old at) self (by_two (order_lines op) both_as_real dst s1 s2) (buf out.new result.at) result.low }
+    pub fn order(&mut self, out: &mut Writer, op: BinOp, dst: u8, s1: u8, s2: u8)
+        ensures { Does out.old self.old (by_two (order_lines op) both_as_real dst s1 s2) out.new self.new }
     {
-        let n = order_lines(out, at, op, dst, s1, s2);
-        Listed {
-            low: self.set_reg_real(dst),
-            at: n,
-        }
+        order_lines(out, op, dst, s1, s2);
+        self.set_reg_real(dst);
     }
 
     // `and`, `or`, `xor`
-    pub fn bits(self, out: &mut [u8], at: usize, op: BinOp, dst: u8, s1: u8, s2: u8) -> Listed
-        ensures { Does (buf out.old at) self (bits op dst s1 s2) (buf out.new result.at) result.low }
+    pub fn bits(&mut self, out: &mut Writer, op: BinOp, dst: u8, s1: u8, s2: u8)
+        ensures { Does out.old self.old (bits op dst s1 s2) out.new self.new }
     {
         let x = self.is_real_reg(s1);
         let y = self.is_real_reg(s2);
-        let n = bits_lines(out, at, op, x, y, dst, s1, s2);
-        Listed {
-            low: self.promote_real(dst, s1, s2),
-            at: n,
-        }
+        bits_lines(out, op, x, y, dst, s1, s2);
+        self.promote_real(dst, s1, s2);
     }
 
     // `eq` (Equal, joined by And), `neq` (NotEqual, joined by Or)
-    pub fn compare(
-        self,
-        out: &mut [u8],
-        at: usize,
-        op: BinOp,
-        join: BinOp,
-        dst: u8,
-        s1: u8,
-        s2: u8,
-    ) -> Listed
-        ensures { Does (buf out.old at) self (compare op join dst s1 s2) (buf out.new result.at) result.low }
+    pub fn compare(&mut self, out: &mut Writer, op: BinOp, join: BinOp, dst: u8, s1: u8, s2: u8)
+        ensures { Does out.old self.old (compare op join dst s1 s2) out.new self.new }
     {
-        let a = self.ensure_complex(out, at, s1);
-        let low = a.low;
-        let p = a.at;
-        let b = low.ensure_complex(out, p, s2);
-        let low = b.low;
-        let q = b.at;
-        let n = compare_lines(out, q, op, join, dst, s1, s2);
-        Listed {
-            low: low.set_reg_real(dst),
-            at: n,
-        }
+        self.ensure_complex(out, s1);
+        self.ensure_complex(out, s2);
+        compare_lines(out, op, join, dst, s1, s2);
+        self.set_reg_real(dst);
     }
 
-    pub fn ifelse(self, out: &mut [u8], at: usize, dst: u8, s1: u8, s2: u8, loc: Loc) -> Listed
-        ensures { Does (buf out.old at) self (ifelse dst s1 s2 loc) (buf out.new result.at) result.low }
+    pub fn ifelse(&mut self, out: &mut Writer, dst: u8, s1: u8, s2: u8, loc: Loc)
+        ensures { Does out.old self.old (ifelse dst s1 s2 loc) out.new self.new }
     {
-        let a = self.ensure_complex(out, at, s1);
-        let low = a.low;
-        let p = a.at;
-        let b = low.ensure_complex(out, p, s2);
-        let low = b.low;
-        let q = b.at;
-        let n = ifelse_lines(out, q, dst, s1, s2, loc);
-        Listed {
-            low: low.set_reg_complex(dst),
-            at: n,
-        }
+        self.ensure_complex(out, s1);
+        self.ensure_complex(out, s2);
+        ifelse_lines(out, dst, s1, s2, loc);
+        self.set_reg_complex(dst);
     }
 
-    pub fn fused_mul_add(self, out: &mut [u8], at: usize, dst: u8, a: u8, b: u8, c: u8) -> Listed
-        ensures { Does (buf out.old at) self (fused_mul_add dst a b c) (buf out.new result.at) result.low }
+    pub fn fused_mul_add(&mut self, out: &mut Writer, dst: u8, a: u8, b: u8, c: u8)
+        ensures { Does out.old self.old (fused_mul_add dst a b c) out.new self.new }
     {
-        let s = self.times(out, at, RET, a, b);
-        let low = s.low;
-        let p = s.at;
-        low.plus(out, p, dst, RET, c)
+        self.times(out, RET, a, b);
+        self.plus(out, dst, RET, c);
     }
 
-    pub fn fused_mul_sub(self, out: &mut [u8], at: usize, dst: u8, a: u8, b: u8, c: u8) -> Listed
-        ensures { Does (buf out.old at) self (fused_mul_sub dst a b c) (buf out.new result.at) result.low }
+    pub fn fused_mul_sub(&mut self, out: &mut Writer, dst: u8, a: u8, b: u8, c: u8)
+        ensures { Does out.old self.old (fused_mul_sub dst a b c) out.new self.new }
     {
-        let s = self.times(out, at, RET, a, b);
-        let low = s.low;
-        let p = s.at;
-        low.minus(out, p, dst, RET, c)
+        self.times(out, RET, a, b);
+        self.minus(out, dst, RET, c);
     }
 
-    pub fn fused_neg_mul_add(
-        self,
-        out: &mut [u8],
-        at: usize,
-        dst: u8,
-        a: u8,
-        b: u8,
-        c: u8,
-    ) -> Listed
-        ensures { Does (buf out.old at) self (fused_neg_mul_add dst a b c) (buf out.new result.at) result.low }
+    pub fn fused_neg_mul_add(&mut self, out: &mut Writer, dst: u8, a: u8, b: u8, c: u8)
+        ensures { Does out.old self.old (fused_neg_mul_add dst a b c) out.new self.new }
     {
-        let s = self.times(out, at, RET, a, b);
-        let low = s.low;
-        let p = s.at;
-        low.minus(out, p, dst, c, RET)
+        self.times(out, RET, a, b);
+        self.minus(out, dst, c, RET);
     }
 
-    pub fn fused_neg_mul_sub(
-        self,
-        out: &mut [u8],
-        at: usize,
-        dst: u8,
-        a: u8,
-        b: u8,
-        c: u8,
-    ) -> Listed
-        ensures { Does (buf out.old at) self (fused_neg_mul_sub dst a b c) (buf out.new result.at) result.low }
+    pub fn fused_neg_mul_sub(&mut self, out: &mut Writer, dst: u8, a: u8, b: u8, c: u8)
+        ensures { Does out.old self.old (fused_neg_mul_sub dst a b c) out.new self.new }
     {
-        let s = self.times(out, at, RET, a, b);
-        let low = s.low;
-        let p = s.at;
-        let t = low.plus(out, p, dst, RET, c);
-        let low = t.low;
-        let q = t.at;
-        low.each(out, q, UniOp::Neg, dst, dst)
+        self.times(out, RET, a, b);
+        self.plus(out, dst, RET, c);
+        self.each(out, UniOp::Neg, dst, dst);
     }
 
-    pub fn rerun_fused(
-        self,
-        out: &mut [u8],
-        at: usize,
-        op: FusedOp,
-        dst: u8,
-        a: u8,
-        b: u8,
-        c: u8,
-    ) -> Listed
-        ensures { Does (buf out.old at) self (rerun_fused op dst a b c) (buf out.new result.at) result.low }
+    #[tactic(auto, unfolding(lowering::specs::Rerun::rerun_fused))]
+    pub fn rerun_fused(&mut self, out: &mut Writer, op: FusedOp, dst: u8, a: u8, b: u8, c: u8)
+        ensures { Does out.old self.old (rerun_fused op dst a b c) out.new self.new }
     {
         match op {
-            FusedOp::MulAdd => self.fused_mul_add(out, at, dst, a, b, c),
-            FusedOp::MulSub => self.fused_mul_sub(out, at, dst, a, b, c),
-            FusedOp::NegMulAdd => self.fused_neg_mul_add(out, at, dst, a, b, c),
-            FusedOp::NegMulSub => self.fused_neg_mul_sub(out, at, dst, a, b, c),
+            FusedOp::MulAdd => self.fused_mul_add(out, dst, a, b, c),
+            FusedOp::MulSub => self.fused_mul_sub(out, dst, a, b, c),
+            FusedOp::NegMulAdd => self.fused_neg_mul_add(out, dst, a, b, c),
+            FusedOp::NegMulSub => self.fused_neg_mul_sub(out, dst, a, b, c),
         }
     }
 }

@@ -1,0 +1,5 @@
+use Rattle.complexifier.specs.Does.{directs}
+use Rattle.complexifier.proofs.state.Complexifier.branch.Goals as goal
+
+pub returns : goal.returns
+returns c = directs _ c.push_branch.ensures
