@@ -38,6 +38,7 @@ pub fn flag_byte(flag: bool) -> u8
 }
 
 // A lent slice, and the position in it where the next record goes.
+#[derive(Drop)]
 pub struct Writer<'a> {
     pub bytes: &'a mut [u8],
     pub at: usize,

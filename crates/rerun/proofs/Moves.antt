@@ -4,7 +4,7 @@ use mathlib.Core.Path.{◌≡◌, sym, ap, subst}
 use mathlib.Core.Bool.{Bool, cond}
 use borrow.Author.Tests.{eq-eqb, ne_eqb}
 use lib.Dec.{eqb}
-use Rattle.mir.specs.Encode.{Buf}
+use Rattle.mir.specs.declared.writer.Writer.{Writer}
 use Rattle.lowering.specs.Complexifier.{State, Out, unlisted, fmov}
 use Rattle.complexifier.specs.declared.state.Complexifier.{Complexifier}
 use Rattle.complexifier.specs.Does.{Does}
@@ -12,7 +12,7 @@ use Rattle.complexifier.specs.Does.{Does}
 abbrev chosen : ℕ → ℕ → Bool → State → Out
 chosen d a x s = cond x (unlisted s) (fmov d a s)
 
-module _ {b c : Buf} {s t : Complexifier} (d a : ℕ) where
+module _ {b c : Writer} {s t : Complexifier} (d a : ℕ) where
   pub to-itself : d ≡ a → Does b s unlisted c t → Does b s (chosen d a (eqb d a)) c t
   to-itself e p = subst (λ f. Does b s f c t) (sym (ap (chosen d a) (eq-eqb d a e))) p
 

@@ -5,223 +5,167 @@ ghost use Rattle.mir.specs.Register.{Temp};
 ghost use Rattle.lowering.specs.Complexifier as Spec;
 ghost use Rattle.lowering.specs.Rerun.{compare_zero, rerun_uni, rerun_bin, rerun_arith, rerun};
 ghost use Rattle.complexifier.specs.Does.{Does};
+ghost use Rattle.rerun.specs.Adds.{Adds};
 ghost use Rattle.rerun.specs.Ends.{Ends, tabled};
 
 use super::methods::{abs, divide, real_root, recip, root};
-use super::output::{Output, no_constants};
-use complexifier::state::{Complexifier, Listed};
+use super::output::{Added, Output, nothing};
+use complexifier::state::Complexifier;
 use mir::ops::{ArithOp, BinOp, UniOp};
 use mir::records::Instruction;
 use mir::registers::TEMP;
+use mir::writer::Writer;
 use sheet::setup::{Mode, is_stable};
 
 // IsZero, IsNotZero: Temp made zero, then `eq` or `neq` with it.
-fn compare_zero(
-    low: Complexifier,
-    out: &mut [u8],
-    at: usize,
-    op: BinOp,
-    join: BinOp,
-    dst: u8,
-    s1: u8,
-) -> Listed
-    ensures { Does (buf out.old at) low (compare_zero op join dst s1) (buf out.new result.at) result.low }
+fn compare_zero(low: &mut Complexifier, out: &mut Writer, op: BinOp, join: BinOp, dst: u8, s1: u8)
+    ensures { Does out.old low.old (compare_zero op join dst s1) out.new low.new }
 {
-    let zero = low.bits(out, at, BinOp::Xor, TEMP, TEMP, TEMP);
-    let low = zero.low;
-    low.compare(out, zero.at, op, join, dst, s1, TEMP)
+    low.bits(out, BinOp::Xor, TEMP, TEMP, TEMP);
+    low.compare(out, op, join, dst, s1, TEMP)
 }
 
 // Mov: of a register to itself it lists nothing.
-fn rerun_mov(low: Complexifier, out: &mut [u8], at: usize, dst: u8, s1: u8) -> Listed
-    ensures { Does (buf out.old at) low (λ s. cond (eqb dst s1) (Spec.unlisted s) (Spec.fmov dst s1 s)) (buf out.new result.at) result.low }
+fn rerun_mov(low: &mut Complexifier, out: &mut Writer, dst: u8, s1: u8)
+    ensures { Does out.old low.old (λ s. cond (eqb dst s1) (Spec.unlisted s) (Spec.fmov dst s1 s)) out.new low.new }
 {
-    if dst == s1 {
-        return Listed { low: low, at: at };
+    if dst != s1 {
+        low.fmov(out, dst, s1);
     }
-    low.fmov(out, at, dst, s1)
 }
 
 fn rerun_uni(
-    low: Complexifier,
+    low: &mut Complexifier,
     constants: &[u64],
     mode: Mode,
-    out: &mut [u8],
-    at: usize,
+    out: &mut Writer,
     op: UniOp,
     dst: u8,
     s1: u8,
-) -> Output
+) -> Added
     requires { length constants.now ≤ 256 }
-    ensures { Ends (buf out.old at) low constants.now (rerun_uni mode op dst s1) out.new result }
+    ensures { Adds out.old low.old constants.now (rerun_uni mode op dst s1) out.new low.new result }
 {
     let stable = is_stable(mode);
     match op {
-        UniOp::Neg => no_constants(low.each(out, at, UniOp::Neg, dst, s1)),
-        UniOp::Not => no_constants(low.not(out, at, dst, s1)),
-        UniOp::Abs => abs(low, constants, stable, out, at, dst, s1),
-        UniOp::Root => root(low, constants, stable, out, at, dst, s1),
-        UniOp::RealRoot => real_root(low, constants, stable, out, at, dst, s1),
-        UniOp::Recip => recip(low, constants, stable, out, at, dst, s1),
-        UniOp::Round => no_constants(low.each(out, at, UniOp::Round, dst, s1)),
-        UniOp::Floor => no_constants(low.each(out, at, UniOp::Floor, dst, s1)),
-        UniOp::Ceiling => no_constants(low.each(out, at, UniOp::Ceiling, dst, s1)),
-        UniOp::Trunc => no_constants(low.each(out, at, UniOp::Trunc, dst, s1)),
-        UniOp::Real => no_constants(low.real(out, at, dst, s1)),
-        UniOp::Imaginary => no_constants(low.imaginary(out, at, dst, s1)),
-        UniOp::Conjugate => no_constants(low.conjugate(out, at, dst, s1)),
-        UniOp::Half => no_constants(low.half(out, at, mode, dst, s1)),
-        UniOp::IsZero => no_constants(compare_zero(
-            low,
-            out,
-            at,
-            BinOp::Equal,
-            BinOp::And,
-            dst,
-            s1,
-        )),
-        UniOp::IsNotZero => no_constants(compare_zero(
-            low,
-            out,
-            at,
-            BinOp::NotEqual,
-            BinOp::Or,
-            dst,
-            s1,
-        )),
-        UniOp::Sign => no_constants(low.each(out, at, UniOp::Sign, dst, s1)),
-        UniOp::Abs2 => no_constants(low.abs2(out, at, dst, s1)),
-        UniOp::TimesI => no_constants(low.times_i(out, at, dst, s1)),
-        UniOp::TimesNegI => no_constants(low.times_neg_i(out, at, dst, s1)),
+        UniOp::Abs => return abs(low, constants, stable, out, dst, s1),
+        UniOp::Root => return root(low, constants, stable, out, dst, s1),
+        UniOp::RealRoot => return real_root(low, constants, stable, out, dst, s1),
+        UniOp::Recip => return recip(low, constants, stable, out, dst, s1),
+        UniOp::Neg | UniOp::Round | UniOp::Floor | UniOp::Ceiling | UniOp::Trunc | UniOp::Sign =>
+            low.each(out, op, dst, s1),
+        UniOp::Not => low.not(out, dst, s1),
+        UniOp::Real => low.real(out, dst, s1),
+        UniOp::Imaginary => low.imaginary(out, dst, s1),
+        UniOp::Conjugate => low.conjugate(out, dst, s1),
+        UniOp::Half => low.half(out, mode, dst, s1),
+        UniOp::IsZero => compare_zero(low, out, BinOp::Equal, BinOp::And, dst, s1),
+        UniOp::IsNotZero => compare_zero(low, out, BinOp::NotEqual, BinOp::Or, dst, s1),
+        UniOp::Abs2 => low.abs2(out, dst, s1),
+        UniOp::TimesI => low.times_i(out, dst, s1),
+        UniOp::TimesNegI => low.times_neg_i(out, dst, s1),
     }
+    nothing()
 }
 
 fn rerun_bin(
-    low: Complexifier,
+    low: &mut Complexifier,
     constants: &[u64],
     mode: Mode,
-    out: &mut [u8],
-    at: usize,
+    out: &mut Writer,
     op: BinOp,
     dst: u8,
     s1: u8,
     s2: u8,
-) -> Output
+) -> Added
     requires { length constants.now ≤ 256 }
-    ensures { Ends (buf out.old at) low constants.now (rerun_bin mode op dst s1 s2) out.new result }
+    ensures { Adds out.old low.old constants.now (rerun_bin mode op dst s1 s2) out.new low.new result }
 {
-    let unlisted = Listed { low: low, at: at };
     match op {
-        BinOp::Plus => no_constants(low.plus(out, at, dst, s1, s2)),
-        BinOp::Minus => no_constants(low.minus(out, at, dst, s1, s2)),
-        BinOp::Times => no_constants(low.times(out, at, dst, s1, s2)),
-        BinOp::Divide => divide(low, constants, mode, out, at, dst, s1, s2),
-        BinOp::GreaterThan => no_constants(low.order(out, at, BinOp::GreaterThan, dst, s1, s2)),
-        BinOp::GreaterThanEqual => no_constants(low.order(
-            out,
-            at,
-            BinOp::GreaterThanEqual,
-            dst,
-            s1,
-            s2,
-        )),
-        BinOp::LittleThan => no_constants(low.order(out, at, BinOp::LittleThan, dst, s1, s2)),
-        BinOp::LittleThanEqual => no_constants(low.order(
-            out,
-            at,
-            BinOp::LittleThanEqual,
-            dst,
-            s1,
-            s2,
-        )),
-        BinOp::Equal => no_constants(low.compare(out, at, BinOp::Equal, BinOp::And, dst, s1, s2)),
-        BinOp::NotEqual => no_constants(low.compare(
-            out,
-            at,
-            BinOp::NotEqual,
-            BinOp::Or,
-            dst,
-            s1,
-            s2,
-        )),
-        BinOp::And => no_constants(low.bits(out, at, BinOp::And, dst, s1, s2)),
-        BinOp::AndNot => no_constants(unlisted),
-        BinOp::Or => no_constants(low.bits(out, at, BinOp::Or, dst, s1, s2)),
-        BinOp::Xor => no_constants(low.bits(out, at, BinOp::Xor, dst, s1, s2)),
-        BinOp::Complex => no_constants(low.complex(out, at, dst, s1, s2)),
+        BinOp::Plus => low.plus(out, dst, s1, s2),
+        BinOp::Minus => low.minus(out, dst, s1, s2),
+        BinOp::Times => low.times(out, dst, s1, s2),
+        BinOp::Divide => return divide(low, constants, mode, out, dst, s1, s2),
+        BinOp::GreaterThan | BinOp::GreaterThanEqual | BinOp::LittleThan | BinOp::LittleThanEqual =>
+            low.order(out, op, dst, s1, s2),
+        BinOp::Equal => low.compare(out, BinOp::Equal, BinOp::And, dst, s1, s2),
+        BinOp::NotEqual => low.compare(out, BinOp::NotEqual, BinOp::Or, dst, s1, s2),
+        BinOp::And | BinOp::Or | BinOp::Xor => low.bits(out, op, dst, s1, s2),
+        BinOp::AndNot => {}
+        BinOp::Complex => low.complex(out, dst, s1, s2),
     }
+    nothing()
 }
 
 // The arithmetic of LoadMath and LoadConstMath, behind the load into Temp.
 fn rerun_arith(
-    loaded: Listed,
+    low: &mut Complexifier,
     constants: &[u64],
     mode: Mode,
-    out: &mut [u8],
+    out: &mut Writer,
     op: ArithOp,
     dst: u8,
     s1: u8,
-) -> Output
+) -> Added
     requires { length constants.now ≤ 256 }
-    ensures { Ends (buf out.old loaded.at) loaded.low constants.now (rerun_arith mode op dst s1 Temp) out.new result }
+    ensures { Adds out.old low.old constants.now (rerun_arith mode op dst s1 Temp) out.new low.new result }
 {
-    let low = loaded.low;
-    let at = loaded.at;
     match op {
-        ArithOp::Plus => no_constants(low.plus(out, at, dst, s1, TEMP)),
-        ArithOp::Minus => no_constants(low.minus(out, at, dst, s1, TEMP)),
-        ArithOp::Times => no_constants(low.times(out, at, dst, s1, TEMP)),
-        ArithOp::Divide => divide(low, constants, mode, out, at, dst, s1, TEMP),
+        ArithOp::Plus => low.plus(out, dst, s1, TEMP),
+        ArithOp::Minus => low.minus(out, dst, s1, TEMP),
+        ArithOp::Times => low.times(out, dst, s1, TEMP),
+        ArithOp::Divide => return divide(low, constants, mode, out, dst, s1, TEMP),
     }
+    nothing()
 }
 
 // One turn of `rerun`, with no more constants than a table holds.
 fn rerun_within(
-    low: Complexifier,
+    low: &mut Complexifier,
     constants: &[u64],
     mode: Mode,
-    out: &mut [u8],
-    at: usize,
+    out: &mut Writer,
     instruction: Instruction,
-) -> Output
+) -> Added
     requires { length constants.now ≤ 256 }
-    ensures { Ends (buf out.old at) low constants.now (rerun mode instruction) out.new result }
+    ensures { Adds out.old low.old constants.now (rerun mode instruction) out.new low.new result }
 {
     match instruction {
-        Instruction::Nop => no_constants(Listed { low: low, at: at }),
-        Instruction::Uni { op, dst, s1 } => rerun_uni(low, constants, mode, out, at, op, dst, s1),
-        Instruction::Bi { op, dst, s1, s2 } => {
-            rerun_bin(low, constants, mode, out, at, op, dst, s1, s2)
-        }
-        Instruction::Mov { dst, s1 } => no_constants(rerun_mov(low, out, at, dst, s1)),
-        Instruction::Load { dst, loc } => no_constants(low.load_from(out, at, dst, loc)),
-        Instruction::Save { src, loc } => no_constants(low.save_to(out, at, src, loc)),
-        Instruction::LoadConst { dst, idx } => no_constants(low.load_const(out, at, dst, idx)),
-        Instruction::Fused { op, dst, a, b, c } => {
-            no_constants(low.rerun_fused(out, at, op, dst, a, b, c))
-        }
+        Instruction::Nop => {}
+        Instruction::Uni { op, dst, s1 } => return rerun_uni(
+            low, constants, mode, out, op, dst, s1,
+        ),
+        Instruction::Bi { op, dst, s1, s2 } => return rerun_bin(
+            low, constants, mode, out, op, dst, s1, s2,
+        ),
+        Instruction::Mov { dst, s1 } => rerun_mov(low, out, dst, s1),
+        Instruction::Load { dst, loc } => low.load_from(out, dst, loc),
+        Instruction::Save { src, loc } => low.save_to(out, src, loc),
+        Instruction::LoadConst { dst, idx } => low.load_const(out, dst, idx),
+        Instruction::Fused { op, dst, a, b, c } => low.rerun_fused(out, op, dst, a, b, c),
         Instruction::IfElse {
             dst,
             true_val,
             false_val,
             cond,
-        } => no_constants(low.ifelse(out, at, dst, true_val, false_val, cond)),
+        } => low.ifelse(out, dst, true_val, false_val, cond),
         Instruction::LoadMath { op, dst, s1, loc } => {
-            let listed = low.load_from(out, at, TEMP, loc);
-            rerun_arith(listed, constants, mode, out, op, dst, s1)
+            low.load_from(out, TEMP, loc);
+            return rerun_arith(low, constants, mode, out, op, dst, s1);
         }
         Instruction::LoadConstMath { op, dst, s1, idx } => {
-            let listed = low.load_const(out, at, TEMP, idx);
-            rerun_arith(listed, constants, mode, out, op, dst, s1)
+            low.load_const(out, TEMP, idx);
+            return rerun_arith(low, constants, mode, out, op, dst, s1);
         }
-        Instruction::Label(label) => no_constants(low.set_label(out, at, label)),
-        Instruction::Branch(label) => no_constants(low.branch(out, at, label)),
+        Instruction::Label(label) => low.set_label(out, label),
+        Instruction::Branch(label) => low.branch(out, label),
         Instruction::BranchIf {
             cond,
             label,
             is_else,
-        } => no_constants(low.branch_if(out, at, cond, label, is_else)),
+        } => low.branch_if(out, cond, label, is_else),
     }
+    nothing()
 }
 
 // One turn of `rerun`; with more constants than a table holds it lists nothing.
@@ -236,7 +180,18 @@ pub fn rerun(
     ensures { Ends (buf out.old at) low constants.now (tabled (rerun mode instruction)) out.new result }
 {
     if 256 < constants.len() {
-        return no_constants(Listed { low: low, at: at });
+        return Output {
+            low,
+            at,
+            added: nothing(),
+        };
     }
-    rerun_within(low, constants, mode, out, at, instruction)
+    let mut low = low;
+    let mut writer = Writer::new(out, at);
+    let added = rerun_within(&mut low, constants, mode, &mut writer, instruction);
+    Output {
+        low,
+        at: writer.at,
+        added,
+    }
 }

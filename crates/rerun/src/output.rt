@@ -1,9 +1,8 @@
-// What a method that may name constants returns.
+// What the constants of an instruction come to, and what `rerun` returns.
 ghost use Rattle.std.specs.Prelude.{◌≡◌};
 ghost use Rattle.rerun.specs.Added.{none};
-ghost use Rattle.rerun.specs.Ends.{as_output};
 
-use complexifier::state::{Complexifier, Listed};
+use complexifier::state::Complexifier;
 
 // What the instruction under way has added to the constants: the first `count` of the words.
 #[derive(Clone, Copy)]
@@ -12,7 +11,7 @@ pub struct Added {
     pub count: usize,
 }
 
-// The state and the position after a method, and the constants that it added.
+// The state and the position after an instruction, and the constants that it added.
 #[derive(Clone, Copy)]
 pub struct Output {
     pub low: Complexifier,
@@ -23,21 +22,8 @@ pub struct Output {
 pub(crate) fn nothing() -> Added
     ensures { result ≡ none }
 {
-    let words = [0u64, 0, 0];
     Added {
-        words: words,
+        words: [0; 3],
         count: 0,
-    }
-}
-
-// The output of a method that names no constants.
-pub(crate) fn no_constants(listed: Listed) -> Output
-    ensures { result ≡ as_output listed }
-{
-    let low = listed.low;
-    Output {
-        low: low,
-        at: listed.at,
-        added: nothing(),
     }
 }

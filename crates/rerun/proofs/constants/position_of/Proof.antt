@@ -2,10 +2,9 @@
 use borrow.Author.Rules.{rules}
 use native.Mathlib.Omega.{arith}
 use Prim.Native.Nat.{◌≤◌, ◌+◌, ◌-◌}
-use mathlib.Core.Path.{◌≡◌, sym, ap, ◌∙◌}
-use native.Mathlib.Nat.{zero-add, add-zero}
-use lib.ListN.{length, drop, set}
-use lib.Seq.{sets}
+use mathlib.Core.Path.{◌≡◌, ap, ◌∙◌}
+use native.Mathlib.Nat.{zero-add}
+use lib.ListN.{length, drop}
 use native.Mathlib.Numerals.{add-one}
 use Rattle.lowering.specs.Complexifier.{position}
 use Rattle.rerun.proofs.Positions.{here, on, past}
