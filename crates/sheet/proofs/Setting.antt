@@ -6,8 +6,7 @@ use native.Mathlib.Omega.{arith}
 use lib.ListN.{length, take, drop, length-take, length-drop}
 use Rattle.mir.specs.Read.{Read, got, refused}
 use Rattle.sheet.specs.declared.setup.Mode.{Mode}
-use Rattle.sheet.specs.declared.setup.Setup.{Setup}
-use Rattle.sheet.specs.Setup.{header_from, constants_from, constants_from_on, setup_with, setup_from, setup}
+use Rattle.sheet.specs.Setup.{Setup, header_from, constants_from, constants_from_on, setup_with, setup_from, setup}
 use Rattle.sheet.proofs.Heading.{Headed, headed}
 use Rattle.sheet.proofs.Counting.{few}
 
