@@ -10,7 +10,7 @@ use lines::unary::{
 };
 use mir::ops::UniOp;
 use mir::writer::Writer;
-use sheet::setup::{Mode, is_minding};
+use sheet::setup::Mode;
 
 impl Complexifier {
     // `neg`, `round`, `sign`
@@ -50,7 +50,7 @@ impl Complexifier {
     pub fn half(&mut self, out: &mut Writer, mode: Mode, dst: u8, s1: u8)
         ensures { Does out.old self.old (half mode dst s1) out.new self.new }
     {
-        if is_minding(mode) {
+        if mode.is_minding() {
             let x = self.is_real_reg(s1);
             minding_half_lines(out, x, dst, s1);
             self.copy_real(dst, s1);

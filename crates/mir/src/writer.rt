@@ -10,10 +10,8 @@ ghost use Rattle.mir.specs.declared.records.Work.{Work};
 ghost use Rattle.mir.specs.declared.records.Record.{Record};
 
 use super::lengths::LENGTHS;
-use super::ops::{
-    ArithOp, BinOp, FusedOp, UniOp, arith_number, bin_number, fused_number, uni_number,
-};
-use super::records::{Loc, Work, loc_class, loc_index};
+use super::ops::{ArithOp, BinOp, FusedOp, Operation, UniOp};
+use super::records::{Loc, Work};
 
 // A number of two bytes, little-endian.
 fn two_bytes(n: u16) -> [u8; 2]
@@ -26,8 +24,8 @@ fn two_bytes(n: u16) -> [u8; 2]
 fn place_bytes(loc: Loc) -> [u8; 3]
     ensures { result ≡ place_bytes loc }
 {
-    let [low, high] = two_bytes(loc_index(loc));
-    [loc_class(loc), low, high]
+    let [low, high] = two_bytes(loc.index());
+    [loc.class(), low, high]
 }
 
 // The byte of a flag.
@@ -71,13 +69,13 @@ impl<'a> Writer<'a> {
     pub fn push_uni(&mut self, op: UniOp, dst: u8, s1: u8)
         ensures { Lists self.old (Record.Work (Work.Uni op dst s1) ∷ []) self.new }
     {
-        self.put(1, [uni_number(op), dst, s1, 0, 0, 0, 0])
+        self.put(1, [op.number(), dst, s1, 0, 0, 0, 0])
     }
 
     pub fn push_bi(&mut self, op: BinOp, dst: u8, s1: u8, s2: u8)
         ensures { Lists self.old (Record.Work (Work.Bi op dst s1 s2) ∷ []) self.new }
     {
-        self.put(2, [bin_number(op), dst, s1, s2, 0, 0, 0])
+        self.put(2, [op.number(), dst, s1, s2, 0, 0, 0])
     }
 
     pub fn push_mov(&mut self, dst: u8, s1: u8)
@@ -110,7 +108,7 @@ impl<'a> Writer<'a> {
     pub fn push_fused(&mut self, op: FusedOp, dst: u8, a: u8, b: u8, c: u8)
         ensures { Lists self.old (Record.Work (Work.Fused op dst a b c) ∷ []) self.new }
     {
-        self.put(7, [fused_number(op), dst, a, b, c, 0, 0])
+        self.put(7, [op.number(), dst, a, b, c, 0, 0])
     }
 
     pub fn push_if_else(&mut self, dst: u8, true_val: u8, false_val: u8, cond: Loc)
@@ -137,7 +135,7 @@ impl<'a> Writer<'a> {
     pub fn push_complex_bi(&mut self, op: ArithOp, xd: u8, yd: u8, x1: u8, y1: u8, x2: u8, y2: u8)
         ensures { Lists self.old (Record.Work (Work.ComplexBi op xd yd x1 y1 x2 y2) ∷ []) self.new }
     {
-        self.put(13, [arith_number(op), xd, yd, x1, y1, x2, y2])
+        self.put(13, [op.number(), xd, yd, x1, y1, x2, y2])
     }
 
     pub fn push_label(&mut self, label: u8)

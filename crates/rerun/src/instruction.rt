@@ -15,7 +15,7 @@ use mir::ops::{ArithOp, BinOp, UniOp};
 use mir::records::Instruction;
 use mir::registers::TEMP;
 use mir::writer::Writer;
-use sheet::setup::{Mode, is_stable};
+use sheet::setup::Mode;
 
 // IsZero, IsNotZero: Temp made zero, then `eq` or `neq` with it.
 fn compare_zero(low: &mut Complexifier, out: &mut Writer, op: BinOp, join: BinOp, dst: u8, s1: u8)
@@ -46,7 +46,7 @@ fn rerun_uni(
     requires { length constants.now ≤ 256 }
     ensures { Adds out.old low.old constants.now (rerun_uni mode op dst s1) out.new low.new result }
 {
-    let stable = is_stable(mode);
+    let stable = mode.is_stable();
     match op {
         UniOp::Abs => return abs(low, constants, stable, out, dst, s1),
         UniOp::Root => return root(low, constants, stable, out, dst, s1),
