@@ -1,7 +1,7 @@
 -- A line that was read has at most 80 bytes: what the code keeps of it is all of it.
 use Prim.Native.Nat.{ℕ, ◌+◌, ◌*◌, ◌≤◌}
 use mathlib.Core.Path.{◌≡◌, refl, sym, ap, ◌∙◌, subst}
-use mathlib.Core.Bool.{Bool, true, false, not, cond, ◌&&◌}
+use mathlib.Core.Bool.{Bool, true, false, not, ◌&&◌}
 use mathlib.Core.List.{List, [], ◌∷◌, map}
 use native.Mathlib.Omega.{arith}
 use lib.Dec.{eqb, lit≤}
@@ -14,7 +14,7 @@ use Rattle.assembly.specs.Assembled.{Sort, a_register, a_class, an_index, a_byte
 use Rattle.assembly.specs.Assembled.{number_from, register_words, class_words, index_words, mode_words, are_digits, pair, bits_of, word_bytes}
 use Rattle.assembly.specs.Assembled.{onto, taking, taking_all, no_more, begun, heads, nothing, line_of}
 use Rattle.assembly.specs.declared.reading.LineRead.{LineRead}
-use Rattle.assembly.specs.Making.{part_of, tagged, as_line, told}
+use Rattle.assembly.specs.Making.{part_of, tagged, told}
 use Rattle.assembly.proofs.Every.{after_first, few}
 
 -- at most so many bytes, where they were read
@@ -96,10 +96,9 @@ pub record Heard (ws : List (List ℕ)) (t : LineRead) : Type 0 where
   pub text : take t.line.len t.line.bytes ≡ reading.bytes
   pub short : t.line.len ≤ 80
 
-pub heard : (ws : List (List ℕ)) (t : LineRead) → t.ok ≡ true → as_line t ≡ and_then (line_of ws) told → Heard ws t
-heard ws t o e =
-    let x = sym (ap (λ b. cond b (tagged (part_of t.head) t.line) (refused 3)) o) ∙ e in
-    let p = then (line_of ws) told _ (sym x) in
+pub heard : (ws : List (List ℕ)) (t : LineRead) → tagged (part_of t.head) t.line ≡ and_then (line_of ws) told → Heard ws t
+heard ws t e =
+    let p = then (line_of ws) told _ (sym e) in
     let r = p.first in
     let s = got_same _ _ p.rest in
     let b : length r.bytes ≤ 45 = subst (Short 45) p.found (line_short ws) in
@@ -114,7 +113,5 @@ heard ws t o e =
     }
 
 -- a line that was not read is refused by 3
-pub unheard : (ws : List (List ℕ)) (t : LineRead) → t.ok ≡ false → as_line t ≡ and_then (line_of ws) told → line_of ws ≡ refused 3
-unheard ws t o e =
-    stopped (λ r. record { part = r.part; line = add_all empty_line r.bytes }) (line_of ws) 3
-    (sym e ∙ ap (λ b. cond b (tagged (part_of t.head) t.line) (refused 3)) o)
+pub unheard : (ws : List (List ℕ)) → refused 3 ≡ and_then (line_of ws) told → line_of ws ≡ refused 3
+unheard ws e = stopped (λ r. record { part = r.part; line = add_all empty_line r.bytes }) (line_of ws) 3 (sym e)

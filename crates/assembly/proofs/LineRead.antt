@@ -1,28 +1,17 @@
 -- A line, by its first word.
 use Prim.Native.Nat.{ℕ, ◌+◌, ◌-◌, ◌≤◌, ◌<◌}
-use mathlib.Core.Path.{◌≡◌, refl, sym, ap, ◌∙◌}
-use mathlib.Core.Bool.{Bool, true, false, cond}
+use mathlib.Core.Path.{◌≡◌, sym, ap, ◌∙◌}
 use mathlib.Core.List.{List, map}
 use lib.ListN.{length, take, drop, get_or}
 use Rattle.mir.specs.Read.{Read, got, refused, and_then}
 use Rattle.text.specs.declared.line.Line.{Line}
 use Rattle.text.specs.Line.{empty_line, add_all}
 use Rattle.assembly.specs.Assembled.{Reading, words_of, number_from, heads, nothing, line_of}
-use Rattle.assembly.specs.declared.reading.WordTaken.{WordTaken}
-use Rattle.assembly.specs.Reading.{run, as_word_taken, words_put}
-use Rattle.assembly.specs.Making.{Told, part_of, tagged, as_line, told}
+use Rattle.assembly.specs.Reading.{run, words_put}
+use Rattle.assembly.specs.Making.{Told, part_of, tagged, told}
 use Rattle.assembly.proofs.Runs.{no_words, word-at}
 use Rattle.assembly.proofs.Wording.{words-put}
 use Rattle.assembly.proofs.Every.{after_first, part_at}
-
--- a line's bytes with its first word's number
-tag : (ok : Bool) (n : ℕ) (l : Line)
-    → cond ok (tagged (part_of n) l) (refused 3) ≡ and_then (cond ok (got l) (refused 3)) (tagged (part_of n))
-tag true n l = refl
-tag false n l = refl
-
-pub tagging : (n : ℕ) (t : WordTaken) → as_line (record { ok = t.ok; head = n; line = t.line }) ≡ and_then (as_word_taken t) (tagged (part_of n))
-tagging n t = tag t.ok n t.line
 
 abbrev pub Said : Read Reading → Read Told
 Said r = and_then r told

@@ -1,52 +1,29 @@
 -- A bit of a header set in bytes at whose front the sheet's stand, and the bit of a place by its bytes.
-use Prim.Native.Nat.{ℕ, zero, suc, ◌+◌, ◌/◌, ◌%◌, ◌^◌, ◌≤◌, ◌<◌}
+use Prim.Native.Nat.{ℕ, zero, suc, ◌+◌, ◌*◌, ◌/◌, ◌%◌, ◌^◌, ◌≤◌, ◌<◌}
 use mathlib.Core.Path.{◌≡◌, refl, sym, ap, ◌∙◌, subst}
 use mathlib.Core.Bool.{Bool, true, false, cond}
 use mathlib.Core.List.{List, [], ◌∷◌}
-use native.Mathlib.Omega.{arith}
-use borrow.Author.Tests.{lt-ltb, le-ltb, eqb-true, eqb-false, eq-eqb, ne_eqb}
+use borrow.Author.Tests.{lt-ltb, le-ltb, eqb-true, ne_eqb}
 use lib.Dec.{eqb}
 use lib.ListN.{length, get_or, take, set}
 use lib.Seq.{set_out}
-use lib.Pow.{pow_pos}
+use lib.Bits.{bit_or}
+use Rattle.lowering.proofs.Bits.{all_below, below}
 use Rattle.mir.specs.declared.records.Loc.{Loc}
 use Rattle.mir.specs.Read.{Read, got, refused, refuse}
 use Rattle.mir.specs.Field.{u16_at, classed, place_at}
-use Rattle.mir.proofs.Passing.{either}
 use Rattle.assembly.specs.Assembled.{marked}
 use Rattle.assembly.specs.Making.{with_bit, place_bit}
 
-pub power_some : (i p : ℕ) → p ≡ 2 ^ (i % 8) → 0 < p
-power_some i p e = subst (λ x. 0 < x) (sym e) (pow_pos (i % 8))
+-- the mask of bit k sets it, for every byte
+abbrev masked : ℕ → ℕ → Bool
+masked k b = eqb (bit_or b (1 * 2 ^ k % 256)) (with_bit b (2 ^ k))
 
-pub parity : (x : ℕ) → (x % 2 ≡ 1 → ⊥) → x % 2 ≡ 0
-parity x h =
-    either (eqb (x % 2) 1)
-    (λ t. absurd (h (eqb-true (x % 2) 1 t)))
-    (λ t. omega (arith, eqb-false (x % 2) 1 t))
+every : all_below 8 (λ k. all_below 256 (masked k)) ≡ true
+every = refl
 
--- a byte without a bit has room for it
-room : (b k : ℕ) → k < 8 → b < 256 → (b / 2 ^ k % 2 ≡ 1 → ⊥) → b + 2 ^ k < 256
-room b zero h l e = let z : b / 1 % 2 ≡ 0 = parity (b / 1) e in omega (arith, z, l)
-room b (suc zero) h l e = let z : b / 2 % 2 ≡ 0 = parity (b / 2) e in omega (arith, z, l)
-room b (suc (suc zero)) h l e = let z : b / 4 % 2 ≡ 0 = parity (b / 4) e in omega (arith, z, l)
-room b (suc (suc (suc zero))) h l e = let z : b / 8 % 2 ≡ 0 = parity (b / 8) e in omega (arith, z, l)
-room b (suc (suc (suc (suc zero)))) h l e = let z : b / 16 % 2 ≡ 0 = parity (b / 16) e in omega (arith, z, l)
-room b (suc (suc (suc (suc (suc zero))))) h l e = let z : b / 32 % 2 ≡ 0 = parity (b / 32) e in omega (arith, z, l)
-room b (suc (suc (suc (suc (suc (suc zero)))))) h l e = let z : b / 64 % 2 ≡ 0 = parity (b / 64) e in omega (arith, z, l)
-room b (suc (suc (suc (suc (suc (suc (suc zero))))))) h l e = let z : b / 128 % 2 ≡ 0 = parity (b / 128) e in omega (arith, z, l)
-room b (suc (suc (suc (suc (suc (suc (suc (suc k)))))))) h l e = absurd (omega arith)
-
-module _ (b i p : ℕ) (e : p ≡ 2 ^ (i % 8)) where
-  pub bit-room : b < 256 → (b / p % 2 ≡ 1 → ⊥) → b + p < 256
-  bit-room l h =
-      subst (λ p. b + p < 256) (sym e) (room b (i % 8) (omega arith) l (λ z. h (ap (λ p. b / p % 2) e ∙ z)))
-
-  pub bit-there : b / p % 2 ≡ 1 → b ≡ with_bit b (2 ^ (i % 8))
-  bit-there h = sym (ap (λ t. cond t b (b + p)) (eq-eqb (b / p % 2) 1 h)) ∙ ap (with_bit b) e
-
-  pub bit-put : (b / p % 2 ≡ 1 → ⊥) → b + p ≡ with_bit b (2 ^ (i % 8))
-  bit-put h = sym (ap (λ t. cond t b (b + p)) (ne_eqb (b / p % 2) 1 h)) ∙ ap (with_bit b) e
+pub bit-put : (b k : ℕ) → b < 256 → k < 8 → bit_or b (1 * 2 ^ k % 256) ≡ with_bit b (2 ^ k)
+bit-put b k h j = eqb-true _ _ (below 256 (masked k) (below 8 (λ k. all_below 256 (masked k)) every k j) b h)
 
 module _ (l : List ℕ) (i : ℕ) where
   pub mark-out : length l ≤ 5 + i / 8 → l ≡ marked l i

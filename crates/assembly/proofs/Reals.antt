@@ -21,7 +21,6 @@ use Rattle.assembly.specs.SheetText.{real_lines}
 use Rattle.assembly.specs.Assembled.{a_class, an_index, heads, Draft, bit_of, marked, with_place, with_line}
 use Rattle.assembly.specs.Assembled as Spec
 use Rattle.assembly.specs.Making.{with_bit}
-use Rattle.assembly.proofs.Marking.{parity}
 use Rattle.assembly.proofs.Saying.{none, Says, says, retold, Onward, stay, ◌▹◌, onward_as, by_line}
 use Rattle.assembly.proofs.Rows.{Row, row}
 use Rattle.assembly.proofs.Spelling.{cls, idx, place_words}
@@ -67,6 +66,9 @@ bit_on b (suc (suc (suc (suc (suc (suc (suc zero))))))) h e =
     let g : b % 128 + 128 ≡ b % 256 = omega (arith, e) in
     ap (λ t. cond t (b % 128) (b % 128 + 128)) f ∙ g
 bit_on b (suc (suc (suc (suc (suc (suc (suc (suc k)))))))) h e = absurd (omega arith)
+
+parity : (x : ℕ) → (x % 2 ≡ 1 → ⊥) → x % 2 ≡ 0
+parity x h = omega (arith, h)
 
 bit_off : (b k : ℕ) → k < 8 → (b / 2 ^ k % 2 ≡ 1 → ⊥) → b % 2 ^ k ≡ b % 2 ^ suc k
 bit_off b zero h e = let z : b / 1 % 2 ≡ 0 = parity (b / 1) e in omega (arith, z)

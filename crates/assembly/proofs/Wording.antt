@@ -1,7 +1,6 @@
 -- The words of a line, put one after the other.
 use Prim.Native.Nat.{ℕ, ◌+◌, ◌-◌, ◌≤◌, ◌<◌}
 use mathlib.Core.Path.{◌≡◌, refl, sym, ap, ◌∙◌}
-use mathlib.Core.Bool.{true, false, cond}
 use mathlib.Core.List.{List, [], ◌∷◌, ◌++◌, map}
 use native.Mathlib.Omega.{arith}
 use native.Mathlib.Numerals.{add-one}
@@ -11,8 +10,7 @@ use Rattle.mir.specs.Read.{Read, got, refused, and_then}
 use Rattle.text.specs.declared.line.Line.{Line}
 use Rattle.text.specs.Line.{empty_line, add_all, add_all_append}
 use Rattle.assembly.specs.Assembled.{Sort, LineKind, Reading, words_of, word_bytes, onto, taking, taking_all, no_more}
-use Rattle.assembly.specs.declared.reading.WordTaken.{WordTaken}
-use Rattle.assembly.specs.Reading.{run, sort_of, as_word_taken, words_put}
+use Rattle.assembly.specs.Reading.{run, sort_of, words_put}
 use Rattle.assembly.specs.Making.{Told, tagged, told}
 use Rattle.assembly.proofs.Runs.{no_words, word-at}
 
@@ -44,22 +42,12 @@ module _ (sorts l : List ℕ) (k at i : ℕ) (line : Line) {r : Read Line}
     unfolding words_put
     next_word = rw (add-one k) (rw (drop-cons sorts k 0 h, word-at l at i q e g p) at known)
 
-    module _ (t : WordTaken) (put : as_word_taken t ≡ and_then here (λ b. got (add_all line b))) where
-      through : and_then (as_word_taken t) onward ≡ r
-      through =
-          ap (λ x. and_then x onward) put
-          ∙ sym (after here line (map sort_of (drop (k + 1) sorts)) (words_of (drop e l)))
-          ∙ next_word
-
-      pub bad-word : t.ok ≡ false → as_word_taken t ≡ r
-      bad-word f =
-          let x : as_word_taken t ≡ refused 3 = ap (λ b. cond b (got t.line) (refused 3)) f in
-          x ∙ sym (ap (λ x. and_then x onward) x) ∙ through
-
-      pub good-word : t.ok ≡ true → words_put (map sort_of (drop (k + 1) sorts)) t.line (words_of (drop e l)) ≡ r
-      good-word f =
-          let x : as_word_taken t ≡ got t.line = ap (λ b. cond b (got t.line) (refused 3)) f in
-          sym (ap (λ x. and_then x onward) x) ∙ through
+    -- what comes of it, by what is read of the word
+    pub through : (x : Read Line) → x ≡ and_then here (λ b. got (add_all line b)) → and_then x onward ≡ r
+    through x put =
+        ap (λ x. and_then x onward) put
+        ∙ sym (after here line (map sort_of (drop (k + 1) sorts)) (words_of (drop e l)))
+        ∙ next_word
 
   pub all-put : length sorts ≤ k → length l ≤ i → got line ≡ r
   unfolding words_put

@@ -1,5 +1,5 @@
 -- How the program makes a sheet: in lent bytes, at whose front the sheet's stand. What the code keeps, as the definitions' own.
-use Rattle.std.specs.Prelude.{ℕ, ◌+◌, ◌*◌, ◌/◌, ◌%◌, ◌≤◌, ◌≡◌, cond, List, eqb, length, take}
+use Rattle.std.specs.Prelude.{ℕ, ◌+◌, ◌*◌, ◌/◌, ◌%◌, ◌≤◌, ◌≡◌, cond, Option, None, Some, List, eqb, length, take}
 use Rattle.mir.specs.declared.records.Loc.{Loc}
 use Rattle.mir.specs.Read.{Read, got, refused}
 use Rattle.text.specs.declared.line.Line.{Line}
@@ -24,8 +24,9 @@ abbrev pub tagged : LineKind → Line → Read Told
 tagged p l = got (record { part = p; line = l })
 
 -- the code's answer, and the definition's reading
-abbrev pub as_line : LineRead → Read Told
-as_line t = cond t.ok (tagged (part_of t.head) t.line) (refused 3)
+abbrev pub as_line : Option LineRead → Read Told
+as_line (Some t) = tagged (part_of t.head) t.line
+as_line None = refused 3
 
 abbrev pub told : Reading → Read Told
 told r = tagged r.part (add_all empty_line r.bytes)

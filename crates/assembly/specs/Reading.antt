@@ -1,10 +1,8 @@
 -- How the program reads a text: by positions in its bytes. The answers of the code, as the definitions' own.
-use Rattle.std.specs.Prelude.{ℕ, suc, cond, List, [], ◌∷◌, eqb}
+use Rattle.std.specs.Prelude.{ℕ, suc, cond, Option, None, Some, List, [], ◌∷◌, eqb}
 use Rattle.mir.specs.Read.{Read, got, refused, and_then}
 use Rattle.text.specs.declared.line.Line.{Line}
 use Rattle.text.specs.Line.{empty_line, add_all}
-use Rattle.assembly.specs.declared.reading.Number.{Number}
-use Rattle.assembly.specs.declared.reading.WordTaken.{WordTaken}
 use Rattle.assembly.specs.Assembled.{is_blank, FirstWord, Sort, a_register, a_class, an_index, a_byte, a_mode, bits, word_bytes}
 
 -- how many bytes stand before the first byte c
@@ -21,18 +19,16 @@ unfoldable pub run : ℕ → List ℕ → ℕ
 run k [] = 0
 run k (b ∷ s) = cond (eqb (blankness b) k) (suc (run k s)) 0
 
-abbrev pub as_number : Number → Read ℕ
-as_number (Number.At n) = got n
-as_number Number.None = refused 3
+-- what was read, or none: that is refused by 3
+abbrev pub read_of : {A : Type 0} → Option A → Read A
+read_of (Some x) = got x
+read_of None = refused 3
 
 -- the sorts of words by letter: r, c, i, n, m, and another for a constant's bits
 abbrev pub sort_of : ℕ → Sort
 sort_of b =
     cond (eqb b 114) a_register
     (cond (eqb b 99) a_class (cond (eqb b 105) an_index (cond (eqb b 110) a_byte (cond (eqb b 109) a_mode bits))))
-
-abbrev pub as_word_taken : WordTaken → Read Line
-as_word_taken t = cond t.ok (got t.line) (refused 3)
 
 -- a line's bytes with those of its other words, by their sorts: as many words as sorts
 unfoldable pub words_put : List Sort → Line → List (List ℕ) → Read Line

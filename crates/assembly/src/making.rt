@@ -5,12 +5,11 @@ ghost use Rattle.mir.specs.Field.{place_at};
 ghost use Rattle.assembly.specs.Assembled.{real, constant_line, instruction, marked, grown, with_line, opened, words_of};
 ghost use Rattle.assembly.specs.Assembled.{unmarked, with_words, stepped, assembled, outcome, written};
 ghost use Rattle.assembly.specs.Lines.{long_text};
-ghost use Rattle.assembly.specs.Reading.{as_number};
+ghost use Rattle.assembly.specs.Reading.{read_of};
 ghost use Rattle.assembly.specs.Making.{part_of, place_bit, with_bit, sheet_of, refusal, Room, Grows, Makes, with_read, as_assembled};
 
 use super::lines::{long_line, refused_line};
-use super::reading::{Number, behind, piece_end, read_line, run_end};
-use lowering::realness::power_of;
+use super::reading::{behind, piece_end, read_line, run_end};
 use mir::fields::{byte, u16_at};
 use sheet::reader::{LONGEST, read_instruction};
 use words::put_bytes;
@@ -41,11 +40,7 @@ fn refuse(why: u8) -> Made
 fn with_bit(b: u8, i: usize) -> u8
     ensures { result ≡ with_bit b (2 ^ (i % 8)) }
 {
-    let power = power_of(i);
-    if b / power % 2 == 1 {
-        return b;
-    }
-    b + power
+    b | (1 << (i % 8))
 }
 
 // A bit of the header's realness set.
@@ -60,22 +55,22 @@ fn mark(out: &mut [u8], i: usize)
     out[at] = with_bit(b, i);
 }
 
-// The bit of a real place, from the place's bytes.
-fn real_bit(b: &[u8]) -> Number
-    ensures { as_number result ≡ place_bit (place_at b.now 0) }
+// The bit of a real place, from the place's bytes; none where they are no place, or one of Mem.
+fn real_bit(b: &[u8]) -> Option<usize>
+    ensures { read_of result ≡ place_bit (place_at b.now 0) }
 {
     let class = byte(b, 0);
     let i = u16_at(b, 1) as usize;
     if 255 < i {
-        return Number::None;
+        return None;
     }
     if class == 0 {
-        return Number::At(i);
+        return Some(i);
     }
     if class == 2 {
-        return Number::At(256 + i);
+        return Some(256 + i);
     }
-    Number::None
+    None
 }
 
 // A real place more.
@@ -86,7 +81,7 @@ fn with_real(out: &mut [u8], s: Made, b: &[u8]) -> Made
     if 1 < s.stage {
         return refuse(3);
     }
-    let Number::At(i) = real_bit(b) else {
+    let Some(i) = real_bit(b) else {
         return refuse(3);
     };
     mark(out, i);
@@ -220,11 +215,9 @@ fn with_words(out: &mut [u8], s: Made, l: &[u8]) -> Made
             why: 0,
         };
     }
-    let t = read_line(l);
-    if t.ok {
-        let line = t.line;
-        let bytes = line.bytes;
-        return with_first(out, s, t.head, &bytes, line.len);
+    if let Some(t) = read_line(l) {
+        let bytes = t.line.bytes;
+        return with_first(out, s, t.head, &bytes, t.line.len);
     }
     if s.stage == 0 {
         return refuse(1);

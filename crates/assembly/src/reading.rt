@@ -2,8 +2,8 @@
 ghost use Rattle.std.specs.Prelude.{◌≡◌, ◌+◌, ◌%◌, drop, get_or, [], ◌∷◌, map};
 ghost use Rattle.assembly.specs.Assembled.{pieces, words_of, number_from, register_words, class_words, index_words, mode_words};
 ghost use Rattle.assembly.specs.Assembled.{heads, nothing, line_of, digit, pair, are_digits, bits_of, word_bytes};
-ghost use Rattle.assembly.specs.Reading.{before, blankness, run, as_number, as_word_taken, sort_of, words_put, head_put};
-ghost use Rattle.assembly.specs.Making.{part_of, tagged, as_line, told};
+ghost use Rattle.assembly.specs.Reading.{before, blankness, run, read_of, sort_of, words_put, head_put};
+ghost use Rattle.assembly.specs.Making.{as_line, told};
 ghost use Rattle.text.specs.Line.{empty_line, add_all};
 ghost use Rattle.mir.specs.Read.{got, refused, and_then};
 
@@ -15,14 +15,12 @@ use text::line::{Line, empty_line};
 pub fn piece_end(s: &[u8], at: usize, c: u8) -> usize
     ensures { result ≡ at + before c (drop at s.now) }
 {
-    let mut i = at;
-    while i < s.len() {
+    for i in at..s.len() {
         if s[i] == c {
             return i;
         }
-        i += 1;
     }
-    i
+    if at < s.len() { s.len() } else { at }
 }
 
 // 1 for a blank, 0 for another byte.
@@ -42,46 +40,38 @@ fn blankness_of(b: u8) -> u8
 pub(crate) fn run_end(s: &[u8], at: usize, k: u8) -> usize
     ensures { result ≡ at + run k (drop at s.now) }
 {
-    let mut i = at;
-    while i < s.len() {
+    for i in at..s.len() {
         if blankness_of(s[i]) != k {
             return i;
         }
-        i += 1;
     }
-    i
+    if at < s.len() { s.len() } else { at }
 }
 
-// The number of a word in a row of words.
-#[derive(Clone, Copy)]
-pub enum Number {
-    At(usize),
-    None,
-}
-
-// A word among the words of a text between single spaces.
-pub fn number_in(row: &[u8], w: &[u8]) -> Number
-    ensures { as_number result ≡ number_from 0 (pieces 32 row.now) w.now }
+// The number of a word among the words of a text between single spaces.
+pub fn number_in(row: &[u8], w: &[u8]) -> Option<usize>
+    ensures { read_of result ≡ number_from 0 (pieces 32 row.now) w.now }
 {
+    // By position: a turn passes over a word, whose length differs.
     let mut at: usize = 0;
     let mut n: usize = 0;
     while at < row.len() {
         let end = piece_end(row, at, b' ');
         if same_bytes(&row[at..end], w) {
-            return Number::At(n);
+            return Some(n);
         }
         if row.len() <= end {
-            return Number::None;
+            return None;
         }
         at = end + 1;
         n += 1;
     }
-    Number::None
+    None
 }
 
 // A register.
-pub fn register_number(w: &[u8]) -> Number
-    ensures { as_number result ≡ number_from 0 register_words w.now }
+pub fn register_number(w: &[u8]) -> Option<usize>
+    ensures { read_of result ≡ number_from 0 register_words w.now }
 {
     number_in(
         b"G0 G1 G2 G3 G4 G5 G6 G7 G8 G9 G10 G11 G12 G13 G14 G15 G16 G17 G18 G19 G20 G21 G22 G23 G24 G25 G26 G27 G28 G29 Ret Temp",
@@ -90,15 +80,15 @@ pub fn register_number(w: &[u8]) -> Number
 }
 
 // A class of places.
-pub fn class_number(w: &[u8]) -> Number
-    ensures { as_number result ≡ number_from 0 class_words w.now }
+pub fn class_number(w: &[u8]) -> Option<usize>
+    ensures { read_of result ≡ number_from 0 class_words w.now }
 {
     number_in(b"Stack Mem Param", w)
 }
 
 // An index: 0 to 255, as it is printed.
-pub fn index_number(w: &[u8]) -> Number
-    ensures { as_number result ≡ number_from 0 index_words w.now }
+pub fn index_number(w: &[u8]) -> Option<usize>
+    ensures { read_of result ≡ number_from 0 index_words w.now }
 {
     number_in(
         b"0 1 2 3 4 5 6 7 8 9 10 11 12 13 14 15 16 17 18 19 20 21 22 23 24 25 26 27 28 29 30 31 32 33 34 35 36 37 38 39 40 41 \
@@ -114,15 +104,15 @@ pub fn index_number(w: &[u8]) -> Number
 }
 
 // A mode.
-pub fn mode_number(w: &[u8]) -> Number
-    ensures { as_number result ≡ number_from 0 mode_words w.now }
+pub fn mode_number(w: &[u8]) -> Option<usize>
+    ensures { read_of result ≡ number_from 0 mode_words w.now }
 {
     number_in(b"plain stable minding", w)
 }
 
 // A line's first word.
-pub fn head_number(w: &[u8]) -> Number
-    ensures { as_number result ≡ number_from 0 (map (λ h. h.word) heads) w.now }
+pub fn head_number(w: &[u8]) -> Option<usize>
+    ensures { read_of result ≡ number_from 0 (map (λ h. h.word) heads) w.now }
 {
     number_in(
         b"mode real constant Nop Neg Not Abs Root RealRoot Recip Round Floor Ceiling Trunc Real Imaginary Conjugate Half IsZero \
@@ -163,50 +153,20 @@ fn two_digits(w: &[u8], i: u8) -> u8
 fn are_digits(w: &[u8]) -> bool
     ensures { result ≡ are_digits w.now }
 {
-    let mut i: usize = 0;
-    while i < w.len() {
-        if 16 <= hex_digit(w[i]) {
+    for b in w {
+        if 16 <= hex_digit(*b) {
             return false;
         }
-        i += 1;
     }
     true
 }
 
-// A line's bytes with those of one word more, or none: it is no such word.
-#[derive(Clone, Copy)]
-pub struct WordTaken {
-    pub ok: bool,
-    pub line: Line,
-}
-
-fn with_word(line: Line) -> WordTaken
-    ensures { as_word_taken result ≡ got line }
+// A line's bytes with those of one word more, here the eight bytes of a constant; none where it is no such word.
+pub fn put_bits(line: Line, w: &[u8]) -> Option<Line>
+    ensures { read_of result ≡ and_then (bits_of w.now) (λ b. got (add_all line b)) }
 {
-    WordTaken {
-        ok: true,
-        line: line,
-    }
-}
-
-fn without(line: Line) -> WordTaken
-    ensures { as_word_taken result ≡ refused 3 }
-{
-    WordTaken {
-        ok: false,
-        line: line,
-    }
-}
-
-// The eight bytes of a constant.
-pub fn put_bits(line: Line, w: &[u8]) -> WordTaken
-    ensures { as_word_taken result ≡ and_then (bits_of w.now) (λ b. got (add_all line b)) }
-{
-    if w.len() != 16 {
-        return without(line);
-    }
-    if are_digits(w) {
-        return with_word(line.text(&[
+    if w.len() == 16 && are_digits(w) {
+        return Some(line.text(&[
             two_digits(w, 14),
             two_digits(w, 12),
             two_digits(w, 10),
@@ -217,32 +177,28 @@ pub fn put_bits(line: Line, w: &[u8]) -> WordTaken
             two_digits(w, 0),
         ]));
     }
-    without(line)
+    None
 }
 
 // A number's byte.
-fn put_number(line: Line, n: Number) -> WordTaken
-    ensures { as_word_taken result ≡ and_then (as_number n) (λ n. got (add_all line (n % 256 ∷ []))) }
+fn put_number(line: Line, n: Option<usize>) -> Option<Line>
+    ensures { read_of result ≡ and_then (read_of n) (λ n. got (add_all line (n % 256 ∷ []))) }
 {
-    match n {
-        Number::At(n) => with_word(line.byte((n % 256) as u8)),
-        Number::None => without(line),
-    }
+    let n = n?;
+    Some(line.byte((n % 256) as u8))
 }
 
 // An index's two bytes.
-fn put_index(line: Line, n: Number) -> WordTaken
-    ensures { as_word_taken result ≡ and_then (as_number n) (λ n. got (add_all line (n % 256 ∷ 0 ∷ []))) }
+fn put_index(line: Line, n: Option<usize>) -> Option<Line>
+    ensures { read_of result ≡ and_then (read_of n) (λ n. got (add_all line (n % 256 ∷ 0 ∷ []))) }
 {
-    match n {
-        Number::At(n) => with_word(line.byte((n % 256) as u8).byte(0)),
-        Number::None => without(line),
-    }
+    let n = n?;
+    Some(line.byte((n % 256) as u8).byte(0))
 }
 
 // The bytes of a word of a sort, by the sort's letter.
-pub fn put_word(line: Line, sort: u8, w: &[u8]) -> WordTaken
-    ensures { as_word_taken result ≡ and_then (word_bytes (sort_of sort) w.now) (λ b. got (add_all line b)) }
+pub fn put_word(line: Line, sort: u8, w: &[u8]) -> Option<Line>
+    ensures { read_of result ≡ and_then (word_bytes (sort_of sort) w.now) (λ b. got (add_all line b)) }
 {
     if sort == b'r' {
         return put_number(line, register_number(w));
@@ -270,30 +226,24 @@ pub(crate) fn behind(s: &[u8], end: usize) -> usize
 }
 
 // The bytes of a line's words from a position on, by their sorts; there is no word more, and no word fewer.
-pub fn put_words(start: Line, sorts: &[u8], l: &[u8], from: usize) -> WordTaken
-    ensures { as_word_taken result ≡ words_put (map sort_of sorts.now) start (words_of (drop from l.now)) }
+pub fn put_words(start: Line, sorts: &[u8], l: &[u8], from: usize) -> Option<Line>
+    ensures { read_of result ≡ words_put (map sort_of sorts.now) start (words_of (drop from l.now)) }
 {
     let mut line = start;
     let mut at = from;
-    let mut k: usize = 0;
-    while k < sorts.len() {
+    for sort in sorts {
         let word = run_end(l, at, 1);
         if l.len() <= word {
-            return without(line);
+            return None;
         }
         let end = run_end(l, word, 0);
-        let t = put_word(line, sorts[k], &l[word..end]);
-        if !t.ok {
-            return t;
-        }
-        line = t.line;
+        line = put_word(line, *sort, &l[word..end])?;
         at = end;
-        k += 1;
     }
     if run_end(l, at, 1) < l.len() {
-        return without(line);
+        return None;
     }
-    with_word(line)
+    Some(line)
 }
 
 // By the number of a first word: how many bytes stand before its fields, five places for them, how many words follow, five places for
@@ -324,8 +274,8 @@ const SORTS: [u8; 295] = *b"\
     rrci.rrci.rri..rri..rri..rri..n....n....rnn..";
 
 // The bytes of a line by the number of its first word; the others begin at a position.
-fn put_rest(n: usize, l: &[u8], at: usize) -> WordTaken
-    ensures { as_word_taken result ≡ head_put (get_or heads n nothing) (words_of (drop at l.now)) }
+fn put_rest(n: usize, l: &[u8], at: usize) -> Option<Line>
+    ensures { read_of result ≡ head_put (get_or heads n nothing) (words_of (drop at l.now)) }
 {
     if n < 59 {
         let from = 5 * n;
@@ -337,47 +287,26 @@ fn put_rest(n: usize, l: &[u8], at: usize) -> WordTaken
     put_words(empty_line(), &SORTS[0..0], l, at)
 }
 
-// A line: whether it is one, the number of its first word, and its bytes.
+// A line that was read: the number of its first word, and its bytes.
 #[derive(Clone, Copy)]
 pub struct LineRead {
-    pub ok: bool,
     pub head: usize,
     pub line: Line,
 }
 
-// By its first word's number, with its bytes.
-fn with_head(n: usize, t: WordTaken) -> LineRead
-    ensures { as_line result ≡ and_then (as_word_taken t) (tagged (part_of n)) }
-{
-    let line = t.line;
-    LineRead {
-        ok: t.ok,
-        head: n,
-        line: line,
-    }
-}
-
-fn no_line() -> LineRead
-    ensures { as_line result ≡ refused 3 }
-{
-    LineRead {
-        ok: false,
-        head: 0,
-        line: empty_line(),
-    }
-}
-
-// What a line is, and its bytes.
-pub fn read_line(l: &[u8]) -> LineRead
+// What a line is, and its bytes; none where it is no line.
+pub fn read_line(l: &[u8]) -> Option<LineRead>
     ensures { as_line result ≡ and_then (line_of (words_of l.now)) told }
 {
     let word = run_end(l, 0, 1);
     if l.len() <= word {
-        return no_line();
+        return None;
     }
     let end = run_end(l, word, 0);
-    match head_number(&l[word..end]) {
-        Number::At(n) => with_head(n, put_rest(n, l, end)),
-        Number::None => no_line(),
-    }
+    let head = head_number(&l[word..end])?;
+    let line = put_rest(head, l, end)?;
+    Some(LineRead {
+        head: head,
+        line: line,
+    })
 }

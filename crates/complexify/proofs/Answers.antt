@@ -17,7 +17,6 @@ use Rattle.lowering.specs.Labels.{none_standing}
 use Rattle.lowering.specs.Lower.{Ended, lower_from, start_state, lower_sheet, listed}
 use Rattle.lowering.specs.Origins.{from_sheet, origins_from, origins_of}
 use Rattle.complexifier.specs.declared.state.Complexifier.{Complexifier}
-use Rattle.complexifier.specs.Does.{state}
 use Rattle.complexify.specs.declared.entry.LowerAnswer.{LowerAnswer}
 use Rattle.complexify.specs.declared.turn.Cursor.{Cursor}
 use Rattle.complexify.specs.declared.turn.Stop.{Stop}

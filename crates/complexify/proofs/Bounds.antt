@@ -1,7 +1,7 @@
 -- How much one instruction lists and adds, method by method: at most 64 records of at most 11 bytes, and no constant for which the table
 -- has no place.
-use Prim.Native.Nat.{ℕ, suc, ◌+◌, ◌*◌, ◌≤◌}
-use mathlib.Core.Path.{◌≡◌, refl}
+use Prim.Native.Nat.{ℕ, ◌+◌, ◌*◌, ◌≤◌}
+use mathlib.Core.Path.{◌≡◌}
 use mathlib.Core.Bool.{Bool, true, false, cond}
 use mathlib.Core.List.{List, [], ◌∷◌, ◌++◌, map}
 use native.Mathlib.Omega.{arith}
@@ -20,7 +20,6 @@ use Rattle.mir.specs.Length.{length_of}
 use Rattle.mir.specs.Encode.{record_of, encode, encode_all}
 use Rattle.sheet.specs.declared.setup.Mode.{Mode}
 use Rattle.sheet.specs.Setup.{is_stable, is_minding}
-use Rattle.lowering.specs.declared.realness.Realness.{Realness}
 use Rattle.lowering.specs.Realness.{is_real_reg, is_real_loc}
 use Rattle.lowering.specs.Pushes as mir
 use Rattle.lowering.specs.Lines as l

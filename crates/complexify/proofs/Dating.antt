@@ -1,8 +1,8 @@
 -- The origins in the loop: those that stand there, with those that the instructions left to finish bring, are all of them.
-use Prim.Native.Nat.{ℕ, zero, suc, ◌+◌, ◌-◌, ◌≤◌, ◌<◌}
+use Prim.Native.Nat.{ℕ, suc, ◌+◌, ◌-◌, ◌≤◌}
 use mathlib.Core.Path.{◌≡◌, refl, sym, ap, ◌∙◌, subst}
 use mathlib.Core.Bool.{true, false}
-use mathlib.Core.List.{List, [], ◌++◌, append-nil, append_assoc}
+use mathlib.Core.List.{List, ◌++◌, append-nil, append_assoc}
 use native.Mathlib.Omega.{arith}
 use lib.ListN.{length, take, drop, replicate, length-take, length-replicate}
 use lib.Seq.{sets, length-sets}
@@ -11,7 +11,7 @@ use Rattle.sheet.specs.declared.setup.Mode.{Mode}
 use Rattle.sheet.specs.Instruction.{instruction_from}
 use Rattle.lowering.specs.Origins.{origins_from}
 use Rattle.lowering.specs.Labels.{none_standing}
-use Rattle.lowering.specs.Lower.{Ended, lower_from}
+use Rattle.lowering.specs.Lower.{Ended}
 use Rattle.complexifier.specs.Does.{state}
 use Rattle.complexify.specs.declared.turn.Cursor.{Cursor}
 use Rattle.complexify.specs.declared.turn.Next.{Next}

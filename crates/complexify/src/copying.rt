@@ -29,11 +29,7 @@ pub(crate) fn put_origins(origins: &mut [u16], start: usize, end: usize, origin:
     requires end_in_bounds { end ≤ length origins.old }
     ensures { origins.new ≡ sets origins.old start (replicate (end - start) origin) }
 {
-    let mut i = start;
-    while i < end {
-        origins[i] = origin;
-        i += 1;
-    }
+    origins[start..end].fill(origin);
 }
 
 // The sheet's first `count` constants.
@@ -41,10 +37,8 @@ pub(crate) fn copy_constants(sheet: &[u8], count: usize, constants: &mut [u64])
     requires { count ≤ length constants.old }
     ensures { constants.new ≡ sets constants.old 0 (constants_of sheet.now count) }
 {
-    let mut i: usize = 0;
-    while i < count {
+    for i in 0..count {
         constants[i] = constant_at(sheet, i);
-        i += 1;
     }
 }
 

@@ -82,6 +82,7 @@ fn run(
         × (Dated (left mode (length listing.old) own sheet.now none_standing listing.old constants.old start) mode own sheet.now constants.old start origins.old origins.new result) }
 {
     let mut stage = [0u8; 704];
+    // By position: a turn passes over an instruction, whose length differs.
     let mut p = start;
     while p.at < sheet.len() {
         if p.index == LONGEST {

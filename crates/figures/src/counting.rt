@@ -119,6 +119,7 @@ pub(crate) fn count_records(bytes: &[u8], branches: usize, before: Count) -> Cou
     requires branches_bound { branches ≤ 1 }
     ensures { Counts bytes.now branches before result }
 {
+    // By position: a turn passes over a record, whose length differs.
     let mut at: usize = 0;
     let mut records = before.records;
     let mut calls = before.calls;

@@ -84,6 +84,7 @@ fn run(
     ensures { result ≡ left mode own sheet.now none_standing constants.old start }
 {
     let mut stage = [0u8; 704];
+    // By position: a turn passes over an instruction, whose length differs.
     let mut p = start;
     while p.at < sheet.len() {
         if p.index == LONGEST {

@@ -104,12 +104,9 @@ fn put_numbers(out: &mut [u8], numbers: &[u16])
     requires { 2 * length numbers.now ≤ length out.old }
     ensures { out.new ≡ sets out.old 0 (pairs_of numbers.now) }
 {
-    let mut i: usize = 0;
-    while i < numbers.len() {
-        let n = numbers[i];
-        out[2 * i] = (n % 256) as u8;
-        out[2 * i + 1] = (n / 256 % 256) as u8;
-        i += 1;
+    for (i, n) in numbers.iter().enumerate() {
+        out[2 * i] = (*n % 256) as u8;
+        out[2 * i + 1] = (*n / 256 % 256) as u8;
     }
 }
 

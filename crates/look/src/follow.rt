@@ -12,6 +12,7 @@ fn records_before(listing: &[u8], at: usize, label: u8) -> usize
     requires { Sound listing.now at }
     ensures { BeforeLabel listing.now at label result }
 {
+    // By position: a turn passes over a record, whose length differs.
     let mut i = at;
     let mut n: usize = 0;
     while i < listing.len() {

@@ -1,51 +1,31 @@
--- Bits of the bytes of realness: the table of powers, and a bit read and cleared within the bytes and past their end.
-use Prim.Native.Nat.{ℕ, zero, suc, ◌-◌, ◌/◌, ◌%◌, ◌^◌, ◌<◌, ◌≤◌}
-use mathlib.Core.Path.{◌≡◌, refl, sym, ap, subst}
-use mathlib.Core.Bool.{false}
-use mathlib.Core.List.{List, [], ◌∷◌}
-use native.Mathlib.Nat.{le-div_iff_mul-le, one-mul, zero-div}
+-- Bits of the bytes of realness: a bit read and cleared within the bytes and past their end.
+use Prim.Native.Nat.{ℕ, zero, suc, ◌-◌, ◌*◌, ◌/◌, ◌%◌, ◌^◌, ◌<◌}
+use mathlib.Core.Path.{◌≡◌, refl, ap, ◌∙◌}
+use mathlib.Core.Bool.{Bool, true, cond, ◌&&◌, and-eq-true_iff}
+use mathlib.Core.Logic.{inl, inr}
+use native.Mathlib.Nat.{eq-or-lt_of_le}
 use native.Mathlib.Omega.{arith}
-use borrow.Author.Tests.{eq-eqb, ne_eqb}
-use lib.ListN.{length, get_or, set, get_or-eq_default}
-use lib.Seq.{set-get_or, set_out}
-use lib.Pow.{pow_pos}
+use borrow.Author.Tests.{eqb-true}
+use lib.Bits.{bit_and}
 use lib.Dec.{eqb}
-use Rattle.lowering.specs.Realness.{byte_of, bit_at, clear_at}
 
--- the table's rule
-pub powers : (k : ℕ) → k < 8 → get_or (1 ∷ 2 ∷ 4 ∷ 8 ∷ 16 ∷ 32 ∷ 64 ∷ 128 ∷ []) k 0 ≡ 2 ^ k
-powers zero h = refl
-powers (suc zero) h = refl
-powers (suc (suc zero)) h = refl
-powers (suc (suc (suc zero))) h = refl
-powers (suc (suc (suc (suc zero)))) h = refl
-powers (suc (suc (suc (suc (suc zero))))) h = refl
-powers (suc (suc (suc (suc (suc (suc zero)))))) h = refl
-powers (suc (suc (suc (suc (suc (suc (suc zero))))))) h = refl
-powers (suc (suc (suc (suc (suc (suc (suc (suc k)))))))) h = absurd (omega arith)
+-- whether a test holds of every number below n
+abbrev pub all_below : ℕ → (ℕ → Bool) → Bool
+all_below zero p = true
+all_below (suc n) p = p n && all_below n p
 
-pub some : (i p : ℕ) → p ≡ 2 ^ (i % 8) → 0 < p
-some i p e = subst (λ x. 0 < x) (sym e) (pow_pos (i % 8))
+pub below : (n : ℕ) (p : ℕ → Bool) → all_below n p ≡ true → (k : ℕ) → k < n → p k ≡ true
+below zero p e k h = absurd (omega arith)
+below (suc n) p e k h =
+    let t = (and-eq-true_iff (p n) (all_below n p)).0 e in
+    elim (eq-or-lt_of_le h) [ inl q ↦ (let r : k ≡ n = omega arith in ap p r ∙ t.0) | inr q ↦ below n p t.1 k (omega arith) ]
 
--- a bit that is set stands for no more than its byte
-pub held : (x p : ℕ) → 0 < p → x / p % 2 ≡ 1 → p ≤ x
-held x p h e = let k : 1 ≤ x / p = omega arith in subst (λ y. y ≤ x) (one-mul p) ((le-div_iff_mul-le h).0 k)
+-- the mask without bit k takes it away where it is set, for every byte
+abbrev masked : ℕ → ℕ → Bool
+masked k x = eqb (bit_and x (255 - 1 * 2 ^ k % 256)) (cond (eqb (x / 2 ^ k % 2) 1) (x - 2 ^ k) x)
 
-module _ (l : List ℕ) (i : ℕ) where
-  pub bit : (p : ℕ) → p ≡ 2 ^ (i % 8) → eqb (byte_of l i / p % 2) 1 ≡ bit_at l i
-  bit p e = ap (λ p. eqb (byte_of l i / p % 2) 1) e
+every : all_below 8 (λ k. all_below 256 (masked k)) ≡ true
+every = refl
 
-  pub cleared : (p : ℕ) → p ≡ 2 ^ (i % 8) → byte_of l i / p % 2 ≡ 1 → set l (i / 8) (byte_of l i - p) ≡ clear_at l i
-  cleared p e h = simp (← e, eq-eqb _ _ h)
-
-  pub kept : (p : ℕ) → p ≡ 2 ^ (i % 8) → (byte_of l i / p % 2 ≡ 1 → ⊥) → l ≡ clear_at l i
-  kept p e h = sym (simp (← e, ne_eqb _ _ h) (set-get_or l (i / 8) 0))
-
-  past : length l ≤ i / 8 → byte_of l i ≡ 0
-  past h = get_or-eq_default l 0 {n = i / 8} h
-
-  pub no-bit : length l ≤ i / 8 → false ≡ bit_at l i
-  no-bit h = sym (simp (past h, zero-div))
-
-  pub outside : length l ≤ i / 8 → l ≡ clear_at l i
-  outside h = sym (set_out l (i / 8) _ h)
+pub mask : (x k : ℕ) → x < 256 → k < 8 → bit_and x (255 - 1 * 2 ^ k % 256) ≡ cond (eqb (x / 2 ^ k % 2) 1) (x - 2 ^ k) x
+mask x k h j = eqb-true _ _ (below 256 (masked k) (below 8 (λ k. all_below 256 (masked k)) every k j) x h)

@@ -1,4 +1,4 @@
-mod Bits
+pub mod Bits
 pub mod Ahead
 pub mod Same
 pub mod Tests

@@ -12,16 +12,11 @@ use words::put_bytes;
 pub fn put_flags(out: &mut [u8], at: usize, flags: &[bool])
     ensures { out.new ≡ stored out.old at (map flag_byte flags.now) }
 {
-    if out.len() < flags.len() {
+    if out.len() < flags.len() || out.len() - flags.len() < at {
         return;
     }
-    if out.len() - flags.len() < at {
-        return;
-    }
-    let mut i: usize = 0;
-    while i < flags.len() {
-        out[at + i] = flag_byte(flags[i]);
-        i += 1;
+    for (i, flag) in flags.iter().enumerate() {
+        out[at + i] = flag_byte(*flag);
     }
 }
 

@@ -1,5 +1,5 @@
 // Which registers and places are recorded as real: complexify.rs's `real_regs` and `real_locs`. The record is a value; its methods return it.
-ghost use Rattle.std.specs.Prelude.{◌≡◌, ◌&&◌, ◌^◌, ◌%◌};
+ghost use Rattle.std.specs.Prelude.{◌≡◌};
 ghost use Rattle.lowering.specs.Realness as Spec;
 
 use mir::records::Loc;
@@ -12,26 +12,12 @@ pub struct Realness {
     pub places: [u8; 64],
 }
 
-// The powers of two in a byte.
-pub const POWERS: [u8; 8] = [1, 2, 4, 8, 16, 32, 64, 128];
-
-// The power of two that is bit i mod 8 of a byte.
-pub fn power_of(i: usize) -> u8
-    ensures { result ≡ 2 ^ (i % 8) }
-{
-    POWERS[i % 8]
-}
-
 // Bit i mod 8 of byte i div 8; no bit past the end.
 pub fn bit_at(places: [u8; 64], i: usize) -> bool
     ensures { result ≡ Spec.bit_at places i }
 {
     let at = i / 8;
-    if at < 64 {
-        let power = power_of(i);
-        return places[at] / power % 2 == 1;
-    }
-    false
+    at < 64 && (places[at] >> (i % 8)) & 1 == 1
 }
 
 // The bytes with that bit cleared.
@@ -40,18 +26,9 @@ pub fn clear_at(mut places: [u8; 64], i: usize) -> [u8; 64]
 {
     let at = i / 8;
     if at < 64 {
-        let power = power_of(i);
-        if places[at] / power % 2 == 1 {
-            places[at] = places[at] - power;
-        }
+        places[at] &= !(1 << (i % 8));
     }
     places
-}
-
-pub fn both(x: bool, y: bool) -> bool
-    ensures { result ≡ (x && y) }
-{
-    if x { y } else { false }
 }
 
 impl Realness {
@@ -70,17 +47,17 @@ impl Realness {
         ensures { result ≡ Spec.is_real_reg self r }
     {
         let i = r as usize;
-        if i < 32 { self.regs[i] } else { false }
+        i < 32 && self.regs[i]
     }
 
+    #[tactic(auto, unfolding(crate::specs::Realness::is_real_loc))]
     pub fn is_real_loc(self, loc: Loc) -> bool
         ensures { result ≡ Spec.is_real_loc self.places loc }
     {
-        let places = self.places;
         match loc {
-            Loc::Stack(i) => bit_at(places, i as usize),
+            Loc::Stack(i) => bit_at(self.places, i as usize),
             Loc::Mem(_) => false,
-            Loc::Param(i) => bit_at(places, 256 + i as usize),
+            Loc::Param(i) => bit_at(self.places, 256 + i as usize),
         }
     }
 
@@ -95,47 +72,40 @@ impl Realness {
         self
     }
 
-    pub fn set_reg_real(mut self, dst: u8) -> Realness
+    pub fn set_reg_real(self, dst: u8) -> Realness
         ensures { result ≡ Spec.set_reg_real self dst }
     {
         self.set_reg(dst, true)
     }
 
-    pub fn set_reg_complex(mut self, dst: u8) -> Realness
+    pub fn set_reg_complex(self, dst: u8) -> Realness
         ensures { result ≡ Spec.set_reg_complex self dst }
     {
         self.set_reg(dst, false)
     }
 
-    pub fn copy_real(mut self, dst: u8, s1: u8) -> Realness
+    pub fn copy_real(self, dst: u8, s1: u8) -> Realness
         ensures { result ≡ Spec.copy_real self dst s1 }
     {
-        let x = self.is_real_reg(s1);
-        self.set_reg(dst, x)
+        let real = self.is_real_reg(s1);
+        self.set_reg(dst, real)
     }
 
-    pub fn promote_real(mut self, dst: u8, s1: u8, s2: u8) -> Realness
+    pub fn promote_real(self, dst: u8, s1: u8, s2: u8) -> Realness
         ensures { result ≡ Spec.promote_real self dst s1 s2 }
     {
-        let x = self.is_real_reg(s1);
-        let y = self.is_real_reg(s2);
-        self.set_reg(dst, both(x, y))
+        let both = self.is_real_reg(s1) && self.is_real_reg(s2);
+        self.set_reg(dst, both)
     }
 
+    #[tactic(auto, unfolding(crate::specs::Realness::without_loc))]
     pub fn set_loc_complex(mut self, loc: Loc) -> Realness
         ensures { result ≡ Spec.set_loc_complex self loc }
     {
-        let places = self.places;
         match loc {
-            Loc::Stack(i) => {
-                let left = clear_at(places, i as usize);
-                self.places = left;
-            }
+            Loc::Stack(i) => self.places = clear_at(self.places, i as usize),
             Loc::Mem(_) => {}
-            Loc::Param(i) => {
-                let left = clear_at(places, 256 + i as usize);
-                self.places = left;
-            }
+            Loc::Param(i) => self.places = clear_at(self.places, 256 + i as usize),
         }
         self
     }

@@ -1,12 +1,13 @@
 -- What the records that direct the play do to the arrays is what they do to the marking that these stand for.
-use Prim.Native.Nat.{ℕ, zero, suc, ◌+◌, ◌*◌, ◌-◌, ◌<◌, ◌≤◌}
+use Prim.Native.Nat.{ℕ, ◌+◌, ◌*◌, ◌-◌, ◌<◌, ◌≤◌}
 use native.Mathlib.Omega.{arith}
 use native.Mathlib.Decide.{ℕ_discrete, dec_lt}
 use mathlib.Core.Path.{◌≡◌, refl, sym, ap, ap₂, ◌∙◌, subst}
 use mathlib.Core.Bool.{Bool, true, false, not, cond, ◌&&◌, ◌||◌}
 use mathlib.Core.List.{List, [], ◌∷◌, ◌++◌}
+use Rattle.std.proofs.Common.{Option, None, Some}
 use lib.ListN.{length, get_or}
-use lib.Dec.{leb, ltb, eqb}
+use lib.Dec.{leb, ltb}
 use borrow.Author.Tests.{eq-eqb, ne_eqb, lt-ltb, le-ltb, le-leb, lt-leb, leb-true}
 use Rattle.mir.specs.declared.records.Work.{Work}
 use Rattle.mir.specs.declared.records.Record.{Record}
@@ -15,7 +16,7 @@ use Rattle.mir.specs.Encode.{record_of, encode, encode_all}
 use Rattle.player_machine.specs.Machine.{block}
 use Rattle.marks.specs.Marks.{Set, everything, meet, among, Marking, start, working, through, noted, step}
 use Rattle.marks.proofs.Masks.{through_filled, through_drawn}
-use Rattle.marks_pass.specs.Standing.{Stands, Ways, Made, Drawn, Called, Noted, Entered, Branched, Directs, Jumped, BlockMarked, Knows, CallsBlock, NoWork, All, Directed}
+use Rattle.marks_pass.specs.Standing.{Stands, Ways, Drawn, Called, Noted, Entered, Branched, Directs, Jumped, BlockMarked, Knows, CallsBlock, NoWork, All, Directed}
 use Rattle.marks_pass.proofs.Arrays.{flat, clash, made-66}
 use Rattle.marks_pass.proofs.Rows.{label_kind, branch_kind, call_kind, branch_if_kind}
 
@@ -221,12 +222,12 @@ or-true false = refl
 
 module _ (listing s : List ℕ) (known : Bool) (kind : ℕ) (k : kind ≡ u16_at s 2) where
   pub directed-call : {fills draws F D W fills' draws' F' D' : List Bool} → kind ≡ 16 → CallsBlock listing known fills draws F D fills' draws' F' D'
-      → Directed listing s known fills draws F D W fills' draws' F' D' W 2
+      → Directed listing s known fills draws F D W fills' draws' F' D' W (Some true)
   unfolding step
-  directed-call {fills} {draws} {F} {D} {W} {fills'} {draws'} {F'} {D'} z c = record { all = go; whole = λ rec rest e w h x. absurd (omega arith) }
+  directed-call {fills} {draws} {F} {D} {W} {fills'} {draws'} {F'} {D'} z c = record { all = go; whole = λ rec rest e w h x. cc }
     where
       go : (rs : List Record) (rec : Record) (rest : List ℕ) (m : Marking) → listing ≡ encode_all rs → s ≡ encode rec ++ rest → NoWork rec
-          → (◌≡◌ {A = ℕ} 2 0 → ⊥) → All rs known fills draws F D W m → All rs (known || true) fills' draws' F' D' W (step (block rs) rec m)
+          → (Some true ≡ None → ⊥) → All rs known fills draws F D W m → All rs (known || true) fills' draws' F' D' W (step (block rs) rec m)
       go rs (Record.Work w) rest m l e n x a = absurd n
       go rs (Record.Label j) rest m l e n x a = other s kind 16 14 (Record.Label j) rest k z e (label_kind j rest) (λ p. omega arith)
       go rs (Record.Branch j) rest m l e n x a = other s kind 16 15 (Record.Branch j) rest k z e (branch_kind j rest) (λ p. omega arith)
@@ -239,8 +240,8 @@ module _ (listing s : List ℕ) (known : Bool) (kind : ℕ) (k : kind ≡ u16_at
       go rs (Record.BranchIf i j y) rest m l e n x a = other s kind 16 17 (Record.BranchIf i j y) rest k z e (branch_if_kind i j y rest) (λ p. omega arith)
 
   pub directed-jump : {fills draws F D W F' D' W' : List Bool} {r : Bool} → (kind ≡ 16 → ⊥) → r ≡ true → Jumped s F D W F' D' W' r
-      → Directed listing s known fills draws F D W fills draws F' D' W' 1
-  directed-jump {fills} {draws} {F} {D} {W} {F'} {D'} {W'} z t j = record { all = go; whole = λ rec rest e w h x. absurd (omega arith) }
+      → Directed listing s known fills draws F D W fills draws F' D' W' (Some false)
+  directed-jump {fills} {draws} {F} {D} {W} {F'} {D'} {W'} z t j = record { all = go; whole = λ rec rest e w h x. cc }
     where
       by : (rs : List Record) (rec : Record) (rest : List ℕ) (m : Marking) → s ≡ encode rec ++ rest → Directs rec → All rs known fills draws F D W m
           → All rs (known || false) fills draws F' D' W' (step (block rs) rec m)
@@ -252,7 +253,7 @@ module _ (listing s : List ℕ) (known : Bool) (kind : ℕ) (k : kind ≡ u16_at
           }
 
       go : (rs : List Record) (rec : Record) (rest : List ℕ) (m : Marking) → listing ≡ encode_all rs → s ≡ encode rec ++ rest → NoWork rec
-          → (◌≡◌ {A = ℕ} 1 0 → ⊥) → All rs known fills draws F D W m → All rs (known || false) fills draws F' D' W' (step (block rs) rec m)
+          → (Some false ≡ None → ⊥) → All rs known fills draws F D W m → All rs (known || false) fills draws F' D' W' (step (block rs) rec m)
       go rs (Record.Work w) rest m l e n x a = absurd n
       go rs (Record.Label i) rest m l e n x a = by rs (Record.Label i) rest m e tt a
       go rs (Record.Branch i) rest m l e n x a = by rs (Record.Branch i) rest m e tt a
@@ -260,13 +261,13 @@ module _ (listing s : List ℕ) (known : Bool) (kind : ℕ) (k : kind ≡ u16_at
       go rs (Record.BranchIf c i y) rest m l e n x a = by rs (Record.BranchIf c i y) rest m e tt a
 
   pub directed-none : {fills draws F D W F' D' W' : List Bool} {r : Bool} → (kind ≡ 16 → ⊥) → r ≡ false → Jumped s F D W F' D' W' r
-      → Directed listing s known fills draws F D W fills draws F' D' W' 0
+      → Directed listing s known fills draws F D W fills draws F' D' W' None
   directed-none {W = W} {r = r} z f j = record { all = λ rs rec rest m l e n x a. absurd (x refl); whole = go }
     where
       by : (rec : Record) (rest : List ℕ) → s ≡ encode rec ++ rest → Directs rec → 16896 ≤ length W → ⊥
       by rec rest e d h = clash (sym f ∙ j.whole rec rest e d h)
 
-      go : (rec : Record) (rest : List ℕ) → s ≡ encode rec ++ rest → NoWork rec → 16896 ≤ length W → ◌≡◌ {A = ℕ} 0 0 → ⊥
+      go : (rec : Record) (rest : List ℕ) → s ≡ encode rec ++ rest → NoWork rec → 16896 ≤ length W → ◌≡◌ {A = Option Bool} None None → ⊥
       go (Record.Work w) rest e n h x = absurd n
       go (Record.Label i) rest e n h x = by (Record.Label i) rest e tt h
       go (Record.Branch i) rest e n h x = by (Record.Branch i) rest e tt h

@@ -1,12 +1,12 @@
 -- The pass over all records, and its marks as lists.
-use Prim.Native.Nat.{ℕ, zero, suc, ◌+◌, ◌*◌, ◌-◌, ◌<◌, ◌≤◌}
+use Prim.Native.Nat.{ℕ, zero, suc, ◌+◌, ◌*◌, ◌<◌, ◌≤◌}
 use native.Mathlib.Omega.{arith}
-use mathlib.Core.Path.{◌≡◌, refl, sym, ap, ap₂, ◌∙◌, subst}
-use mathlib.Core.Bool.{Bool, true, false, cond, ◌||◌}
-use mathlib.Core.List.{List, [], ◌∷◌, ◌++◌}
-use lib.ListN.{length, get_or, take, drop, replicate, get_or-replicate, length-replicate}
+use mathlib.Core.Path.{◌≡◌, refl, sym, ap, ◌∙◌, subst}
+use mathlib.Core.Bool.{Bool, true, false, ◌||◌}
+use mathlib.Core.List.{List, [], ◌∷◌}
+use Rattle.std.proofs.Common.{Option, None}
+use lib.ListN.{length, get_or, drop, replicate, get_or-replicate, length-replicate}
 use lib.Seq.{ext_get_or}
-use lib.Dec.{eqb}
 use Rattle.mir.specs.declared.records.Work.{Work}
 use Rattle.mir.specs.declared.records.Record.{Record}
 use Rattle.mir.specs.Field.{u16_at}
@@ -14,8 +14,8 @@ use Rattle.mir.specs.Encode.{encode, encode_all}
 use Rattle.mir.proofs.Parts.{part}
 use Rattle.records.proofs.Round.{encoded-length}
 use Rattle.player_machine.specs.Machine.{works, block}
-use Rattle.marks.specs.Marks.{Set, Marking, start, through, step, scan, marking, flags, registers}
-use Rattle.marks_pass.specs.Standing.{Stands, Ways, Led, Straight, Knows, NoWork, All, Directed, Begun, First}
+use Rattle.marks.specs.Marks.{Set, Marking, start, step, scan, marking, flags, registers}
+use Rattle.marks_pass.specs.Standing.{Stands, Ways, Led, Straight, Knows, NoWork, All, was_call, Directed, Begun, First}
 use Rattle.marks_pass.proofs.Records.{from, encode_long, behind, left-none, left_some}
 use Rattle.marks_pass.proofs.Directing.{through_ways}
 
@@ -57,7 +57,7 @@ led_end {F} {D} s rs at h l = go l.left l.there (l.scans (block rs))
     go [] g c = subst (Stands F D) (sym c) l.stands
     go (r ∷ q) g c = left_some s at r q g h
 
-module _ {fills draws F D W fills' draws' F' D' W' : List Bool} (s : List ℕ) (rs : List Record) (known : Bool) (at n did : ℕ)
+module _ {fills draws F D W fills' draws' F' D' W' : List Bool} (s : List ℕ) (rs : List Record) (known : Bool) (at n : ℕ) (did : Option Bool)
     (l : n ≡ u16_at (from s at) 0) (h : at < length s) (e : s ≡ encode_all rs)
     (d : Directed s (from s at) known fills draws F D W fills' draws' F' D' W' did) (p : Passing s rs known fills draws F D W at) where
   -- the record at hand is no working record
@@ -83,24 +83,24 @@ module _ {fills draws F D W fills' draws' F' D' W' : List Bool} (s : List ℕ) (
       go [] g = left-none s at g h
       go (r ∷ q) g = let j = long-by r q g in let k = encode_long r in absurd (omega (arith, j, k))
 
-  pub passing-whole : 16896 ≤ length W → did ≡ 0 → ⊥
+  pub passing-whole : 16896 ≤ length W → did ≡ None → ⊥
   passing-whole b z = go p.left p.there p.stopped
     where
       go : (left : List Record) → drop at s ≡ encode_all left → works left ≡ [] → ⊥
       go [] g w = left-none s at g h
       go (r ∷ q) g w = d.whole r (encode_all q) (part s at ∙ g) (no-work r q w) b z
 
-  pub passing-on : {F'' D'' : List Bool} (to : ℕ) → (did ≡ 0 → ⊥) → Straight s (at + n) F' D' F'' D'' to
-      → Passing s rs (known || eqb did 2) fills' draws' F'' D'' W' to
+  pub passing-on : {F'' D'' : List Bool} (to : ℕ) → (did ≡ None → ⊥) → Straight s (at + n) F' D' F'' D'' to
+      → Passing s rs (known || was_call did) fills' draws' F'' D'' W' to
   unfolding scan
   passing-on {F''} {D''} to z t = go p.left p.there p.stopped p.scans
     where
       go : (left : List Record) → drop at s ≡ encode_all left → works left ≡ [] → scan (block rs) rs start ≡ scan (block rs) left p.now
-          → Passing s rs (known || eqb did 2) fills' draws' F'' D'' W' to
+          → Passing s rs (known || was_call did) fills' draws' F'' D'' W' to
       go [] g w c = left-none s at g h
       go (r ∷ q) g w c =
           let a = d.all rs r (encode_all q) p.now e (part s at ∙ g) (no-work r q w) z p.all in
-          led-to s rs q (known || eqb did 2) (step (block rs) r p.now) to
+          led-to s rs q (known || was_call did) (step (block rs) r p.now) to
           (t.leads q (step (block rs) r p.now) (behind s at n r q g (long-by r q g)) a.stands) a.knows a.ways c
 
 pub passing_end : {fills draws F D W : List Bool} (s : List ℕ) (rs : List Record) (known : Bool) (at : ℕ) → length s ≤ at

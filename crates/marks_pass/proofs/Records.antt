@@ -1,5 +1,5 @@
 -- Walking over records: one working record after the other, to the block, and all records with their labels.
-use Prim.Native.Nat.{ℕ, zero, suc, ◌+◌, ◌*◌, ◌-◌, ◌<◌, ◌≤◌}
+use Prim.Native.Nat.{ℕ, ◌+◌, ◌-◌, ◌<◌, ◌≤◌}
 use native.Mathlib.Omega.{arith}
 use mathlib.Core.Path.{◌≡◌, refl, sym, ap, ap₂, ◌∙◌, subst}
 use mathlib.Core.Bool.{Bool, true, false, not, cond, ◌&&◌, ◌||◌}
@@ -9,16 +9,14 @@ use lib.Seq.{drop-append_seam, drop-drop}
 use lib.Dec.{eqb}
 use Rattle.mir.specs.declared.records.Work.{Work}
 use Rattle.mir.specs.declared.records.Record.{Record}
-use Rattle.mir.specs.Length.{length_of}
 use Rattle.mir.specs.Field.{u16_at}
-use Rattle.mir.specs.Encode.{record_of, encode, encode_work, encode_all}
+use Rattle.mir.specs.Encode.{record_of, encode, encode_all}
 use Rattle.mir.proofs.Parts.{part}
 use Rattle.records.proofs.Round.{encoded-length}
 use Rattle.player_machine.specs.Machine.{works, is_label, seek, block}
 use Rattle.player_machine.specs.Draws.{draws, fills}
 use Rattle.marks.specs.Marks.{Marking, among, start, working, through, step, scan}
-use Rattle.marks.specs.Marks as Marks
-use Rattle.marks_pass.specs.Standing.{Stands, Ways, Worked, Still, Done, Does, Led, Straight, BlockAt, BlockMarked}
+use Rattle.marks_pass.specs.Standing.{Stands, Worked, Still, Does, Led, Straight, BlockAt, BlockMarked}
 
 -- a record has bytes, as many as it says
 pub encode_long : (r : Record) → 5 ≤ length (encode r)

@@ -1,17 +1,16 @@
 -- What the table's rows say of each kind: by them a working record's registers are those that it draws on and fills.
-use Prim.Native.Nat.{ℕ, zero, suc, ◌+◌, ◌*◌, ◌-◌, ◌<◌, ◌≤◌}
+use Prim.Native.Nat.{ℕ, zero, suc, ◌+◌, ◌*◌, ◌<◌, ◌≤◌}
 use native.Mathlib.Omega.{arith}
 use mathlib.Core.Path.{◌≡◌, refl, sym, ap, ap₂, ◌∙◌, subst}
-use mathlib.Core.Bool.{Bool, true, false, not, cond, ◌&&◌, ◌||◌}
+use mathlib.Core.Bool.{Bool, true, false, cond, ◌&&◌, ◌||◌}
 use mathlib.Core.List.{List, [], ◌∷◌, ◌++◌}
 use lib.ListN.{length, get_or}
 use lib.Dec.{T, eqb, leb, leb→le}
-use lib.Bits.{bit_or, bit_and, or_add_and, and_le_l, or_zero_r}
+use lib.Bits.{bit_or, or_add_and, and_le_l, or_zero_r}
 use borrow.Author.Tests.{ne_eqb}
 use Rattle.mir.specs.declared.records.Loc.{Loc}
 use Rattle.mir.specs.declared.records.Work.{Work}
 use Rattle.mir.specs.declared.records.Record.{Record}
-use Rattle.mir.specs.Length.{length_of}
 use Rattle.mir.specs.Operation.{bin_number}
 use Rattle.mir.specs.Field.{u16_at}
 use Rattle.mir.specs.Encode.{record_of, encode, encode_work}
@@ -21,7 +20,7 @@ use Rattle.player_machine.specs.Machine.{place}
 use Rattle.player_machine.specs.Draws.{draws, fills}
 use Rattle.marks.specs.Marks.{among}
 use Rattle.marks_pass.specs.Table.{table}
-use Rattle.marks_pass.specs.Standing.{Drawn, Filled, Marked, Worked, Still, Done, Does}
+use Rattle.marks_pass.specs.Standing.{Drawn, Filled, Marked, Worked, Done, Does}
 use Rattle.marks_pass.proofs.Arrays.{Same, drawn-as, filled_as}
 
 or_high : (a b : ℕ) → b ≤ bit_or a b

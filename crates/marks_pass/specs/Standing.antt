@@ -1,6 +1,6 @@
 -- How the arrays of the pass stand for a marking, and what its steps do to them. F has the marks filled, D those drawn on, W for each label
 -- 66 marks of what is filled on every branch to it so far.
-use Rattle.std.specs.Prelude.{ℕ, zero, suc, ◌+◌, ◌*◌, ◌-◌, ◌<◌, ◌≤◌, ◌≡◌, Bool, true, false, not, cond, ◌&&◌, ◌||◌, List, [], ◌∷◌, ◌++◌, length, get_or, drop, leb, ltb, eqb}
+use Rattle.std.specs.Prelude.{ℕ, ◌+◌, ◌*◌, ◌-◌, ◌<◌, ◌≤◌, ◌≡◌, Bool, true, false, cond, ◌&&◌, ◌||◌, Option, None, Some, List, [], ◌∷◌, ◌++◌, length, get_or, drop, leb, ltb}
 use Rattle.std.specs.Int.Bits.{bit_or}
 use Rattle.mir.specs.declared.records.Work.{Work}
 use Rattle.mir.specs.declared.records.Record.{Record}
@@ -146,10 +146,15 @@ pub record All (rs : List Record) (known : Bool) (fills draws F D W : List Bool)
   pub stands : Stands F D m
   pub ways : Ways W m.ways
 
-pub record Directed (listing s : List ℕ) (known : Bool) (fills draws F D W fills' draws' F' D' W' : List Bool) (r : ℕ) : Type 0 where
+-- whether it was a Call, where the table of ways has its label
+abbrev pub was_call : Option Bool → Bool
+was_call (Some called) = called
+was_call None = false
+
+pub record Directed (listing s : List ℕ) (known : Bool) (fills draws F D W fills' draws' F' D' W' : List Bool) (r : Option Bool) : Type 0 where
   pub all : (rs : List Record) (rec : Record) (rest : List ℕ) (m : Marking) → listing ≡ encode_all rs → s ≡ encode rec ++ rest → NoWork rec
-      → (r ≡ 0 → ⊥) → All rs known fills draws F D W m → All rs (known || eqb r 2) fills' draws' F' D' W' (step (block rs) rec m)
-  pub whole : (rec : Record) (rest : List ℕ) → s ≡ encode rec ++ rest → NoWork rec → 16896 ≤ length W → r ≡ 0 → ⊥
+      → (r ≡ None → ⊥) → All rs known fills draws F D W m → All rs (known || was_call r) fills' draws' F' D' W' (step (block rs) rec m)
+  pub whole : (rec : Record) (rest : List ℕ) → s ≡ encode rec ++ rest → NoWork rec → 16896 ≤ length W → r ≡ None → ⊥
 
 -- behind the working records that stand first in a listing, and no branch so far
 abbrev pub Begun : List ℕ → List Bool → List Bool → ℕ → Type 0

@@ -27,11 +27,7 @@ fn first(all: &[bool]) -> [bool; 66]
     ensures { First all.now result }
 {
     let mut marks = [false; 66];
-    let mut i: usize = 0;
-    while i < 66 {
-        marks[i] = all[i];
-        i += 1;
-    }
+    marks.copy_from_slice(&all[..66]);
     marks
 }
 

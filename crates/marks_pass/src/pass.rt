@@ -11,17 +11,14 @@ use mir::fields::{byte, u16_at};
 fn at_block(s: &[u8]) -> bool
     ensures { result ≡ (eqb (u16_at s.now 2) 14 && eqb (byte_at s.now 4) 1) }
 {
-    if u16_at(s, 2) == 14 {
-        byte(s, 4) == 1
-    } else {
-        false
-    }
+    u16_at(s, 2) == 14 && byte(s, 4) == 1
 }
 
 // The position behind the first Label 1; the end where there is none.
 fn block_start(listing: &[u8]) -> usize
     ensures { BlockAt listing.now result }
 {
+    // By position: a turn passes over a record, whose length differs.
     let mut at: usize = 0;
     while at < listing.len() {
         let s = &listing[at..];
@@ -67,7 +64,7 @@ fn call_block(
     call(filled, drawn, fills, draws);
 }
 
-// The record that bytes begin with, no working record: 2 for a Call, 1 for another, 0 where the table of ways has not its label.
+// The record that bytes begin with, no working record: whether it is a Call; none where the table of ways has not its label.
 fn direct(
     listing: &[u8],
     s: &[u8],
@@ -77,19 +74,19 @@ fn direct(
     filled: &mut [bool],
     drawn: &mut [bool],
     ways: &mut [bool],
-) -> u8
+) -> Option<bool>
     requires fills_len { (length fills.old ≡ 256) × (length draws.old ≡ 256) }
     requires filled_len { (length filled.old ≡ 256) × (length drawn.old ≡ 256) }
     ensures { Directed listing.now s.now known fills.old draws.old filled.old drawn.old ways.old fills.new draws.new filled.new drawn.new ways.new result }
 {
     if u16_at(s, 2) == 16 {
         call_block(listing, known, fills, draws, filled, drawn);
-        return 2;
+        return Some(true);
     }
     if jump(s, filled, drawn, ways) {
-        return 1;
+        return Some(false);
     }
-    0
+    None
 }
 
 // The records from a position on, behind the working records that stand first; false where the table of ways has not a label.
@@ -108,20 +105,20 @@ pub(crate) fn pass(
     let mut fills = [false; 256];
     let mut draws = [false; 256];
     let mut known = false;
+    // By position, as in `block_start`.
     let mut at = from;
     while at < listing.len() {
         let s = &listing[at..];
         let n = u16_at(s, 0) as usize;
-        let did = direct(
+        let Some(called) = direct(
             listing, s, known, &mut fills, &mut draws, filled, drawn, ways,
-        );
-        if did == 0 {
+        ) else {
             return false;
-        }
+        };
         if n == 0 {
             return false;
         }
-        known = known | (did == 2);
+        known = known | called;
         at = straight(listing, at + n, filled, drawn);
     }
     true

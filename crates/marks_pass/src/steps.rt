@@ -11,11 +11,9 @@ fn note_at(ways: &mut [bool], from: usize, filled: &[bool])
     requires { (from + 66 ≤ length ways.old) × (length filled.now ≡ 256) }
     ensures { Made from 66 (λ k. get_or ways.old k false && get_or filled.now (k - from) false) ways.old ways.new }
 {
-    let mut i: usize = 0;
-    while i < 66 {
+    for i in 0..66 {
         let at = from + i;
         ways[at] = ways[at] & filled[i];
-        i += 1;
     }
 }
 
@@ -24,10 +22,8 @@ fn enter_at(filled: &mut [bool], ways: &[bool], from: usize)
     requires { (from + 66 ≤ length ways.now) × (length filled.old ≡ 256) }
     ensures { Made 0 66 (λ i. get_or filled.old i false && get_or ways.now (from + i) false) filled.old filled.new }
 {
-    let mut i: usize = 0;
-    while i < 66 {
+    for i in 0..66 {
         filled[i] = filled[i] & ways[from + i];
-        i += 1;
     }
 }
 
@@ -36,10 +32,8 @@ fn fill_all(filled: &mut [bool])
     requires { length filled.old ≡ 256 }
     ensures { Made 0 66 everything filled.old filled.new }
 {
-    let mut i: usize = 0;
-    while i < 66 {
+    for i in 0..66 {
         filled[i] = true;
-        i += 1;
     }
 }
 
@@ -49,11 +43,9 @@ pub(crate) fn call(filled: &mut [bool], drawn: &mut [bool], fills: &[bool], draw
     requires fills_len { (length fills.now ≡ 256) × (length draws.now ≡ 256) }
     ensures { Called filled.old drawn.old fills.now draws.now filled.new drawn.new }
 {
-    let mut i: usize = 0;
-    while i < 66 {
+    for i in 0..66 {
         drawn[i] = drawn[i] | (draws[i] & !filled[i]);
         filled[i] = filled[i] | fills[i];
-        i += 1;
     }
 }
 

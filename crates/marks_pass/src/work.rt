@@ -177,6 +177,7 @@ pub(crate) fn straight(
     ensures { Straight listing.now from filled.old drawn.old filled.new drawn.new result }
 {
     let rows = ROWS;
+    // By position: a turn passes over a record, whose length differs.
     let mut at = from;
     while at < listing.len() {
         let s = &listing[at..];

@@ -6,15 +6,11 @@ ghost use Rattle.std.specs.Float.Ieee.{le, ne};
 ghost use Rattle.float.specs.Word.{value};
 ghost use Rattle.nearest.specs.Nearest.{not_farther, best_of, told, nearest};
 ghost use Rattle.nearest.specs.Apart.{apart};
-ghost use Rattle.nearest.specs.Answer.{as_values};
+ghost use Rattle.nearest.specs.Answer.{as_values, values_of};
 
-// What the entry answers: the index of the nearest point, no point whose distance is a number, or words that are no points.
+// Words that are no points: an odd count of them, or more than 1,024.
 #[derive(Clone, Copy)]
-pub enum Nearest {
-    At(usize),
-    Nothing,
-    Refused,
-}
+pub struct NoPoints;
 
 // The distance of a point, two words, from an answer. Where a word is a NaN's pattern it is a NaN, and no arithmetic is done.
 fn distance(re: f64, im: f64, x: u64, y: u64) -> f64
@@ -38,42 +34,36 @@ fn wins(least: f64, far: f64) -> bool
     far <= least || least != least
 }
 
-// The nearest of all points.
-fn search(re: u64, im: u64, points: &[u64]) -> Nearest
-    ensures { as_values result ≡ told (best_of not_farther re im points.now) }
+// The nearest of all points; none where no distance is a number.
+fn search(re: u64, im: u64, points: &[u64]) -> Option<usize>
+    ensures { values_of result ≡ told (best_of not_farther re im points.now) }
 {
     let x = float::read(re);
     let y = float::read(im);
     let count = points.len() / 2;
     let mut index: usize = 0;
     let mut least: f64 = 0.0 / 0.0;
-    let mut i: usize = 0;
-    while i < count {
+    for i in 0..count {
         let at = 2 * i;
         let far = distance(x, y, points[at], points[at + 1]);
         if wins(least, far) {
             index = i;
             least = far;
         }
-        i += 1;
     }
-    if least != least {
-        Nearest::Nothing
-    } else {
-        Nearest::At(index)
-    }
+    if least != least { None } else { Some(index) }
 }
 
-// The index of the point nearest to the answer (re, im). A point is two words, real then imaginary.
+// The index of the point nearest to the answer (re, im), or none where no distance is a number. A point is two words, real then imaginary.
 #[tactic(auto, unfolding(crate::specs::Nearest::nearest))]
-pub fn nearest_point(re: u64, im: u64, points: &[u64]) -> Nearest
+pub fn nearest_point(re: u64, im: u64, points: &[u64]) -> Result<Option<usize>, NoPoints>
     ensures { as_values result ≡ nearest re im points.now }
 {
     if points.len() % 2 != 0 {
-        return Nearest::Refused;
+        return Err(NoPoints);
     }
     if 1024 < points.len() {
-        return Nearest::Refused;
+        return Err(NoPoints);
     }
-    search(re, im, points)
+    Ok(search(re, im, points))
 }

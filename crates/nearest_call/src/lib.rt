@@ -7,15 +7,15 @@ ghost use Rattle.nearest.specs.Nearest.{nearest};
 ghost use Rattle.nearest.specs.Answer.{as_values};
 ghost use Rattle.nearest_call.specs.Call.{nearest_call, numbers};
 
-use nearest::Nearest;
+use nearest::NoPoints;
 
 // The nearest point, with the points as bytes.
-fn nearest_words(re: u64, im: u64, points: &[u8]) -> Nearest
+fn nearest_words(re: u64, im: u64, points: &[u8]) -> Result<Option<usize>, NoPoints>
     ensures { as_values result ≡ nearest re im (words_of points.now) }
 {
     let n = points.len() / 8;
     if 1024 < n {
-        return Nearest::Refused;
+        return Err(NoPoints);
     }
     let mut table = [0u64; 1024];
     words::load(&mut table, points);
@@ -23,24 +23,23 @@ fn nearest_words(re: u64, im: u64, points: &[u8]) -> Nearest
 }
 
 // The number of an answer.
-fn number_of(found: Nearest) -> u32
+fn number_of(found: Result<Option<usize>, NoPoints>) -> u32
     ensures { result ≡ (as_values found).number }
 {
     match found {
-        Nearest::At(i) => 0,
-        Nearest::Nothing => 0,
-        Nearest::Refused => 13,
+        Ok(_) => 0,
+        Err(_) => 13,
     }
 }
 
 // The three numbers of an answer.
-fn numbers_of(found: Nearest) -> [u64; 3]
+fn numbers_of(found: Result<Option<usize>, NoPoints>) -> [u64; 3]
     ensures { result ≡ numbers (as_values found) }
 {
     match found {
-        Nearest::At(i) => [0, 1, i as u64],
-        Nearest::Nothing => [0, 0, 0],
-        Nearest::Refused => [13, 0, 0],
+        Ok(Some(i)) => [0, 1, i as u64],
+        Ok(None) => [0, 0, 0],
+        Err(_) => [13, 0, 0],
     }
 }
 

@@ -15,10 +15,8 @@ fn spaces(line: Line, n: usize) -> Line
     ensures { Adds line (spaces n) result }
 {
     let mut line = line;
-    let mut i: usize = 0;
-    while i < n {
+    for _i in 0..n {
         line = line.byte(b' ');
-        i += 1;
     }
     line
 }
@@ -27,7 +25,7 @@ fn spaces(line: Line, n: usize) -> Line
 pub(crate) fn left_of(n: usize, k: usize) -> usize
     ensures { result ≡ n - k }
 {
-    if k < n { n - k } else { 0 }
+    n.saturating_sub(k)
 }
 
 // Spaces up to a column, and a byte.
@@ -120,12 +118,10 @@ pub(crate) fn put_lines(
 {
     let mut at: usize = 0;
     let mut from = start;
-    let mut k: usize = 0;
-    while k < n {
+    for k in 0..n {
         let q = line_at(constants, listing, first + k, from);
         at = put_line(out, at, q.line);
         from = q.next;
-        k += 1;
     }
     at
 }

@@ -1,4 +1,5 @@
 pub mod Peak
+pub mod Answer
 pub mod Laws
 pub mod Facts
 pub mod Blocks

@@ -4,6 +4,7 @@
 ghost use Rattle.std.specs.Prelude.{◌≡◌, ◌<◌, ◌≤◌, length};
 ghost use Rattle.peak.specs.Blocks.{Tails};
 ghost use Rattle.peak.specs.Peak as Peak;
+ghost use Rattle.peak.specs.Answer.{number_of};
 
 const NAN: u64 = 0x7ff8_0000_0000_0000;
 
@@ -24,9 +25,7 @@ fn tails(run: &[u64], w: usize, s: usize, tail: &mut [u64])
     ensures { Tails run.now w s tail.new }
 {
     let mut best = NAN;
-    let mut j = w;
-    while 0 < j {
-        j -= 1;
+    for j in (0..w).rev() {
         tail[j] = best;
         best = larger(run[s - w + j], best);
     }
@@ -41,31 +40,33 @@ fn fill(run: &[u64], w: usize, out: &mut [u64])
     let mut tail = [NAN; 64];
     let mut here = NAN;
     let mut j: usize = 0;
-    let mut i: usize = 0;
-    while i < run.len() {
-        here = larger(here, larger(run[i], NAN));
+    for (i, word) in run.iter().enumerate() {
+        here = larger(here, larger(*word, NAN));
         out[i] = larger(tail[j], here);
-        i += 1;
         j += 1;
         if j == w {
-            tails(run, w, i, &mut tail);
+            tails(run, w, i + 1, &mut tail);
             here = NAN;
             j = 0;
         }
     }
 }
 
-// The peaks of a run. Returns 0, or 12 with nothing written.
+// What is turned away: a window outside 1 to 64, a run of more than 4,096 words, or an output that is shorter than the run.
+#[derive(Clone, Copy)]
+pub struct TurnedAway;
+
+// The peaks of a run; where it is turned away nothing is written.
 #[tactic(auto, unfolding(crate::specs::Peak::refused, crate::specs::Peak::number, crate::specs::Peak::after))]
-pub fn peak(run: &[u64], w: usize, out: &mut [u64]) -> u32
-    ensures { (result ≡ Peak.number run.now w out.old) × (out.new ≡ Peak.after run.now w out.old) }
+pub fn peak(run: &[u64], w: usize, out: &mut [u64]) -> Result<(), TurnedAway>
+    ensures { (number_of result ≡ Peak.number run.now w out.old) × (out.new ≡ Peak.after run.now w out.old) }
 {
     if w == 0 || w > 64 {
-        return 12;
+        return Err(TurnedAway);
     }
     if run.len() > 4096 || out.len() < run.len() {
-        return 12;
+        return Err(TurnedAway);
     }
     fill(run, w, out);
-    0
+    Ok(())
 }

@@ -25,9 +25,11 @@ pub extern "C" fn tulipcricket_peak_unguarded(run: &[u8], window: u64, out: &mut
     let mut words = [0u64; 4096];
     load(&mut words, run);
     let mut peaks = [0u64; 4096];
-    let number = peak::peak(&words[..n], window as usize, &mut peaks);
-    if number == 0 {
-        save(out, &peaks[..n]);
+    match peak::peak(&words[..n], window as usize, &mut peaks) {
+        Ok(_) => {
+            save(out, &peaks[..n]);
+            0
+        }
+        Err(_) => 12,
     }
-    number
 }

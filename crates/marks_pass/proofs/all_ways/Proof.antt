@@ -1,14 +1,9 @@
 -- `marks_pass::all_ways` meets its contract.
 use borrow.Author.Rules.{rules}
-use Prim.Native.Nat.{ℕ, ◌+◌, ◌-◌, ◌≤◌}
-use mathlib.Core.Path.{◌≡◌, refl, sym, ap₂, ◌∙◌}
-use mathlib.Core.Bool.{Bool, true, false}
-use mathlib.Core.List.{List}
+use mathlib.Core.Path.{◌∙◌}
+use mathlib.Core.Bool.{true, false}
 use native.Mathlib.Omega.{arith}
-use lib.ListN.{length, length-replicate}
-use Rattle.mir.specs.declared.records.Record.{Record}
-use Rattle.mir.specs.Encode.{encode_all}
-use Rattle.marks_pass.proofs.Arrays.{clash}
+use lib.ListN.{length-replicate}
 use Rattle.marks_pass.proofs.Passing as P
 use Rattle.marks_pass.proofs.all_ways.Statement.{statement}
 use Rattle.marks_pass.proofs.all_ways.Tie as tie

@@ -1,14 +1,8 @@
 -- `marks_pass::both` meets its contract.
 use borrow.Author.Rules.{rules}
-use Prim.Native.Nat.{ℕ, ◌+◌, ◌-◌, ◌≤◌}
 use mathlib.Core.Path.{ap₂}
-use mathlib.Core.Bool.{Bool, true, false}
+use mathlib.Core.Bool.{Bool}
 use mathlib.Core.List.{List}
-use native.Mathlib.Omega.{arith}
-use lib.ListN.{length, length-replicate}
-use Rattle.mir.specs.declared.records.Record.{Record}
-use Rattle.mir.specs.Encode.{encode_all}
-use Rattle.marks_pass.proofs.Arrays.{clash}
 use Rattle.marks_pass.proofs.Passing as P
 use Rattle.marks_pass.proofs.both.Statement.{statement}
 use Rattle.marks_pass.proofs.both.Tie as tie

@@ -1,14 +1,8 @@
 -- `marks_pass::marks_of` meets its contract.
 use borrow.Author.Rules.{rules}
-use Prim.Native.Nat.{ℕ, ◌+◌, ◌-◌, ◌≤◌}
-use mathlib.Core.Path.{◌≡◌, refl, sym, ap₂, ◌∙◌}
-use mathlib.Core.Bool.{Bool, true, false}
-use mathlib.Core.List.{List}
-use native.Mathlib.Omega.{arith}
-use lib.ListN.{length, length-replicate}
-use Rattle.mir.specs.declared.records.Record.{Record}
-use Rattle.mir.specs.Encode.{encode_all}
-use Rattle.marks_pass.proofs.Arrays.{clash}
+use mathlib.Core.Path.{◌∙◌}
+use mathlib.Core.Bool.{false}
+use lib.ListN.{length-replicate}
 use Rattle.marks_pass.proofs.Passing as P
 use Rattle.marks_pass.proofs.marks_of.Statement.{statement}
 use Rattle.marks_pass.proofs.marks_of.Tie as tie

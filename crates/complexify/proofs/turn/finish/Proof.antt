@@ -1,7 +1,6 @@
 -- `finish` meets its contract.
 use borrow.Author.Rules.{rules}
 use native.Mathlib.Omega.{arith}
-use Prim.Native.Nat.{◌≤◌}
 use mathlib.Core.Path.{◌≡◌, refl, sym}
 use lib.ListN.{length, take, length-take}
 use Rattle.complexify.proofs.Turns.{too_long, copied}

@@ -1,7 +1,6 @@
 -- `lower_one` meets its contract.
 use borrow.Author.Rules.{rules}
 use native.Mathlib.Omega.{arith}
-use Prim.Native.Nat.{◌≤◌}
 use mathlib.Core.Path.{◌≡◌, sym, ap, ◌∙◌}
 use lib.ListN.{length, take, length-take}
 use Rattle.lowering.specs.Lower.{barred}

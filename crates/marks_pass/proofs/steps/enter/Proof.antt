@@ -1,10 +1,7 @@
 -- `marks_pass::steps::enter` meets its contract.
 use borrow.Author.Rules.{rules}
-use mathlib.Core.Path.{◌≡◌, sym, ap, ◌∙◌}
-use mathlib.Core.Bool.{Bool, true, false, cond}
-use borrow.Author.Tests.{leb-true, lt-ltb, le-ltb}
-use native.Mathlib.Omega.{arith}
-use lib.ListN.{get_or}
+use mathlib.Core.Path.{sym, ◌∙◌}
+use borrow.Author.Tests.{leb-true}
 use Rattle.marks_pass.proofs.Arrays as A
 use Rattle.marks_pass.proofs.steps.enter.Statement.{statement}
 use Rattle.marks_pass.proofs.steps.enter.Tie as tie

@@ -1,5 +1,4 @@
 -- `marks_pass::work::aside` meets its contract.
-use borrow.Author.Rules.{rules}
 use mathlib.Core.Path.{sym, ap}
 use mathlib.Core.Bool.{Bool, cond}
 use Rattle.marks_pass.proofs.work.aside.Statement.{statement}

@@ -1,9 +1,7 @@
 -- `marks_pass::work::work` meets its contract.
 use borrow.Author.Rules.{rules}
-use Prim.Native.Nat.{ℕ, ◌+◌, ◌*◌, ◌≤◌}
-use mathlib.Core.Path.{◌≡◌, refl, sym, ap, ◌∙◌}
+use mathlib.Core.Path.{refl, ◌∙◌}
 use native.Mathlib.Omega.{arith}
-use lib.ListN.{length}
 use Rattle.marks_pass.proofs.Rows as R
 use Rattle.marks_pass.proofs.work.work.Statement.{statement}
 use Rattle.marks_pass.proofs.work.work.Tie as tie
