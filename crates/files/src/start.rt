@@ -11,7 +11,7 @@ pub fn start_of(s: &[u8]) -> Option<u64>
     }
     let mut n: u64 = 0;
     for b in s {
-        if *b < b'0' || b'9' < *b {
+        if !(b'0'..=b'9').contains(b) {
             return None;
         }
         n = n.checked_mul(10)?.checked_add(u64::from(*b - b'0'))?;
