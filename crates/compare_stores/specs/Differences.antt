@@ -1,5 +1,5 @@
 -- Where two stores differ.
-use Rattle.std.specs.Prelude.{ℕ, zero, suc, ◌+◌, ◌-◌, ◌*◌, cond, List, [], ◌++◌, length, ltb, eqb}
+use Rattle.std.specs.Prelude.{ℕ, zero, suc, ◌+◌, ◌-◌, ◌*◌, ◌≡◌, ◌≤◌, ◌<◌, Option, MatchOption, cond, List, [], ◌++◌, length, ltb, eqb}
 use Rattle.words.specs.Bytes.{word_at}
 use Rattle.text.specs.Text.{ascii}
 use Rattle.reports.specs.Lines.{difference_line, more_text}
@@ -12,6 +12,10 @@ difference_in one other (suc n) i = cond (eqb (word_at one (8 * i)) (word_at oth
 -- of a store's 1,602 words
 abbrev pub next_difference : List ℕ → List ℕ → ℕ → ℕ
 next_difference one other from = difference_in one other (1602 - from) from
+
+-- an index of a store's words, or none for one behind them
+abbrev pub IsNext : ℕ → Option ℕ → Type 0
+IsNext i o = MatchOption o (1602 ≤ i) (λ k. (k ≡ i) × (k < 1602))
 
 -- the lines of the first n words from an index on that differ
 unfoldable pub difference_lines : List ℕ → List ℕ → ℕ → ℕ → List ℕ

@@ -4,24 +4,22 @@
 
 ghost use Rattle.std.specs.Prelude.{◌+◌, ◌*◌, ◌≤◌, ◌≡◌, length};
 ghost use Rattle.text.specs.Puts.{Puts};
-ghost use Rattle.compare_stores.specs.Differences.{next_difference, difference_lines, lines_or_same, one_where, differing, comparison};
+ghost use Rattle.compare_stores.specs.Differences.{next_difference, difference_lines, lines_or_same, one_where, differing, comparison, IsNext};
 
 use reports::{difference_line, more_line};
 use text::put::{put, put_line};
 use words::word_at;
 
-// The index of the first word from an index on that differs, or 1,602.
-fn next_difference(one: &[u8], other: &[u8], from: usize) -> usize
-    ensures { result ≡ next_difference one.now other.now from }
+// The index of the first word from an index on that differs.
+fn next_difference(one: &[u8], other: &[u8], from: usize) -> Option<usize>
+    ensures { IsNext (next_difference one.now other.now from) result }
 {
-    let mut i = from;
-    while i < 1602 {
+    for i in from..1602 {
         if word_at(one, 8 * i) != word_at(other, 8 * i) {
-            return i;
+            return Some(i);
         }
-        i += 1;
     }
-    i
+    None
 }
 
 // The lines of the first words that differ, so many at most.
@@ -31,16 +29,13 @@ fn put_differences(out: &mut [u8], one: &[u8], other: &[u8], most: usize) -> usi
 {
     let mut at: usize = 0;
     let mut from: usize = 0;
-    let mut left = most;
-    while left > 0 {
-        let i = next_difference(one, other, from);
-        if 1602 <= i {
+    for _ in 0..most {
+        let Some(i) = next_difference(one, other, from) else {
             return at;
-        }
+        };
         let line = difference_line(i as u64, word_at(one, 8 * i), word_at(other, 8 * i));
         at = put_line(out, at, line);
         from = i + 1;
-        left -= 1;
     }
     at
 }
@@ -61,7 +56,7 @@ fn put_lines(out: &mut [u8], one: &[u8], other: &[u8], most: usize) -> usize
 fn differs(one: u64, other: u64) -> usize
     ensures { (result ≡ one_where one other) × (result ≤ 1) }
 {
-    if one == other { 0 } else { 1 }
+    usize::from(one != other)
 }
 
 // How many words differ.
@@ -69,10 +64,8 @@ fn count_differences(one: &[u8], other: &[u8]) -> usize
     ensures { result ≡ differing one.now other.now 1602 0 }
 {
     let mut n: usize = 0;
-    let mut i: usize = 0;
-    while i < 1602 {
+    for i in 0..1602usize {
         n += differs(word_at(one, 8 * i), word_at(other, 8 * i));
-        i += 1;
     }
     n
 }
@@ -99,19 +92,17 @@ fn print_comparison(rt: HostRuntime, one: &[u8], other: &[u8], most: usize)
 }
 
 fn print_stores(rt: HostRuntime, one: &[u8], other: &[u8]) {
-    if files::arg_count(rt) == 4 {
-        print_comparison(rt, one, other, 1602);
-    } else {
-        print_comparison(rt, one, other, 20);
-    }
+    let most = if files::arg_count(rt) == 4 { 1602 } else { 20 };
+    print_comparison(rt, one, other, most);
 }
 
 // One byte more than a store has is read, so that a longer file is none.
 fn compare_with(rt: HostRuntime, one: &[u8]) {
     let mut other = [0u8; 12817];
-    let got = files::read_arg(rt, 2, &mut other);
-    let n = got.len;
-    if got.ok && files::holds(rt, 2, n == 12816, b"not a store, which has 12816 bytes") {
+    let Ok(n) = files::read_arg(rt, 2, &mut other) else {
+        return;
+    };
+    if files::holds(rt, 2, n == 12816, b"not a store, which has 12816 bytes") {
         print_stores(rt, one, &other[..n]);
     }
 }
@@ -126,9 +117,10 @@ fn main(rt: HostRuntime) {
         return;
     }
     let mut one = [0u8; 12817];
-    let got = files::read_arg(rt, 1, &mut one);
-    let n = got.len;
-    if got.ok && files::holds(rt, 1, n == 12816, b"not a store, which has 12816 bytes") {
+    let Ok(n) = files::read_arg(rt, 1, &mut one) else {
+        return;
+    };
+    if files::holds(rt, 1, n == 12816, b"not a store, which has 12816 bytes") {
         compare_with(rt, &one[..n]);
     }
 }

@@ -1,4 +1,3 @@
 pub mod Counts
 pub mod Most
 pub mod Start
-pub mod Status

@@ -2,10 +2,9 @@
 // here; what goes wrong is said on standard error, with the file's name. A name that is not UTF-8 names no file, since std opens none by it.
 #![tactic(auto)]
 
-ghost use Rattle.std.specs.Prelude.{◌≡◌, length, ltb};
-ghost use Rattle.files.specs.Counts.{IsPrefixLen};
+ghost use Rattle.std.specs.Prelude.{◌≡◌, ◌≤◌, ⊤, MatchOption, MatchResult, length, ltb};
+ghost use Rattle.files.specs.Counts.{IsPrefixLen, IsReadLen};
 ghost use Rattle.files.specs.Most.{at_most};
-ghost use Rattle.files.specs.Status.{Status};
 
 use std::env::{Env, FillError};
 use std::fs::{File, OpenOptions};
@@ -33,7 +32,7 @@ fn say_why(rt: HostRuntime, e: io::Error) {
 }
 
 // Says on standard error what failed, and why. First comes who says so.
-pub fn fail(rt: HostRuntime, who: &[u8], name: &[u8], e: io::Error) {
+fn fail(rt: HostRuntime, who: &[u8], name: &[u8], e: io::Error) {
     say(rt, who);
     say(rt, name);
     say(rt, b": ");
@@ -42,20 +41,20 @@ pub fn fail(rt: HostRuntime, who: &[u8], name: &[u8], e: io::Error) {
 }
 
 // How many arguments there are, the program's name among them, as far as 16.
-pub fn arg_count(rt: HostRuntime) -> usize {
+pub fn arg_count(rt: HostRuntime) -> usize
+    ensures { result ≤ 16 }
+{
     let mut word = [0u8; 1];
-    let mut n: usize = 0;
-    while n < 16 {
-        if let Err(FillError::NotPresent) = rt.arg(n, &mut word) {
-            break;
+    for i in 0..16usize {
+        if let Err(FillError::NotPresent) = rt.arg(i, &mut word) {
+            return i;
         }
-        n += 1;
     }
-    n
+    16
 }
 
 // Room for an argument.
-pub fn buffer() -> [u8; 4096]
+fn buffer() -> [u8; 4096]
     ensures { length result ≡ 4096 }
 {
     [0u8; 4096]
@@ -90,57 +89,45 @@ pub fn sheet_fits(rt: HostRuntime, n: usize) -> bool
     right
 }
 
-// Whether a file was read to its end, or as far as there was room, and how many bytes came.
+// A read that failed, and how many bytes had come by then. Why it failed was said on standard error.
 #[derive(Clone, Copy)]
-pub struct Got {
-    pub ok: bool,
+pub struct CutShort {
     pub len: usize,
 }
 
-// Reads until the slice is full, the input ends or a read fails, and gives that failure too.
-fn read_on<R: Read>(from: &mut R, buf: &mut [u8]) -> (usize, io::Result<()>)
-    ensures { IsPrefixLen result.0 buf.new }
+// Reads until the slice is full, the input ends or a read fails: how many bytes came, and that failure too. By a `while`: each turn goes on by as
+// many bytes as came.
+fn read_on<R: Read>(from: &mut R, buf: &mut [u8]) -> Result<usize, (usize, io::Error)>
+    ensures { MatchResult result (λ n. IsPrefixLen n buf.new) (λ e. IsPrefixLen e.0 buf.new) }
 {
     let mut done: usize = 0;
     while done < buf.len() {
         match from.read(&mut buf[done..]) {
-            Err(e) => return (done, Err(e)),
-            Ok(n) => {
-                if n == 0 {
-                    return (done, Ok(()));
-                }
-                done += n;
-            }
+            Ok(0) => break,
+            Ok(n) => done += n,
+            Err(e) => return Err((done, e)),
         }
     }
-    (done, Ok(()))
+    Ok(done)
 }
 
-// Reads until the slice is full, the input ends or a read fails. Where one fails, says so on standard error.
+// Reads until the slice is full, the input ends or a read fails: how many bytes came. Where a read fails, says so on standard error.
 pub fn read_all<R: Read>(
     rt: HostRuntime,
     who: &[u8],
     name: &[u8],
     from: &mut R,
     buf: &mut [u8],
-) -> Got
-    ensures { IsPrefixLen result.len buf.new }
+) -> Result<usize, CutShort>
+    ensures { IsReadLen result buf.new }
 {
-    let (len, all) = read_on(from, buf);
-    match all {
-        Ok(()) => Got { ok: true, len },
-        Err(e) => {
+    match read_on(from, buf) {
+        Ok(n) => Ok(n),
+        Err((len, e)) => {
             fail(rt, who, name, e);
-            Got { ok: false, len }
+            Err(CutShort { len })
         }
     }
-}
-
-// No bytes came.
-fn nothing(buf: &[u8]) -> Got
-    ensures { IsPrefixLen result.len buf.now }
-{
-    Got { ok: false, len: 0 }
 }
 
 // A file's name as text.
@@ -156,21 +143,21 @@ fn open_to_read(rt: HostRuntime, path: &[u8]) -> io::Result<File> {
     File::open(&rt, text)
 }
 
-fn read_file(rt: HostRuntime, path: &[u8], buf: &mut [u8]) -> Got
-    ensures { IsPrefixLen result.len buf.new }
+fn read_file(rt: HostRuntime, path: &[u8], buf: &mut [u8]) -> Result<usize, CutShort>
+    ensures { IsReadLen result buf.new }
 {
     match open_to_read(rt, path) {
         Ok(mut file) => read_all(rt, b"tulipcricket: ", path, &mut file, buf),
         Err(e) => {
             fail(rt, b"tulipcricket: ", path, e);
-            nothing(buf)
+            Err(CutShort { len: 0 })
         }
     }
 }
 
 // Reads the file that argument i names into the lent bytes. Of a longer file these are the first bytes.
-pub fn read_arg(rt: HostRuntime, i: usize, buf: &mut [u8]) -> Got
-    ensures { IsPrefixLen result.len buf.new }
+pub fn read_arg(rt: HostRuntime, i: usize, buf: &mut [u8]) -> Result<usize, CutShort>
+    ensures { IsReadLen result buf.new }
 {
     let mut path = buffer();
     let n = arg(rt, i, &mut path);
@@ -178,8 +165,8 @@ pub fn read_arg(rt: HostRuntime, i: usize, buf: &mut [u8]) -> Got
 }
 
 // Reads the file that argument 1 names, or standard input where there is no argument.
-pub fn read_input(rt: HostRuntime, buf: &mut [u8]) -> Got
-    ensures { IsPrefixLen result.len buf.new }
+pub fn read_input(rt: HostRuntime, buf: &mut [u8]) -> Result<usize, CutShort>
+    ensures { IsReadLen result buf.new }
 {
     if arg_count(rt) == 2 {
         return read_arg(rt, 1, buf);
@@ -214,71 +201,62 @@ fn write_file(file: File, bytes: &[u8]) -> io::Result<()> {
     file.sync_all()
 }
 
-// Writes and closes a new file; where that fails it is removed.
-fn fill(rt: HostRuntime, file: File, path: &[u8], bytes: &[u8]) -> i32
-    ensures { Status result }
-{
-    match write_file(file, bytes) {
-        Ok(()) => 0,
-        Err(e) => {
-            fail(rt, b"tulipcricket: ", path, e);
-            let _ = remove(rt, path);
-            -1
-        }
+// Makes and closes a new file; where it cannot be written whole it is removed.
+fn make_file(rt: HostRuntime, path: &[u8], bytes: &[u8]) -> io::Result<()> {
+    let file = create(rt, path)?;
+    let written = write_file(file, bytes);
+    if written.is_err() {
+        let _ = remove(rt, path);
     }
+    written
 }
 
-// Makes the file that argument i names, of the first n bytes, or of all where there are fewer, and answers 0, or -1. A file that exists
-// is left as it is.
-pub fn make_arg(rt: HostRuntime, i: usize, bytes: &[u8], n: usize) -> i32
-    ensures { Status result }
+// The first n bytes, or all where there are fewer.
+fn first(bytes: &[u8], n: usize) -> &[u8]
+    ensures { length result.now ≡ at_most n (length bytes.now) }
+{
+    bytes.get(..n).unwrap_or(bytes)
+}
+
+// Makes the file that argument i names, of the first n bytes, or of all where there are fewer; how many these are. Where the file cannot be made,
+// says so on standard error. A file that exists is left as it is.
+pub fn make_arg(rt: HostRuntime, i: usize, bytes: &[u8], n: usize) -> Option<usize>
+    ensures { MatchOption result ⊤ (λ long. long ≡ at_most n (length bytes.now)) }
 {
     let mut path = buffer();
     let long = arg(rt, i, &mut path);
-    match create(rt, &path[..long]) {
-        Ok(file) => {
-            if n < bytes.len() {
-                return fill(rt, file, &path[..long], &bytes[0..n]);
-            }
-            fill(rt, file, &path[..long], bytes)
-        }
+    let bytes = first(bytes, n);
+    match make_file(rt, &path[..long], bytes) {
+        Ok(()) => Some(bytes.len()),
         Err(e) => {
             fail(rt, b"tulipcricket: ", &path[..long], e);
-            -1
+            None
         }
     }
 }
 
-// Removes the file that argument i names, and answers 0, or -1.
-pub fn remove_arg(rt: HostRuntime, i: usize) -> i32
-    ensures { Status result }
-{
+// Removes the file that argument i names.
+pub fn remove_arg(rt: HostRuntime, i: usize) -> io::Result<()> {
     let mut path = buffer();
     let n = arg(rt, i, &mut path);
-    match remove(rt, &path[..n]) {
-        Ok(()) => 0,
-        Err(_) => -1,
-    }
+    remove(rt, &path[..n])
 }
 
-// Writes bytes to standard output. Where not all could be written, says so on standard error. First comes who says so.
-pub fn write_out(rt: HostRuntime, who: &[u8], bytes: &[u8]) {
-    match Print::write_all(&rt.stdout(), bytes) {
-        Ok(()) => {}
-        Err(e) => fail(rt, who, b"standard output", e),
+// Writes bytes to standard output; how many these are. Where not all could be written, says so on standard error. First comes who says so.
+pub fn write_out(rt: HostRuntime, who: &[u8], bytes: &[u8]) -> usize
+    ensures { result ≡ length bytes.now }
+{
+    if let Err(e) = Print::write_all(&rt.stdout(), bytes) {
+        fail(rt, who, b"standard output", e);
     }
+    bytes.len()
 }
 
-// Prints the first n bytes, or all where there are fewer; how many these are.
+// Prints the first n bytes, or all where there are fewer; how many these are. It cuts them itself, so that programs need no facts on counts.
 pub fn print(rt: HostRuntime, bytes: &[u8], n: usize) -> usize
     ensures { result ≡ at_most n (length bytes.now) }
 {
-    if n < bytes.len() {
-        write_out(rt, b"tulipcricket: ", &bytes[0..n]);
-        return n;
-    }
-    write_out(rt, b"tulipcricket: ", bytes);
-    bytes.len()
+    write_out(rt, b"tulipcricket: ", first(bytes, n))
 }
 
 // Whether a program was called as it should be. Where not, says so on standard error.

@@ -1,52 +1,20 @@
 // A record's index, from its decimal digits.
-ghost use Rattle.std.specs.Prelude.{◌≡◌, false};
+ghost use Rattle.std.specs.Prelude.{◌≡◌};
 ghost use Rattle.files.specs.Start.{start_of};
 
-// Whether the text is a number, and that number.
-#[derive(Clone, Copy)]
-pub struct Start {
-    pub ok: bool,
-    pub number: u64,
-}
-
-fn none() -> Start
-    ensures { result ≡ record { ok = false; number = 0 } }
-{
-    Start {
-        ok: false,
-        number: 0,
-    }
-}
-
-// Digits alone, at least one, of a number below 2^64.
-pub fn start_of(s: &[u8]) -> Start
+// Digits alone, at least one, of a number below 2^64. `str::parse` would take a sign too.
+pub fn start_of(s: &[u8]) -> Option<u64>
     ensures { result ≡ start_of s.now }
 {
-    if s.len() == 0 {
-        return none();
+    if s.is_empty() {
+        return None;
     }
     let mut n: u64 = 0;
-    let mut i: usize = 0;
-    while i < s.len() {
-        let b = s[i];
-        if b < 48 {
-            return none();
+    for b in s {
+        if !(b'0'..=b'9').contains(b) {
+            return None;
         }
-        if 57 < b {
-            return none();
-        }
-        if 1844674407370955161 < n {
-            return none();
-        }
-        let digit = b as u64 - 48;
-        if 18446744073709551615 - 10 * n < digit {
-            return none();
-        }
-        n = 10 * n + digit;
-        i += 1;
+        n = n.checked_mul(10)?.checked_add(u64::from(*b - b'0'))?;
     }
-    Start {
-        ok: true,
-        number: n,
-    }
+    Some(n)
 }

@@ -15,11 +15,9 @@ fn put_words(out: &mut [u8], store: &[u8]) -> usize
     ensures { Puts out.old 0 (shown store.now) out.new result }
 {
     let mut at: usize = 0;
-    let mut i: usize = 0;
-    while i < 1602 {
+    for i in 0..1602usize {
         let line = word_line(i as u64, word_at(store, 8 * i));
         at = put_line(out, at, line);
-        i += 1;
     }
     at
 }
@@ -36,9 +34,10 @@ fn main(rt: HostRuntime) {
         return;
     }
     let mut store = [0u8; 12817];
-    let got = files::read_arg(rt, 1, &mut store);
-    let n = got.len;
-    if got.ok && files::holds(rt, 1, n == 12816, b"not a store, which has 12816 bytes") {
+    let Ok(n) = files::read_arg(rt, 1, &mut store) else {
+        return;
+    };
+    if files::holds(rt, 1, n == 12816, b"not a store, which has 12816 bytes") {
         print_words(rt, &store[..n]);
     }
 }
