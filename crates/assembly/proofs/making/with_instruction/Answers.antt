@@ -6,8 +6,8 @@ use Rattle.assembly.specs.Making.{sheet_of}
 use Rattle.assembly.proofs.Growing.{makes_as, refusing, instruction-many, instruction-none, instruction-put}
 use Rattle.assembly.proofs.making.with_instruction.Goals as goal
 
-pub returns-then-LONGEST-instructions : goal.returns-then-LONGEST-instructions
-returns-then-LONGEST-instructions c =
+pub returns-then-instructions-ge-LONGEST : goal.returns-then-instructions-ge-LONGEST
+returns-then-instructions-ge-LONGEST c =
     let a = c.args in
     refusing 3 c.refuse.ensures (instruction-many (sheet_of a.s a.out.now) a.b.now (omega arith))
 
