@@ -10,39 +10,35 @@ use complexify::entry::{LowerAnswer, lower};
 use player::play;
 use sheets::{SheetBytes, header};
 
-// Lowers the first len of bytes, a sheet that has so many constants of its own.
+// Lowers a sheet that has so many constants of its own.
 fn lowered(
     rt: HostRuntime,
-    name: &[u8],
-    bytes: &[u8],
-    len: usize,
+    name: &str,
+    sheet: &[u8],
     own: usize,
     listing: &mut [u8],
     constants: &mut [u64],
 ) -> LowerAnswer {
-    let n = sheets::within(bytes.len(), len);
     let mut origins = [0u16; 256];
-    let a = lower(&bytes[0..n], listing, constants, &mut origins);
+    let a = lower(sheet, listing, constants, &mut origins);
     print::answer(rt, name, a);
     print::constants(rt, constants, own, a.count);
     print::real(rt, a.real);
     let filled = a.filled;
-    print::marks(rt, b"  filled", filled);
+    print::marks(rt, "filled", filled);
     let drawn = a.drawn;
-    print::marks(rt, b"  drawn on", drawn);
+    print::marks(rt, "drawn on", drawn);
     print::listing(rt, listing, a.written, a.count);
     a
 }
 
-fn limit(rt: HostRuntime, name: &[u8], sheet: SheetBytes, own: usize) {
-    let bytes = sheet.bytes;
+fn limit(rt: HostRuntime, name: &str, sheet: SheetBytes, own: usize) {
     let mut listing = [0u8; 1024];
     let mut constants = [0u64; 256];
     lowered(
         rt,
         name,
-        &bytes,
-        sheet.len,
+        sheet.as_slice(),
         own,
         &mut listing,
         &mut constants,
@@ -59,36 +55,27 @@ fn store_of(first: &[u64; 10]) -> [u64; 1602] {
 // Lowers the sheet, plays its listing, and shows the registers from one to another.
 fn misreading(
     rt: HostRuntime,
-    name: &[u8],
+    name: &str,
     sheet: SheetBytes,
     own: usize,
     first: &[u64; 10],
     from: usize,
     to: usize,
 ) {
-    let bytes = sheet.bytes;
     let mut listing = [0u8; 1024];
     let mut constants = [0u64; 256];
     let a = lowered(
         rt,
         name,
-        &bytes,
-        sheet.len,
+        sheet.as_slice(),
         own,
         &mut listing,
         &mut constants,
     );
     let mut store = store_of(first);
-    let written = a.written;
-    let count = a.count;
-    if written <= 1024 {
-        if count <= 256 {
-            print::played(
-                rt,
-                play(&listing[0..written], &constants[0..count], &mut store, 0),
-            );
-            print::registers(rt, &store, from, to);
-        }
+    if let (Some(listing), Some(constants)) = (listing.get(..a.written), constants.get(..a.count)) {
+        print::played(rt, play(listing, constants, &mut store, 0));
+        print::registers(rt, &store, from, to);
     }
 }
 
@@ -107,109 +94,114 @@ fn moved(mode: u8, constants: usize, instruction: &[u8]) -> SheetBytes {
         .records(instruction)
 }
 
-fn plain(rt: HostRuntime, name: &[u8], instruction: &[u8]) {
-    limit(rt, name, moved(PLAIN, 0, instruction), 0);
-}
-
-fn registers(rt: HostRuntime) {
-    plain(rt, b"Mov to register 31", b"\x06\x00\x03\x00\x1f\x02");
-    plain(rt, b"Mov to register 32", b"\x06\x00\x03\x00\x20\x02");
-    plain(rt, b"Mov of register 31", b"\x06\x00\x03\x00\x02\x1f");
-    plain(rt, b"Mov of register 32", b"\x06\x00\x03\x00\x02\x20");
-}
-
-fn places(rt: HostRuntime) {
-    plain(
-        rt,
-        b"Load of Stack 255",
+// Each case's name, its mode, how many constants it has, and the instruction that stands at a limit.
+const LIMITS: [(&str, u8, usize, &[u8]); 19] = [
+    ("Mov to register 31", PLAIN, 0, b"\x06\x00\x03\x00\x1f\x02"),
+    ("Mov to register 32", PLAIN, 0, b"\x06\x00\x03\x00\x20\x02"),
+    ("Mov of register 31", PLAIN, 0, b"\x06\x00\x03\x00\x02\x1f"),
+    ("Mov of register 32", PLAIN, 0, b"\x06\x00\x03\x00\x02\x20"),
+    (
+        "Load of Stack 255",
+        PLAIN,
+        0,
         b"\x08\x00\x04\x00\x02\x00\xff\x00",
-    );
-    plain(
-        rt,
-        b"Load of Stack 256",
+    ),
+    (
+        "Load of Stack 256",
+        PLAIN,
+        0,
         b"\x08\x00\x04\x00\x02\x00\x00\x01",
-    );
-    plain(rt, b"Load of Mem 255", b"\x08\x00\x04\x00\x02\x01\xff\x00");
-    plain(rt, b"Load of Mem 256", b"\x08\x00\x04\x00\x02\x01\x00\x01");
-    plain(
-        rt,
-        b"Load of Param 255",
+    ),
+    (
+        "Load of Mem 255",
+        PLAIN,
+        0,
+        b"\x08\x00\x04\x00\x02\x01\xff\x00",
+    ),
+    (
+        "Load of Mem 256",
+        PLAIN,
+        0,
+        b"\x08\x00\x04\x00\x02\x01\x00\x01",
+    ),
+    (
+        "Load of Param 255",
+        PLAIN,
+        0,
         b"\x08\x00\x04\x00\x02\x02\xff\x00",
-    );
-    plain(
-        rt,
-        b"Load of Param 256",
+    ),
+    (
+        "Load of Param 256",
+        PLAIN,
+        0,
         b"\x08\x00\x04\x00\x02\x02\x00\x01",
-    );
-    plain(
-        rt,
-        b"Save to Stack 255",
+    ),
+    (
+        "Save to Stack 255",
+        PLAIN,
+        0,
         b"\x08\x00\x05\x00\x02\x00\xff\x00",
-    );
-    plain(
-        rt,
-        b"Save to Stack 256",
+    ),
+    (
+        "Save to Stack 256",
+        PLAIN,
+        0,
         b"\x08\x00\x05\x00\x02\x00\x00\x01",
-    );
-}
-
-fn constants(rt: HostRuntime) {
-    limit(
-        rt,
-        b"251 constants, the last loaded",
-        moved(PLAIN, 251, b"\x07\x00\x06\x00\x02\xfa\x00"),
+    ),
+    (
+        "251 constants, the last loaded",
+        PLAIN,
         251,
-    );
-    limit(
-        rt,
-        b"251 constants, one past the last loaded",
-        moved(PLAIN, 251, b"\x07\x00\x06\x00\x02\xfb\x00"),
+        b"\x07\x00\x06\x00\x02\xfa\x00",
+    ),
+    (
+        "251 constants, one past the last loaded",
+        PLAIN,
         251,
-    );
-    limit(
-        rt,
-        b"252 constants",
-        moved(PLAIN, 252, b"\x07\x00\x06\x00\x02\xfa\x00"),
+        b"\x07\x00\x06\x00\x02\xfb\x00",
+    ),
+    ("252 constants", PLAIN, 252, b"\x07\x00\x06\x00\x02\xfa\x00"),
+    (
+        "251 constants, stable Abs",
+        STABLE,
+        251,
+        b"\x07\x00\x01\x00\x02\x02\x03",
+    ),
+    (
+        "252 constants, stable Abs",
+        STABLE,
         252,
-    );
-    limit(
-        rt,
-        b"251 constants, stable Abs",
-        moved(STABLE, 251, b"\x07\x00\x01\x00\x02\x02\x03"),
-        251,
-    );
-    limit(
-        rt,
-        b"252 constants, stable Abs",
-        moved(STABLE, 252, b"\x07\x00\x01\x00\x02\x02\x03"),
-        252,
-    );
-}
+        b"\x07\x00\x01\x00\x02\x02\x03",
+    ),
+    (
+        "stable Divide by Temp",
+        STABLE,
+        0,
+        b"\x08\x00\x02\x00\x03\x02\x03\x1f",
+    ),
+    (
+        "plain Divide by Temp",
+        PLAIN,
+        0,
+        b"\x08\x00\x02\x00\x03\x02\x03\x1f",
+    ),
+];
 
-fn barred(rt: HostRuntime) {
-    limit(
-        rt,
-        b"stable Divide by Temp",
-        moved(STABLE, 0, b"\x08\x00\x02\x00\x03\x02\x03\x1f"),
-        0,
-    );
-    limit(
-        rt,
-        b"plain Divide by Temp",
-        moved(PLAIN, 0, b"\x08\x00\x02\x00\x03\x02\x03\x1f"),
-        0,
-    );
+fn limits(rt: HostRuntime) {
+    for (name, mode, constants, instruction) in LIMITS {
+        limit(rt, name, moved(mode, constants, instruction), constants);
+    }
 }
 
 // Root of 0 to 1, then of 1 to 2, from 16.
-fn second_root(rt: HostRuntime, name: &[u8], mode: u8) {
+fn second_root(rt: HostRuntime, name: &str, mode: u8) {
     let sheet = header(mode).records(b"\x07\x00\x01\x00\x03\x01\x00\x07\x00\x01\x00\x03\x02\x01");
     let first = [0, 0, 0, 0, 0x4030_0000_0000_0000, 0, 0, 0, 0, 0];
     misreading(rt, name, sheet, 0, &first, 6, 10);
 }
 
 // Divide of 0 by 1 to Temp, 6 over 2.
-fn divide_to_temp(rt: HostRuntime, name: &[u8], mode: u8) {
+fn divide_to_temp(rt: HostRuntime, name: &str, mode: u8) {
     let sheet = header(mode).records(b"\x08\x00\x02\x00\x03\x1f\x00\x01");
     let first = [
         0,
@@ -233,11 +225,11 @@ fn plain_divide_of_temp(rt: HostRuntime) {
         .records(b"\x07\x00\x06\x00\x1f\x00\x00")
         .records(b"\x08\x00\x02\x00\x03\x02\x1f\x01");
     let first = [0, 0, 0, 0, 0, 0, 0x4000_0000_0000_0000, 0, 0, 0];
-    misreading(rt, b"plain Divide of a real Temp", sheet, 1, &first, 8, 9);
+    misreading(rt, "plain Divide of a real Temp", sheet, 1, &first, 8, 9);
 }
 
 // LoadConst of 2 to 0, then Half of 0 to 1 and of 1 to 0; the imaginary half of 0 is a leftover 4.
-fn half(rt: HostRuntime, name: &[u8], mode: u8) {
+fn half(rt: HostRuntime, name: &str, mode: u8) {
     let sheet = header(mode)
         .constants(1)
         .records(b"\x07\x00\x06\x00\x00\x00\x00")
@@ -261,15 +253,7 @@ fn complex_divide(rt: HostRuntime) {
         0,
         0,
     ];
-    misreading(
-        rt,
-        b"plain Divide of a complex Temp",
-        sheet,
-        0,
-        &first,
-        0,
-        8,
-    );
+    misreading(rt, "plain Divide of a complex Temp", sheet, 0, &first, 0, 8);
 }
 
 // Branch 3, Save of 0 to Mem 1, Label 3: the record after a Branch is taken as reached.
@@ -278,25 +262,22 @@ fn behind_a_branch(rt: HostRuntime) {
         .records(b"\x05\x00\x0f\x00\x03")
         .records(b"\x08\x00\x05\x00\x00\x01\x01\x00")
         .records(b"\x05\x00\x0e\x00\x03");
-    limit(rt, b"a Save behind a Branch", sheet, 0);
+    limit(rt, "a Save behind a Branch", sheet, 0);
 }
 
 fn main(rt: HostRuntime) {
-    registers(rt);
-    places(rt);
-    constants(rt);
-    barred(rt);
+    limits(rt);
     behind_a_branch(rt);
-    second_root(rt, b"a second Root, plain", PLAIN);
-    second_root(rt, b"a second Root, stable", STABLE);
-    divide_to_temp(rt, b"stable Divide to Temp", STABLE);
-    divide_to_temp(rt, b"Divide to Temp in mode 2", MINDING);
+    second_root(rt, "a second Root, plain", PLAIN);
+    second_root(rt, "a second Root, stable", STABLE);
+    divide_to_temp(rt, "stable Divide to Temp", STABLE);
+    divide_to_temp(rt, "Divide to Temp in mode 2", MINDING);
     plain_divide_of_temp(rt);
     half(
         rt,
-        b"Half of a real register to a complex one, and back",
+        "Half of a real register to a complex one, and back",
         PLAIN,
     );
-    half(rt, b"the same in mode 2", MINDING);
+    half(rt, "the same in mode 2", MINDING);
     complex_divide(rt);
 }

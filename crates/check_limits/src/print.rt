@@ -7,73 +7,53 @@ use std::io::Print;
 use text::line::{Line, empty_line};
 use text::lines::{constant_line, record_line};
 
-fn write(rt: HostRuntime, s: &[u8]) {
-    let _ = rt.write_all(s);
-}
-
-fn number(rt: HostRuntime, before: &[u8], n: usize) {
-    write(rt, before);
-    let _ = rt.print(n);
-}
-
-fn first(rt: HostRuntime, bytes: &[u8], n: usize) {
-    if n <= bytes.len() {
-        write(rt, &bytes[0..n]);
-    }
-}
-
 fn line(rt: HostRuntime, line: Line) {
     let bytes = line.bytes;
-    write(rt, b"  ");
-    first(rt, &bytes, line.len);
+    let _ = print!(rt; "  ");
+    let _ = rt.write_all(text_of(&bytes, line.len));
 }
 
-pub(crate) fn answer(rt: HostRuntime, name: &[u8], a: LowerAnswer) {
-    write(rt, name);
-    number(rt, b": number ", a.number as usize);
-    number(rt, b", index ", a.index);
-    number(rt, b", bytes ", a.written);
-    number(rt, b", constants ", a.count);
-    write(rt, b"\n");
+// The first n bytes of a line, or all where there are fewer.
+fn text_of(bytes: &[u8; 80], n: usize) -> &[u8] {
+    bytes.get(..n).unwrap_or(bytes)
+}
+
+pub(crate) fn answer(rt: HostRuntime, name: &str, a: LowerAnswer) {
+    let (number, index, written, count) = (a.number, a.index, a.written, a.count);
+    let _ = print!(rt;
+        "{name}: number {number}, index {index}, bytes {written}, constants {count}\n"
+    );
 }
 
 // The constants from one index to another.
 pub(crate) fn constants(rt: HostRuntime, table: &[u64], from: usize, to: usize) {
-    let mut i = from;
-    while i < to {
-        if i < table.len() {
-            line(rt, constant_line(i as u64, table[i]));
+    for i in from..to {
+        if let Some(word) = table.get(i) {
+            line(rt, constant_line(i as u64, *word));
         }
-        i += 1;
     }
 }
 
 // The registers recorded as real, by their numbers in a sheet.
 pub(crate) fn real(rt: HostRuntime, r: Realness) {
-    let regs = r.regs;
-    let mut i: usize = 0;
-    while i < 32 {
-        if regs[i] {
-            number(rt, b"  real ", i);
-            write(rt, b"\n");
+    for (i, real) in r.regs.iter().enumerate() {
+        if *real {
+            let _ = print!(rt; "  real {i}\n");
         }
-        i += 1;
     }
 }
 
 // The listing's registers whose marks are set, on one line.
-pub(crate) fn marks(rt: HostRuntime, before: &[u8], marks: [bool; 66]) {
-    write(rt, before);
-    let mut i: usize = 0;
-    while i < 66 {
-        if marks[i] {
+pub(crate) fn marks(rt: HostRuntime, before: &str, marks: [bool; 66]) {
+    let _ = print!(rt; "  {before}");
+    for (i, mark) in marks.iter().enumerate() {
+        if *mark {
             let name = empty_line().byte(b' ').register(i as u8);
             let bytes = name.bytes;
-            first(rt, &bytes, name.len);
+            let _ = rt.write_all(text_of(&bytes, name.len));
         }
-        i += 1;
     }
-    write(rt, b"\n");
+    let _ = print!(rt; "\n");
 }
 
 // The record at a position, and where the next begins. There is none after one that is refused.
@@ -84,8 +64,8 @@ fn record(rt: HostRuntime, listing: &[u8], at: usize, count: usize) -> usize {
             next
         }
         Err(refusal) => {
-            number(rt, b"  refused ", refusal.number() as usize);
-            write(rt, b"\n");
+            let n = refusal.number();
+            let _ = print!(rt; "  refused {n}\n");
             listing.len()
         }
     }
@@ -94,33 +74,28 @@ fn record(rt: HostRuntime, listing: &[u8], at: usize, count: usize) -> usize {
 // A listing's records. There are no more of them than bytes.
 fn records(rt: HostRuntime, listing: &[u8], count: usize) {
     let mut at: usize = 0;
-    let mut n: usize = 0;
-    while n < listing.len() {
+    for _ in 0..listing.len() {
         if at < listing.len() {
             at = record(rt, listing, at, count);
         }
-        n += 1;
     }
 }
 
 // The first so many bytes of a listing, record by record.
 pub(crate) fn listing(rt: HostRuntime, listing: &[u8], written: usize, count: usize) {
-    if written <= listing.len() {
-        records(rt, &listing[0..written], count);
+    if let Some(part) = listing.get(..written) {
+        records(rt, part, count);
     }
 }
 
 pub(crate) fn played(rt: HostRuntime, p: PlayAnswer) {
-    number(rt, b"  played: number ", p.number as usize);
-    number(rt, b", index ", p.index);
-    number(rt, b", records ", p.played);
-    write(rt, b"\n");
+    let (number, index, played) = (p.number, p.index, p.played);
+    let _ = print!(rt; "  played: number {number}, index {index}, records {played}\n");
 }
 
 // The registers of a store from one to another, with their words.
 pub(crate) fn registers(rt: HostRuntime, store: &[u64; 1602], from: usize, to: usize) {
-    let mut i = from;
-    while i < to {
+    for i in from..to {
         if i < 66 {
             let word = store[i];
             line(
@@ -132,6 +107,5 @@ pub(crate) fn registers(rt: HostRuntime, store: &[u64; 1602], from: usize, to: u
                     .byte(b'\n'),
             );
         }
-        i += 1;
     }
 }

@@ -1,6 +1,4 @@
 // Sheets with no real places, made piece by piece.
-ghost use Rattle.std.specs.Prelude.{◌≤◌};
-
 use words::put_bytes;
 
 // At most 3,200 bytes: what does not fit is left out.
@@ -37,18 +35,14 @@ impl SheetBytes {
     // n constants 4000000000000000.
     pub(crate) fn constants(self, n: usize) -> SheetBytes {
         let mut sheet = self;
-        let mut i: usize = 0;
-        while i < n {
+        for _ in 0..n {
             sheet = sheet.records(b"\x0c\x00\x21\x00\x00\x00\x00\x00\x00\x00\x00\x40");
-            i += 1;
         }
         sheet
     }
-}
 
-// The length of a part, as far as there are bytes.
-pub(crate) fn within(bytes: usize, len: usize) -> usize
-    ensures { result ≤ bytes }
-{
-    if len < bytes { len } else { bytes }
+    // Its bytes, as far as there was room.
+    pub(crate) fn as_slice(&self) -> &[u8] {
+        self.bytes.get(..self.len).unwrap_or(&self.bytes)
+    }
 }

@@ -4,14 +4,14 @@
 
 ghost use Rattle.std.specs.Prelude.{◌+◌, ◌*◌, ◌≤◌, length};
 ghost use Rattle.text.specs.Puts.{Puts};
-ghost use Rattle.files.specs.Counts.{IsPrefixLen};
+ghost use Rattle.files.specs.Counts.{IsReadLen};
 ghost use Rattle.text.specs.Line.{Prints};
 ghost use Rattle.listing.specs.Printed.{refusal_of, text_of, printed_for};
 
 mod page;
 
 use complexify::entry::{LowerAnswer, lower};
-use files::{Got, read_all, read_arg, write_out};
+use files::{CutShort, read_all, read_arg, write_out};
 use page::{put_line, put_page};
 use reports::refusal_line;
 use text::line::Line;
@@ -52,8 +52,8 @@ fn put_sheet(sheet: &[u8], named: bool, out: &mut [u8]) -> usize
     put_text(out, named, a, &constants, &listing)
 }
 
-fn read_sheet(rt: HostRuntime, named: bool, sheet: &mut [u8]) -> Got
-    ensures { IsPrefixLen result.len sheet.new }
+fn read_sheet(rt: HostRuntime, named: bool, sheet: &mut [u8]) -> Result<usize, CutShort>
+    ensures { IsReadLen result sheet.new }
 {
     if named {
         return read_arg(rt, 1, sheet);
@@ -66,9 +66,10 @@ fn read_sheet(rt: HostRuntime, named: bool, sheet: &mut [u8]) -> Got
 fn main(rt: HostRuntime) {
     let named = files::arg_count(rt) == 2;
     let mut sheet = files::sheet_room();
-    let got = read_sheet(rt, named, &mut sheet);
-    let n = got.len;
-    if !got.ok || !files::sheet_fits(rt, n) {
+    let Ok(n) = read_sheet(rt, named, &mut sheet) else {
+        return;
+    };
+    if !files::sheet_fits(rt, n) {
         return;
     }
     let mut out = [0u8; 348320];

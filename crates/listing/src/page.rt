@@ -21,11 +21,8 @@ fn put_constants(out: &mut [u8], start: usize, constants: &[u64]) -> usize
     ensures { Puts out.old start (constant_lines 0 constants.now) out.new result }
 {
     let mut at = start;
-    let mut i: usize = 0;
-    while i < constants.len() {
-        let word = constants[i];
-        at = put_line(out, at, constant_line(i as u64, word));
-        i += 1;
+    for (i, word) in constants.iter().enumerate() {
+        at = put_line(out, at, constant_line(i as u64, *word));
     }
     at
 }

@@ -95,27 +95,21 @@ fn look(rt: HostRuntime, listing: &[u8], constants: &[u8], store: &[u8], start: 
 // Of each file one byte more is read than it can have, so that a longer one is refused and not cut.
 fn look_on_store(rt: HostRuntime, listing: &[u8], constants: &[u8], start: u64) {
     let mut store = [0u8; 12817];
-    let got = files::read_arg(rt, 3, &mut store);
-    let n = got.len;
-    if got.ok {
+    if let Ok(n) = files::read_arg(rt, 3, &mut store) {
         look(rt, listing, constants, &store[..n], start);
     }
 }
 
 fn look_with_constants(rt: HostRuntime, listing: &[u8], start: u64) {
     let mut constants = [0u8; 2049];
-    let got = files::read_arg(rt, 2, &mut constants);
-    let n = got.len;
-    if got.ok {
+    if let Ok(n) = files::read_arg(rt, 2, &mut constants) {
         look_on_store(rt, listing, &constants[..n], start);
     }
 }
 
 fn look_at(rt: HostRuntime, start: u64) {
     let mut listing = [0u8; 65537];
-    let got = files::read_arg(rt, 1, &mut listing);
-    let n = got.len;
-    if got.ok {
+    if let Ok(n) = files::read_arg(rt, 1, &mut listing) {
         look_with_constants(rt, &listing[..n], start);
     }
 }
@@ -130,13 +124,14 @@ fn main(rt: HostRuntime) {
     }
     let mut text = [0u8; 32];
     let n = files::arg(rt, 4, &mut text);
-    let start = start_of(&text[..n]);
-    if files::holds(
-        rt,
-        4,
-        start.ok,
-        b"no record's index, which is 0 to 18446744073709551615",
-    ) {
-        look_at(rt, start.number);
-    }
+    let Some(start) = start_of(&text[..n]) else {
+        files::holds(
+            rt,
+            4,
+            false,
+            b"no record's index, which is 0 to 18446744073709551615",
+        );
+        return;
+    };
+    look_at(rt, start);
 }
