@@ -3,7 +3,7 @@ ghost use Rattle.std.specs.Prelude.{◌≡◌, ◌≤◌, length, take, drop};
 ghost use Rattle.sheet.specs.Setup.{mode_from, is_stable, is_minding, header_from, is_constant, is_broken, constants_from, wrong, setup, constant_at, as_header, as_constant_count};
 
 use mir::fields::{byte, u16_at};
-use words::{put_bytes, word_at};
+use words::{put, word_at};
 
 // What a header's mode byte says.
 #[derive(Clone, Copy)]
@@ -142,7 +142,7 @@ fn places_of(sheet: &[u8]) -> [u8; 64]
     ensures { result ≡ take 64 (drop 5 sheet.now) }
 {
     let mut places = [0u8; 64];
-    put_bytes(&mut places, 0, &sheet[5..69]);
+    put(&mut places, 0, &sheet[5..69]);
     places
 }
 

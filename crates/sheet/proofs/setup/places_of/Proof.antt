@@ -14,4 +14,4 @@ places_of_spec =
     tie.close
     (tie.spec
     (λ c. search rules) (λ c. search rules) (λ c. search rules) (λ c. search rules) (λ c κs. search rules)
-    (λ c. let s = c.args.sheet.now in let h : 64 ≤ length (drop 5 s) = simp length-drop (omega arith) in c.put_bytes.ensures ∙ stored_whole _ _ (length-take-le 64 (drop 5 s) h)))
+    (λ c. let s = c.args.sheet.now in let h : 64 ≤ length (drop 5 s) = simp length-drop (omega arith) in c.put.ensures ∙ stored_whole _ _ (length-take-le 64 (drop 5 s) h)))
