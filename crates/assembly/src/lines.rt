@@ -55,7 +55,10 @@ fn name(r: u8) -> u8
 fn math_name(line: Line, op: ArithOp) -> Line
     ensures { Adds line (math_name op) result }
 {
-    line.word_in(b"Plus/Minus/Times/Divide/", op.number() as u64)
+    line.name_in(
+        &["Plus", "Minus", "Times", "Divide"],
+        op.number() as u64,
+    )
 }
 
 fn work_line(work: Work) -> Line
@@ -158,8 +161,14 @@ pub fn refused_line(number: u64, why: u8) -> Line
         .text(b"refused line")
         .number(number)
         .byte(b' ')
-        .word_in(
-            b"/no mode/sheet full/no such line/sheet too long/",
+        .name_in(
+            &[
+                "",
+                "no mode",
+                "sheet full",
+                "no such line",
+                "sheet too long",
+            ],
             why as u64,
         )
         .byte(b'\n')

@@ -12,7 +12,7 @@ use super::lines::{long_line, refused_line};
 use super::reading::{behind, piece_end, read_line, run_end};
 use mir::fields::{byte, u16_at};
 use sheet::reader::{LONGEST, read_instruction};
-use words::put_bytes;
+use words::put;
 
 // A sheet that is being made: its bytes, its constants, its instructions, how far it is, and why its last line is refused (0: it is not).
 #[derive(Clone, Copy)]
@@ -101,7 +101,7 @@ fn grow(out: &mut [u8], s: Made, count: usize, instructions: usize, stage: u8, b
     ensures { Makes (got (grown (sheet_of s out.old) count instructions stage b.now)) result out.new }
 {
     let len = s.len;
-    put_bytes(out, len, b);
+    put(out, len, b);
     Made {
         len: len + b.len(),
         count: count,
@@ -168,8 +168,8 @@ fn open(out: &mut [u8], head: usize, b: &[u8]) -> Made
         return refuse(1);
     }
     let places = [0u8; 64];
-    put_bytes(out, 0, b);
-    put_bytes(out, b.len(), &places);
+    put(out, 0, b);
+    put(out, b.len(), &places);
     Made {
         len: b.len() + 64,
         count: 0,
@@ -312,7 +312,7 @@ fn sheet_or_refusal(t: &[u8]) -> Written
     }
     let line = refused_line(e.line, e.why);
     let bytes = line.bytes;
-    put_bytes(&mut out, 0, &bytes);
+    put(&mut out, 0, &bytes);
     Written {
         bytes: out,
         len: line.len,
@@ -327,7 +327,7 @@ fn too_long() -> Written
     let mut out = [0u8; 69184];
     let line = long_line();
     let bytes = line.bytes;
-    put_bytes(&mut out, 0, &bytes);
+    put(&mut out, 0, &bytes);
     Written {
         bytes: out,
         len: line.len,

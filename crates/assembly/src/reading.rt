@@ -8,7 +8,6 @@ ghost use Rattle.text.specs.Line.{empty_line, add_all};
 ghost use Rattle.mir.specs.Read.{got, refused, and_then};
 
 use mir::fields::byte;
-use replay::same::same_bytes;
 use text::line::{Line, empty_line};
 
 // Where the piece that begins at a position ends: at the first byte c, or at the text's end.
@@ -57,7 +56,7 @@ pub fn number_in(row: &[u8], w: &[u8]) -> Option<usize>
     let mut n: usize = 0;
     while at < row.len() {
         let end = piece_end(row, at, b' ');
-        if same_bytes(&row[at..end], w) {
+        if &row[at..end] == w {
             return Some(n);
         }
         if row.len() <= end {

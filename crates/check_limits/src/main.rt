@@ -48,7 +48,7 @@ fn limit(rt: HostRuntime, name: &str, sheet: SheetBytes, own: usize) {
 // A store whose first ten registers hold these words, and all else zeros.
 fn store_of(first: &[u64; 10]) -> [u64; 1602] {
     let mut store = [0u64; 1602];
-    words::put_words(&mut store, 0, first);
+    words::put(&mut store, 0, first);
     store
 }
 

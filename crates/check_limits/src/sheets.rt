@@ -1,5 +1,5 @@
 // Sheets with no real places, made piece by piece.
-use words::put_bytes;
+use words::put;
 
 // At most 3,200 bytes: what does not fit is left out.
 #[derive(Clone, Copy)]
@@ -25,7 +25,7 @@ impl SheetBytes {
     pub(crate) fn records(self, s: &[u8]) -> SheetBytes {
         let len = self.len;
         let mut bytes = self.bytes;
-        put_bytes(&mut bytes, len, s);
+        put(&mut bytes, len, s);
         SheetBytes {
             bytes: bytes,
             len: std::num::wrapping_add_usize(len, s.len()),

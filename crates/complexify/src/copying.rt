@@ -5,22 +5,14 @@ ghost use Rattle.words.specs.Bytes.{stored};
 ghost use Rattle.sheet.specs.Setup.{constants_of};
 
 use sheet::setup::constant_at;
-use words::{put_bytes, put_words};
+use words::put;
 
-// Bytes copied from `at` on.
-pub(crate) fn copy_bytes(from: &[u8], to: &mut [u8], at: usize)
+// Bytes or words copied from `at` on.
+pub(crate) fn copy<T: Copy>(from: &[T], to: &mut [T], at: usize)
     requires { at + length from.now ≤ length to.old }
     ensures { to.new ≡ sets to.old at from.now }
 {
-    put_bytes(to, at, from);
-}
-
-// Words copied from `at` on.
-pub(crate) fn copy_words(from: &[u64], to: &mut [u64], at: usize)
-    requires { at + length from.now ≤ length to.old }
-    ensures { to.new ≡ sets to.old at from.now }
-{
-    put_words(to, at, from);
+    put(to, at, from);
 }
 
 // The origin of the constants from a position up to another.

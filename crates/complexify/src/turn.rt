@@ -3,7 +3,7 @@ ghost use Rattle.std.specs.Prelude.{◌≡◌, ◌<◌};
 ghost use Rattle.sheet.specs.Instruction.{instruction_at};
 ghost use Rattle.complexify.specs.Taken.{Ready, Fits, Finished, LoweredOne, Taken, refusal};
 
-use super::copying::{copy_bytes, copy_words};
+use super::copying::copy;
 use complexifier::state::Complexifier;
 use lowering::realness::Realness;
 use mir::records::Instruction;
@@ -81,9 +81,9 @@ fn finish(
     if listing.len() - written < n {
         return refused(7, p);
     }
-    copy_bytes(bytes, listing, written);
+    copy(bytes, listing, written);
     let words = added.words;
-    copy_words(&words[..more], constants, count);
+    copy(&words[..more], constants, count);
     Next {
         done: false,
         number: 0,

@@ -11,7 +11,7 @@ use rerun::instruction::rerun;
 use rerun::output::Output;
 use sheet::reader::read_instruction;
 use sheet::setup::Mode;
-use words::put_words;
+use words::put;
 
 // Where the count stands: before the instruction at a position of the sheet, with this index, after so many constants, and what the
 // instructions before it take.
@@ -71,7 +71,7 @@ fn finish(
         taken: taken,
     };
     let words = added.words;
-    put_words(constants, before, &words[..more]);
+    put(constants, before, &words[..more]);
     CountNext {
         done: false,
         number: 0,

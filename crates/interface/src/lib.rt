@@ -13,7 +13,7 @@ ghost use Rattle.interface.specs.Calls.{play_call, lower_call, lower_answer, pai
 use complexify::entry::{LowerAnswer, wrong_setup};
 use lowering::bytes::{put_flags, record_bytes};
 use player::PlayAnswer;
-use words::{load, put_bytes, save};
+use words::{load, put, save};
 
 // Plays on words, with constants as bytes.
 fn play_words(listing: &[u8], constants: &[u8], store: &mut [u64], start: usize) -> PlayAnswer
@@ -93,7 +93,7 @@ fn put_answer(out: &mut [u8], a: LowerAnswer)
     ];
     save(out, &numbers);
     let record = record_bytes(a.real);
-    put_bytes(out, 32, &record);
+    put(out, 32, &record);
     let filled = a.filled;
     let drawn = a.drawn;
     put_marks(out, filled, drawn);

@@ -6,7 +6,7 @@ ghost use Rattle.look.specs.Standing.{FillsOf, ShownOf};
 use mir::fields::{byte, read_place, u16_at};
 use player_work::exec;
 use player_work::words::{get, place};
-use words::put_words;
+use words::put;
 
 // The first and the last word that a record fills; one word is both.
 #[derive(Clone, Copy)]
@@ -99,7 +99,7 @@ pub(crate) fn show(s: &[u8], constants: &[u64], store: &[u64]) -> Shown
     ensures { ShownOf constants.now s.now store.now result }
 {
     let mut copy = [0u64; 1602];
-    put_words(&mut copy, 0, store);
+    put(&mut copy, 0, store);
     let worked = exec(&mut copy, constants, s);
     if !worked {
         return nothing();

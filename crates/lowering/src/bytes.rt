@@ -6,7 +6,7 @@ ghost use Rattle.lowering.specs.RecordBytes.{record_bytes};
 
 use crate::realness::Realness;
 use mir::writer::flag_byte;
-use words::put_bytes;
+use words::put;
 
 // Flags as bytes, 1 where one is set, stored from at on, where they fit.
 pub fn put_flags(out: &mut [u8], at: usize, flags: &[bool])
@@ -28,6 +28,6 @@ pub fn record_bytes(real: Realness) -> [u8; 96]
     let regs = real.regs;
     put_flags(&mut bytes, 0, &regs);
     let places = real.places;
-    put_bytes(&mut bytes, 32, &places);
+    put(&mut bytes, 32, &places);
     bytes
 }

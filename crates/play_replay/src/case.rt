@@ -1,14 +1,15 @@
 // One case: where it ends, and how the player answers it.
-ghost use Rattle.std.specs.Prelude.{◌^◌, ◌<◌, ◌≡◌, length};
+ghost use Rattle.std.specs.Prelude.{◌^◌, ◌<◌, ◌≡◌, length, refl};
 ghost use Rattle.play_replay.specs.Case as Case;
 ghost use Rattle.play_replay.specs.Case.{WholePlay, fill_at, changed_at, filled, answered, expected, differs};
+ghost use Rattle.replay.proofs.Replaying.{is_whole};
 ghost use Rattle.replay.specs.Numbers.{u32_at};
 ghost use Rattle.player.specs.Values.{whole};
 
 use crate::stores::patch;
 use player::PlayAnswer;
+use replay::cases::{Outcome, Replay, is_cut};
 use replay::numbers::count_at;
-use replay::same::same_words;
 use words::{load, word_at};
 
 // Where the word that fills the store stands.
@@ -26,7 +27,7 @@ fn changed_at(s: &[u8]) -> usize
 }
 
 // Where the case ends.
-pub fn end(s: &[u8]) -> usize
+fn end(s: &[u8]) -> usize
     ensures { result ≡ Case.end s.now }
 {
     changed_at(s) + 12 * count_at(s, 16)
@@ -49,13 +50,6 @@ fn make_after(s: &[u8], store: &mut [u64])
     patch(s, changed_at(s), count_at(s, 16), store);
 }
 
-// What a play gave.
-#[derive(Clone, Copy)]
-pub struct PlayOutcome {
-    pub number: u8,
-    pub differs: bool,
-}
-
 // Whether an answer and a store are the expected ones.
 fn agrees(s: &[u8], a: PlayAnswer, store: &[u64], after: &[u64]) -> bool
     requires { after.now ≡ Case.after s.now }
@@ -70,11 +64,11 @@ fn agrees(s: &[u8], a: PlayAnswer, store: &[u64], after: &[u64]) -> bool
     if a.played as u64 != word_at(s, 40) {
         return false;
     }
-    same_words(store, after)
+    store == after
 }
 
 // Plays the case, and compares what the player gives with what the case expects.
-fn judge(s: &[u8], constants: &[u64], store: &mut [u64], after: &[u64]) -> PlayOutcome
+fn judge(s: &[u8], constants: &[u64], store: &mut [u64], after: &[u64]) -> Outcome
     requires { WholePlay s.now × ((constants.now ≡ Case.constants s.now) × ((store.old ≡ Case.before s.now) × (after.now ≡ Case.after s.now))) }
     ensures { (result.number ≡ (answered s.now).number) × (result.differs ≡ differs s.now) }
 {
@@ -82,14 +76,14 @@ fn judge(s: &[u8], constants: &[u64], store: &mut [u64], after: &[u64]) -> PlayO
     let start = word_at(s, 20) as usize;
     let a = player::play(&s[48..listing_end], constants, store, start);
     let agreed = agrees(s, a, store, after);
-    PlayOutcome {
+    Outcome {
         number: a.number,
         differs: !agreed,
     }
 }
 
 // Makes what the case s plays, of room for its constants and filled stores, and plays it.
-fn replay_in(s: &[u8], constants: &mut [u64], store: &mut [u64], after: &mut [u64]) -> PlayOutcome
+fn replay_in(s: &[u8], constants: &mut [u64], store: &mut [u64], after: &mut [u64]) -> Outcome
     requires { WholePlay s.now × ((length constants.old ≡ u32_at s.now 4) × ((store.old ≡ filled s.now) × (after.old ≡ filled s.now))) }
     ensures { (result.number ≡ (answered s.now).number) × (result.differs ≡ differs s.now) }
 {
@@ -102,7 +96,7 @@ fn replay_in(s: &[u8], constants: &mut [u64], store: &mut [u64], after: &mut [u6
 }
 
 // Replays the case at the start of s.
-pub(crate) fn replay_case(s: &[u8]) -> PlayOutcome
+fn replay_case(s: &[u8]) -> Outcome
     requires { WholePlay s.now }
     ensures { (result.number ≡ (answered s.now).number) × (result.differs ≡ differs s.now) }
 {
@@ -118,4 +112,25 @@ pub(crate) fn replay_case(s: &[u8]) -> PlayOutcome
         &mut store[..words],
         &mut after[..words],
     )
+}
+
+// The cases of a list of plays.
+pub struct Play;
+
+impl Replay for Play {
+    ghost cases = { Case.cases };
+
+    fn end(s: &[u8]) -> usize {
+        end(s)
+    }
+
+    fn is_cut(s: &[u8], end: usize) -> bool {
+        is_cut(s, 48, 257, 1603, end)
+    }
+
+    fn replay(s: &[u8]) -> Outcome {
+        replay_case(s)
+    }
+
+    ghost ends_inside = { λ s e. (is_whole 48 257 1603 (Case.end s) s refl refl e).rest };
 }

@@ -4,19 +4,19 @@
 
 mod case;
 mod stores;
-mod tally;
 
-use replay::report::{print_bytes, read_list, report, room};
-use tally::replay_list;
+use case::Play;
+use replay::report::{read_list, report, room};
+use replay::tally::Tally;
 
 // Reads the list, of at most 524,288 bytes.
 fn main(rt: HostRuntime) {
-    let mut t = [0u64; 258];
+    let mut t = Tally::new();
     let mut list = room();
     let n = read_list(&mut rt.stdin(), &mut list);
-    if replay_list(&mut t, &list[..n]) {
+    if t.replay::<Play>(&list[..n]) {
         report(&rt, &t, b" plays");
     } else {
-        print_bytes(&rt, b"the list is malformed\n");
+        let _ = println!(rt; "the list is malformed");
     }
 }

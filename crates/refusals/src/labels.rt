@@ -10,7 +10,7 @@ use lowering::bytes::record_bytes;
 use lowering::realness::Realness;
 use mir::fields::{byte, read_head, u16_at};
 use mir::refusal::Refusal;
-use words::put_bytes;
+use words::put;
 
 // A label's marks: one stands ahead; branches to it stood, all with the records in its row; they stood with unlike records; it stood
 // itself. Where none of its number stands ahead the mark is 0.
@@ -105,7 +105,7 @@ fn note_branch(label: u8, bytes: [u8; 96], marks: &mut [u8], rows: &mut [u8])
 {
     let mark = byte(marks, label as usize);
     if mark == AHEAD {
-        put_bytes(rows, 96 * (label as usize), &bytes);
+        put(rows, 96 * (label as usize), &bytes);
         set_mark(marks, label, ROW);
         return;
     }

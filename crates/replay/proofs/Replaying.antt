@@ -1,19 +1,10 @@
 -- A list replayed case after case: what is left of it decides. Assumes nothing.
-use Rattle.std.proofs.Common.{◌≡◌, ℕ, suc, ◌+◌, ◌-◌, ◌<◌, ◌≤◌, Bool, true, false, ◌||◌, eqb, ltb, List, length, take, drop, sym, refl, ap, ◌∙◌, arith, length-drop, drop-drop, ltb-false, le-ltb, lt-ltb, eq-eqb, ne_eqb, eqb-true}
-use borrow.Author.Tests.{eqb-false}
+use Rattle.std.proofs.Common.{◌≡◌, ℕ, suc, ◌+◌, ◌-◌, ◌<◌, ◌≤◌, Bool, true, false, ◌||◌, eqb, ltb, List, length, take, drop, sym, refl, ap, ◌∙◌, arith, ltb-false, le-ltb, lt-ltb}
 use Rattle.mir.proofs.Parts.{part}
 use Rattle.replay.specs.Numbers.{u32_at}
+use Rattle.replay.specs.declared.tally.Tally.{Tally}
 use Rattle.replay.specs.Whole.{cut_at, WholeAt}
 use Rattle.replay.specs.Tally.{Cases, Replayed, tallied, replayed, replayed_list}
-
--- nothing is left at the end of the list, and only there
-module _ (list : List ℕ) (at : ℕ) (h : at ≤ length list) where
-  by : (b : Bool) → eqb at (length list) ≡ b → eqb at (length list) ≡ eqb (length (drop at list)) 0
-  by true e = let x = length-drop at list in let y = eqb-true at (length list) e in e ∙ sym (eq-eqb (length (drop at list)) 0 (omega arith))
-  by false e = let x = length-drop at list in let y = eqb-false at (length list) e in e ∙ sym (ne_eqb (length (drop at list)) 0 (λ z. y (omega arith)))
-
-  nothing_left : eqb at (length list) ≡ eqb (length (drop at list)) 0
-  nothing_left = by (eqb at (length list)) refl
 
 -- no test of a row holds where the whole row does not
 or-first : (a b : Bool) → (a || b) ≡ false → a ≡ false
@@ -48,81 +39,63 @@ module _ (head first second end : ℕ) (s : List ℕ) where
         rest = omega (arith, h, l);
       }
 
--- after i of n cases, with counts t and at a position, what is left gives what the whole gives
-pub record Left (k : Cases) (whole : Replayed) (n : ℕ) (list : List ℕ) (i : ℕ) (t : List ℕ) (at : ℕ) : Type 0 where
-  pub few : i ≤ n
-  pub inside : at ≤ length list
-  pub gives : (m : ℕ) → i + m ≡ n → whole ≡ replayed k m t (drop at list)
+-- after i of n cases, with counts t, the bytes that are left give what the whole gives
+pub record Left (k : Cases) (whole : Replayed) (n i : ℕ) (t : Tally) (s : List ℕ) : Type 0 where
+  pub gives : whole ≡ replayed k (n - i) t s
 
 -- a list without a count, and one with it
-module _ (k : Cases) (t list : List ℕ) where
+module _ (k : Cases) (t : Tally) (list : List ℕ) where
   pub no-count : length list < 4 → (false ≡ (replayed_list k t list).whole) × (t ≡ (replayed_list k t list).counts)
   unfolding replayed_list
   no-count h = let b : ltb (length list) 4 ≡ true = lt-ltb (length list) 4 h in (rw b, rw b)
 
-  pub begun : {n : ℕ} → 4 ≤ length list → n ≡ u32_at list 0 → Left k (replayed_list k t list) n list 0 t 4
+  pub begun : {n : ℕ} → 4 ≤ length list → n ≡ u32_at list 0
+      → Left k (replayed_list k t list) n 0 t (take (length list - 4) (drop 4 list))
   unfolding replayed_list
   begun {n} h e =
-      record {
-        few = omega arith;
-        inside = h;
-        gives = λ m f.
-            let b : ltb (length list) 4 ≡ false = le-ltb (length list) 4 h in
-            let j : u32_at list 0 ≡ m = omega (arith, e, f) in
-            rw b (ap (λ (j : ℕ). replayed k j t (drop 4 list)) j);
-      }
+      let b : ltb (length list) 4 ≡ false = le-ltb (length list) 4 h in
+      let j : u32_at list 0 ≡ n - 0 = omega (arith, e) in
+      record { gives = rw b (λ x. replayed k (j x) t (sym (part list 4) x)) }
 
-module _ {k : Cases} {whole : Replayed} {n : ℕ} {list : List ℕ} {i : ℕ} {t : List ℕ} {at : ℕ} (left : Left k whole n list i t at) where
-  -- what is left of the list, as the code knows it
-  abbrev rest : List ℕ
-  rest = take (length list - at) (drop at list)
+next : (n i : ℕ) → i < n → n - i ≡ suc (n - (i + 1))
+next n i h = omega arith
 
-  cut-here : {b : Bool} {size : ℕ} → size ≡ k.end rest → b ≡ k.cut size rest → k.cut (k.end (drop at list)) (drop at list) ≡ b
-  cut-here h e = ap (λ (s : List ℕ). k.cut (k.end s) s) (sym (part list at)) ∙ (ap (λ (j : ℕ). k.cut j rest) (sym h) ∙ sym e)
-
+module _ {k : Cases} {whole : Replayed} {n i : ℕ} {t : Tally} {s : List ℕ} (left : Left k whole n i t s) where
   -- a case that is not whole
-  pub stopped : {b : Bool} {size : ℕ} → i < n → size ≡ k.end rest → b ≡ k.cut size rest → b ≡ true
+  pub stopped : {b : Bool} {size : ℕ} → i < n → size ≡ k.end s → b ≡ k.cut size s → b ≡ true
       → (false ≡ whole.whole) × (t ≡ whole.counts)
   unfolding replayed
-  stopped h hs e b =
-      let cut : k.cut (k.end (drop at list)) (drop at list) ≡ true = cut-here hs e ∙ b in
-      let w : whole ≡ record { counts = t; whole = false } = rw cut at (left.gives (suc (n - suc i)) (omega arith)) in
+  stopped {b} {size} h hs e f =
+      let cut : k.cut (k.end s) s ≡ true = ap (λ (j : ℕ). k.cut j s) (sym hs) ∙ sym e ∙ f in
+      let w : whole ≡ record { counts = t; whole = false } = left.gives ∙ ap (λ (j : ℕ). replayed k j t s) (next n i h) ∙ rw cut in
       (sym (ap (λ (r : Replayed). r.whole) w), sym (ap (λ (r : Replayed). r.counts) w))
 
-  -- a case that ends in what is left ends in the list
-  pub ends-inside : {size : ℕ} → size ≤ length rest → at + size ≤ length list
-  ends-inside h = let p = left.inside in omega (arith, h, p, ap length (part list at), length-drop at list)
-
   -- one case more
-  pub turned : {b d : Bool} {number size : ℕ} {last : List ℕ}
+  pub turned : {b d : Bool} {number size : ℕ} {last : Tally}
       → i < n
-      → size ≡ k.end rest
-      → b ≡ k.cut size rest
+      → size ≡ k.end s
+      → b ≡ k.cut size s
       → b ≡ false
-      → number ≡ k.number rest
-      → d ≡ k.differs rest
+      → number ≡ k.number s
+      → d ≡ k.differs s
       → last ≡ tallied t number d
-      → size ≤ length rest
-      → Left k whole n list (i + 1) last (at + size)
+      → Left k whole n (i + 1) last (take (length s - size) (drop size s))
   unfolding replayed
-  turned {b} {d} {number} {size} {last} more hs e f hn hd h hl =
-      let cut : k.cut (k.end (drop at list)) (drop at list) ≡ false = cut-here hs e ∙ f in
-      let counts : last ≡ tallied t (k.number (drop at list)) (k.differs (drop at list)) =
-      h
-      ∙ (ap (λ (j : ℕ). tallied t j d) (hn ∙ ap k.number (part list at))
-      ∙ ap (tallied t (k.number (drop at list))) (hd ∙ ap k.differs (part list at))) in
-      let ends : size ≡ k.end (drop at list) = hs ∙ ap k.end (part list at) in
+  turned {b} {d} {number} {size} {last} h hs e f hn hd hl =
+      let cut : k.cut (k.end s) s ≡ false = ap (λ (j : ℕ). k.cut j s) (sym hs) ∙ sym e ∙ f in
+      let counts : tallied t (k.number s) (k.differs s) ≡ last = (λ x. tallied t (sym hn x) (sym hd x)) ∙ sym hl in
       record {
-        few = omega arith;
-        inside = ends-inside hl;
-        gives = λ m g.
-            rw (counts, ends, ← drop-drop (k.end (drop at list)) at list) (rw cut at (left.gives (suc m) (omega arith)));
+        gives =
+            left.gives
+            ∙ ap (λ (j : ℕ). replayed k j t s) (next n i h)
+            ∙ rw cut (λ x. replayed k (n - (i + 1)) (counts x) (drop (sym hs x) s))
+            ∙ ap (replayed k (n - (i + 1)) last) (sym (part s size));
       }
 
   -- the end
-  pub ended : n ≤ i → (eqb at (length list) ≡ whole.whole) × (t ≡ whole.counts)
+  pub ended : {b : Bool} → n ≤ i → b ≡ eqb (length s) 0 → (b ≡ whole.whole) × (t ≡ whole.counts)
   unfolding replayed
-  ended p =
-      let q = left.few in
-      let w : whole ≡ record { counts = t; whole = eqb (length (drop at list)) 0 } = left.gives 0 (omega arith) in
-      (nothing_left list at left.inside ∙ sym (ap (λ (r : Replayed). r.whole) w), sym (ap (λ (r : Replayed). r.counts) w))
+  ended h e =
+      let none : n - i ≡ 0 = omega arith in
+      let w : whole ≡ record { counts = t; whole = eqb (length s) 0 } = left.gives ∙ ap (λ (j : ℕ). replayed k j t s) none in
+      (e ∙ sym (ap (λ (r : Replayed). r.whole) w), sym (ap (λ (r : Replayed). r.counts) w))

@@ -1,8 +1,7 @@
-// What programs that replay a list of cases share: numbers in bytes, whole cases, slices compared, the counts and their report.
+// What programs that replay a list of cases share: numbers in bytes, whole cases, the counts and their report.
 #![tactic(auto)]
 
 pub mod cases;
 pub mod numbers;
 pub mod report;
-pub mod same;
 pub mod tally;

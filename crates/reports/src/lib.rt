@@ -6,6 +6,25 @@ ghost use Rattle.reports.specs.Lines.{refusal_line, lowered_line, played_line, w
 
 use text::line::{Line, empty_line};
 
+// The refusals' words, by their numbers; a number that no line speaks of has none.
+const REFUSALS: [&str; 15] = [
+    "",
+    "torn record",
+    "unknown work",
+    "bad register",
+    "bad place",
+    "missing constant",
+    "barred operand",
+    "listing full",
+    "wrong setup",
+    "stray jump",
+    "misplaced label",
+    "unequal records",
+    "",
+    "",
+    "sheet too long",
+];
+
 pub fn refusal_line(number: u64, index: u64) -> Line
     ensures { Prints (refusal_line number index) result }
 {
@@ -14,11 +33,7 @@ pub fn refusal_line(number: u64, index: u64) -> Line
         .number(number)
         .number(index)
         .byte(b' ')
-        .word_in(
-            b"/torn record/unknown work/bad register/bad place/missing constant/barred operand/listing full/wrong setup/stray jump/\
-            misplaced label/unequal records///sheet too long/",
-            number,
-        )
+        .name_in(&REFUSALS, number)
         .byte(b'\n')
 }
 
@@ -59,10 +74,10 @@ fn word_name(line: Line, index: u64) -> Line
         return line.register(index as u8);
     }
     let k = index - 66;
-    line.word_in(b"Stack/Mem/Param/", k / 512)
+    line.name_in(&["Stack", "Mem", "Param"], k / 512)
         .number(k % 512 / 2)
         .byte(b' ')
-        .word_in(b"re/im/", k % 2)
+        .name_in(&["re", "im"], k % 2)
 }
 
 // A word of a store: its name and its bits.

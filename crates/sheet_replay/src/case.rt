@@ -1,16 +1,17 @@
 // One case: where it ends, and how lowering answers it.
-ghost use Rattle.std.specs.Prelude.{◌^◌, ◌<◌, ◌≤◌, ◌≡◌, ◌++◌, map, length};
+ghost use Rattle.std.specs.Prelude.{◌^◌, ◌<◌, ◌≤◌, ◌≡◌, ◌++◌, map, length, refl};
 ghost use Rattle.mir.specs.Encode.{flag_byte};
 ghost use Rattle.complexify.specs.Entry as Entry;
 ghost use Rattle.sheet_replay.specs.Case as Case;
 ghost use Rattle.sheet_replay.specs.Case.{WholeSheet, Lent, lent_bytes, lent_words, lent_numbers, answered, differs, expected, numbers_agree, real_agrees, marks_agree, listing_expected, constants_expected};
+ghost use Rattle.replay.proofs.Replaying.{is_whole};
 
 use complexify::entry::{LowerAnswer, lower};
 use lowering::bytes::{put_flags, record_bytes};
 use lowering::realness::Realness;
+use replay::cases::{Outcome, Replay, is_cut};
 use replay::numbers::count_at;
-use replay::same::{same_bytes, same_words};
-use words::{load, put_bytes};
+use words::{load, put};
 
 // Where the listing's bytes begin.
 fn listing_at(s: &[u8]) -> usize
@@ -27,7 +28,7 @@ fn constants_at(s: &[u8]) -> usize
 }
 
 // Where the case ends.
-pub fn end(s: &[u8]) -> usize
+fn end(s: &[u8]) -> usize
     ensures { result ≡ Case.end s.now }
 {
     constants_at(s) + 8 * count_at(s, 24)
@@ -55,7 +56,7 @@ fn real_agrees(s: &[u8], real: Realness) -> bool
     ensures { result ≡ real_agrees s.now «real» }
 {
     let record = record_bytes(real);
-    same_bytes(&record, &s[28..124])
+    record[..] == s[28..124]
 }
 
 // The marks as bytes: of registers filled, then of those drawn on before.
@@ -76,7 +77,7 @@ fn marks_agree(s: &[u8], a: LowerAnswer) -> bool
     let filled = a.filled;
     let drawn = a.drawn;
     let marks = mark_bytes(filled, drawn);
-    same_bytes(&marks, &s[124..256])
+    marks[..] == s[124..256]
 }
 
 // Whether an answer and both slices are the expected ones.
@@ -100,17 +101,10 @@ fn agrees(
     if !marks_agree(s, a) {
         return false;
     }
-    if !same_bytes(listing, bytes) {
+    if listing != bytes {
         return false;
     }
-    same_words(constants, words)
-}
-
-// What lowering gave.
-#[derive(Clone, Copy)]
-pub struct SheetOutcome {
-    pub number: u8,
-    pub differs: bool,
+    constants == words
 }
 
 // Lowers a sheet. A case says nothing of origins: 256 numbers are lent for them.
@@ -130,18 +124,18 @@ fn judge(
     constants: &mut [u64],
     bytes: &mut [u8],
     words: &mut [u64],
-) -> SheetOutcome
+) -> Outcome
     requires { WholeSheet s.now × (Lent s.now listing.old constants.old × Lent s.now bytes.old words.old) }
     ensures { (result.number ≡ (answered s.now).number) × (result.differs ≡ differs s.now) }
 {
     let at = listing_at(s);
     let row = constants_at(s);
     let stop = end(s);
-    put_bytes(bytes, 0, &s[at..row]);
+    put(bytes, 0, &s[at..row]);
     load(words, &s[row..stop]);
     let a = lower_case(&s[256..at], listing, constants);
     let agreed = agrees(s, a, listing, constants, bytes, words);
-    SheetOutcome {
+    Outcome {
         number: a.number,
         differs: !agreed,
     }
@@ -161,7 +155,7 @@ fn all_words() -> [u64; 257]
 }
 
 // Replays the case at the start of s.
-pub(crate) fn replay_case(s: &[u8]) -> SheetOutcome
+fn replay_case(s: &[u8]) -> Outcome
     requires { WholeSheet s.now }
     ensures { (result.number ≡ (answered s.now).number) × (result.differs ≡ differs s.now) }
 {
@@ -178,4 +172,25 @@ pub(crate) fn replay_case(s: &[u8]) -> SheetOutcome
         &mut bytes[..n],
         &mut words[..m],
     )
+}
+
+// The cases of a list of sheets.
+pub struct Sheet;
+
+impl Replay for Sheet {
+    ghost cases = { Case.cases };
+
+    fn end(s: &[u8]) -> usize {
+        end(s)
+    }
+
+    fn is_cut(s: &[u8], end: usize) -> bool {
+        is_cut(s, 256, 65537, 257, end)
+    }
+
+    fn replay(s: &[u8]) -> Outcome {
+        replay_case(s)
+    }
+
+    ghost ends_inside = { λ s e. (is_whole 256 65537 257 (Case.end s) s refl refl e).rest };
 }

@@ -1,30 +1,27 @@
--- Digits in hexadecimal by halves, and in decimal from the last.
-use Prim.Native.Nat.{ℕ, zero, suc, ◌+◌, ◌-◌, ◌/◌, ◌%◌, ◌≤◌, ◌<◌}
-use mathlib.Core.Path.{◌≡◌, ◌∙◌}
-use mathlib.Core.List.{List, ◌∷◌, ◌++◌, append_assoc, append-nil}
-use native.Mathlib.Nat.{zero-add, suc-add}
+-- Digits in hexadecimal from the first, and in decimal from the last.
+use Prim.Native.Nat.{ℕ, zero, suc, ◌+◌, ◌-◌, ◌*◌, ◌/◌, ◌%◌, ◌^◌, ◌≤◌, ◌<◌}
+use mathlib.Core.Path.{◌≡◌, sym, ap, ◌∙◌}
+use mathlib.Core.List.{List, [], ◌∷◌, ◌++◌, append_assoc}
 use native.Mathlib.Numerals.{add-one}
 use native.Mathlib.Omega.{arith}
+use Rattle.std.proofs.Math.Nat.{div-div-eq-div-mul}
+use Rattle.std.proofs.lemmas.Nat.{pow-add}
 use borrow.Author.Tests.{lt-ltb, le-ltb}
 use lib.ListN.{length, take, drop, set, length-drop, length-set}
 use lib.Seq.{take_all, drop-cons, get_or-set_same, drop-set-lt}
 use Rattle.text.specs.declared.line.Line.{Line}
 use Rattle.text.specs.Line.{Adds, ◌▹◌}
-use Rattle.text.specs.Text.{hex_in, decimal_in}
+use Rattle.text.specs.Text.{hex_digit, hex_in, decimal_in}
 
--- n without its last b hexadecimal digits
-abbrev pub without : ℕ → ℕ → ℕ
-without zero n = n
-without (suc b) n = without b (n / 16)
-
-hex_in_add : (a b n : ℕ) → hex_in (b + a) n ≡ hex_in a (without b n) ++ hex_in b n
+-- one digit more, where the last k + 1 were left
+pub digit_more : {l m r : Line} (w k n : ℕ) → n ≡ k + 1 → n ≤ 16 → Adds l (hex_in (16 - n) (w / 2 ^ (4 * n))) m
+    → Adds m (hex_digit (w / 2 ^ (4 * k) % 16) ∷ []) r → Adds l (hex_in (16 - k) (w / 2 ^ (4 * k))) r
 unfolding hex_in
-hex_in_add a zero n = rw (zero-add a, append-nil (hex_in a n))
-hex_in_add a (suc b) n = rw (suc-add b a, hex_in_add a b (n / 16), append_assoc)
-
--- the digits of the upper half and then those of the lower
-pub halves : {l m r : Line} (b n k : ℕ) → without b n ≡ k → Adds l (hex_in b k) m → Adds m (hex_in b n) r → Adds l (hex_in (b + b) n) r
-halves b n k e p q = rw (hex_in_add b b n, e) (p ▹ q)
+digit_more w k n e h p q =
+    let s : 16 - k ≡ suc (16 - n) = omega arith in
+    let m : 4 * n ≡ 4 * k + 4 = omega arith in
+    let d : w / 2 ^ (4 * k) / 16 ≡ w / 2 ^ (4 * n) = div-div-eq-div-mul w (2 ^ (4 * k)) 16 ∙ ap (λ x. w / x) (sym (pow-add 2 (4 * k) 4) ∙ ap (λ x. 2 ^ x) (sym m)) in
+    rw (s, d) (p ▹ q)
 
 drop-set : (d : List ℕ) (i v : ℕ) → i < length d → drop i (set d i v) ≡ v ∷ drop (suc i) d
 drop-set d i v h =

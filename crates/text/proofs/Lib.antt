@@ -2,5 +2,5 @@ mod Adding
 mod Digits
 pub mod Whole
 pub mod Short
-pub mod Words
+pub mod Tables
 pub mod Putting

@@ -1,6 +1,6 @@
 pub mod Text
 pub mod Paper
 pub mod Line
-pub mod Words
+pub mod Names
 pub mod Sized
 pub mod Puts

@@ -30,11 +30,8 @@ impl Line {
         ensures { Adds self (registers rs.now) result }
     {
         let mut line = self;
-        let mut i: usize = 0;
-        while i < rs.len() {
-            let r = rs[i];
-            line = line.byte(b' ').register(r);
-            i += 1;
+        for r in rs {
+            line = line.byte(b' ').register(*r);
         }
         line
     }

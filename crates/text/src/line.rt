@@ -1,9 +1,10 @@
 // A line of text, byte by byte. A full line takes no further byte.
-ghost use Rattle.std.specs.Prelude.{◌≡◌, [], ◌∷◌};
+ghost use Rattle.std.specs.Prelude.{◌≡◌, ◌<◌, [], ◌∷◌};
 ghost use Rattle.text.specs.Line.{empty_line, Adds};
-ghost use Rattle.text.specs.Text.{decimal, hex_in, hex};
-ghost use Rattle.text.specs.Words.{word_in};
+ghost use Rattle.text.specs.Text.{decimal, hex_digit, hex};
+ghost use Rattle.text.specs.Names.{name_at};
 
+// Bytes and their count, and no vector of fixed room: a line may be copied, and one of any count can be put.
 #[derive(Clone, Copy)]
 pub struct Line {
     pub bytes: [u8; 80],
@@ -13,26 +14,20 @@ pub struct Line {
 pub fn empty_line() -> Line
     ensures { result ≡ empty_line }
 {
-    let bytes = [0u8; 80];
     Line {
-        bytes: bytes,
+        bytes: [0; 80],
         len: 0,
     }
 }
 
 impl Line {
     // One byte more.
-    pub fn byte(self, b: u8) -> Line
+    pub fn byte(mut self, b: u8) -> Line
         ensures { Adds self (b ∷ []) result }
     {
-        let len = self.len;
-        if len < 80 {
-            let mut bytes = self.bytes;
-            bytes[len] = b;
-            return Line {
-                bytes: bytes,
-                len: len + 1,
-            };
+        if self.len < 80 {
+            self.bytes[self.len] = b;
+            self.len += 1;
         }
         self
     }
@@ -42,37 +37,20 @@ impl Line {
         ensures { Adds self s.now result }
     {
         let mut line = self;
-        let mut i: usize = 0;
-        while i < s.len() {
-            let b = s[i];
-            line = line.byte(b);
-            i += 1;
+        for b in s {
+            line = line.byte(*b);
         }
         line
     }
 
-    // The word of a number, from 0, among words that a slash ends each; past the last of them, none.
-    pub fn word_in(self, words: &[u8], n: u64) -> Line
-        ensures { Adds self (word_in words.now n) result }
+    // The name of a number in a table, from 0; past the last, none.
+    pub fn name_in(self, names: &[&str], n: u64) -> Line
+        ensures { Adds self (name_at names.now n) result }
     {
-        let mut line = self;
-        let mut left = n;
-        let mut i: usize = 0;
-        while i < words.len() {
-            let b = words[i];
-            i += 1;
-            if 0 < left {
-                if b == b'/' {
-                    left -= 1;
-                }
-            } else {
-                if b == b'/' {
-                    return line;
-                }
-                line = line.byte(b);
-            }
+        match names.get(n as usize) {
+            Some(name) => self.text(name.as_bytes()),
+            None => self,
         }
-        line
     }
 
     // A number in decimal. Its digits are found from the last; a u64 has at most 20.
@@ -91,39 +69,25 @@ impl Line {
         self.text(&digits[at..])
     }
 
-    // A hexadecimal digit: the last of n.
-    fn hex1(self, n: u64) -> Line
-        ensures { Adds self (hex_in 1 n) result }
-    {
-        let d = (n % 16) as u8;
-        if d < 10 {
-            return self.byte(48 + d);
-        }
-        self.byte(87 + d)
-    }
-
-    fn hex2(self, n: u64) -> Line
-        ensures { Adds self (hex_in 2 n) result }
-    {
-        self.hex1(n / 16).hex1(n)
-    }
-
-    fn hex4(self, n: u64) -> Line
-        ensures { Adds self (hex_in 4 n) result }
-    {
-        self.hex2(n / 0x100).hex2(n)
-    }
-
-    fn hex8(self, n: u64) -> Line
-        ensures { Adds self (hex_in 8 n) result }
-    {
-        self.hex4(n / 0x1_0000).hex4(n)
-    }
-
     // The 16 hexadecimal digits of a word.
     pub fn hex(self, word: u64) -> Line
         ensures { Adds self (hex word) result }
     {
-        self.hex8(word / 0x1_0000_0000).hex8(word)
+        let mut line = self;
+        for k in (0..16u32).rev() {
+            line = line.byte(hex_digit(((word >> (4 * k)) % 16) as u8));
+        }
+        line
+    }
+}
+
+// A hexadecimal digit.
+fn hex_digit(d: u8) -> u8
+    requires { d < 16 }
+    ensures { result ≡ hex_digit d }
+{
+    match d {
+        0..10 => b'0' + d,
+        _ => b'a' + (d - 10),
     }
 }

@@ -9,9 +9,29 @@ impl Line {
     pub fn uni_name(self, op: UniOp) -> Line
         ensures { Adds self (uni_name op) result }
     {
-        self.word_in(
-            b"Neg/Not/Abs/Root/RealRoot/Recip/Round/Floor/Ceiling/Trunc/Real/Imaginary/Conjugate/Half/IsZero/IsNotZero/Sign/Abs2/\
-            TimesI/TimesNegI/",
+        self.name_in(
+            &[
+                "Neg",
+                "Not",
+                "Abs",
+                "Root",
+                "RealRoot",
+                "Recip",
+                "Round",
+                "Floor",
+                "Ceiling",
+                "Trunc",
+                "Real",
+                "Imaginary",
+                "Conjugate",
+                "Half",
+                "IsZero",
+                "IsNotZero",
+                "Sign",
+                "Abs2",
+                "TimesI",
+                "TimesNegI",
+            ],
             op.number() as u64,
         )
     }
@@ -19,9 +39,24 @@ impl Line {
     pub fn bin_name(self, op: BinOp) -> Line
         ensures { Adds self (bin_name op) result }
     {
-        self.word_in(
-            b"Plus/Minus/Times/Divide/GreaterThan/GreaterThanEqual/LittleThan/LittleThanEqual/Equal/NotEqual/And/AndNot/Or/Xor/\
-            Complex/",
+        self.name_in(
+            &[
+                "Plus",
+                "Minus",
+                "Times",
+                "Divide",
+                "GreaterThan",
+                "GreaterThanEqual",
+                "LittleThan",
+                "LittleThanEqual",
+                "Equal",
+                "NotEqual",
+                "And",
+                "AndNot",
+                "Or",
+                "Xor",
+                "Complex",
+            ],
             op.number() as u64,
         )
     }
@@ -29,14 +64,22 @@ impl Line {
     pub fn fused_name(self, op: FusedOp) -> Line
         ensures { Adds self (fused_name op) result }
     {
-        self.word_in(b"MulAdd/MulSub/NegMulAdd/NegMulSub/", op.number() as u64)
+        self.name_in(
+            &["MulAdd", "MulSub", "NegMulAdd", "NegMulSub"],
+            op.number() as u64,
+        )
     }
 
     pub fn complex_name(self, op: ArithOp) -> Line
         ensures { Adds self (complex_name op) result }
     {
-        self.word_in(
-            b"PlusComplex/MinusComplex/TimesComplex/DivideComplex/",
+        self.name_in(
+            &[
+                "PlusComplex",
+                "MinusComplex",
+                "TimesComplex",
+                "DivideComplex",
+            ],
             op.number() as u64,
         )
     }

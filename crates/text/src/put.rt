@@ -4,19 +4,15 @@ ghost use Rattle.mir.specs.Encode.{buf, placed};
 ghost use Rattle.text.specs.Puts.{line_text};
 
 use super::line::Line;
-use words::put_bytes;
 
 // Bytes from a position on; the position after them. Where there is no room for all of them nothing changes.
 pub fn put(out: &mut [u8], at: usize, s: &[u8]) -> usize
     ensures { buf out.new result ≡ placed (buf out.old at) s.now }
 {
-    if out.len() < s.len() {
+    if out.len() < s.len() || out.len() - s.len() < at {
         return at;
     }
-    if out.len() - s.len() < at {
-        return at;
-    }
-    put_bytes(out, at, s);
+    words::put(out, at, s);
     at + s.len()
 }
 
@@ -24,16 +20,12 @@ pub fn put(out: &mut [u8], at: usize, s: &[u8]) -> usize
 fn put_first(out: &mut [u8], at: usize, s: &[u8], n: usize) -> usize
     ensures { buf out.new result ≡ placed (buf out.old at) (take n s.now) }
 {
-    if n < s.len() {
-        return put(out, at, &s[0..n]);
-    }
-    put(out, at, s)
+    put(out, at, s.get(..n).unwrap_or(s))
 }
 
 // A line's text, likewise.
 pub fn put_line(out: &mut [u8], at: usize, line: Line) -> usize
     ensures { buf out.new result ≡ placed (buf out.old at) (line_text line) }
 {
-    let bytes = line.bytes;
-    put_first(out, at, &bytes, line.len)
+    put_first(out, at, &line.bytes, line.len)
 }

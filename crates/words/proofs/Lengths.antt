@@ -27,18 +27,18 @@ pub length-words_of : (s : List ℕ) → length (words_of s) ≡ length s / 8
 unfolding words_of
 length-words_of s = length_words (length s / 8) s
 
-pub sets-append : (l a b : List ℕ) (i : ℕ) → sets l i (a ++ b) ≡ sets (sets l i a) (i + length a) b
+pub sets-append : {X : Type 0} (l a b : List X) (i : ℕ) → sets l i (a ++ b) ≡ sets (sets l i a) (i + length a) b
 sets-append l [] b i = ap (λ k. sets l k b) (sym (add-zero i))
 sets-append l (x ∷ a) b i =
     let e : suc i + length a ≡ i + suc (length a) = omega arith in
     sets-append (set l i x) a b (suc i) ∙ ap (λ k. sets (sets (set l i x) (suc i) a) k b) e
 
-pub sets_whole : (l v : List ℕ) → length v ≡ length l → sets l 0 v ≡ v
+pub sets_whole : {X : Type 0} (l v : List X) → length v ≡ length l → sets l 0 v ≡ v
 sets_whole l v h =
     let k : length l ≤ 0 + length v = omega arith in
     sets-eq v l 0 (omega arith) ∙ ap (λ r. v ++ r) (drop_of_length-le l k) ∙ append-nil v
 
-pub sets_front : (l v : List ℕ) (n : ℕ) → length v ≡ n → n ≤ length l → take n (sets l 0 v) ≡ v
+pub sets_front : {X : Type 0} (l v : List X) (n : ℕ) → length v ≡ n → n ≤ length l → take n (sets l 0 v) ≡ v
 sets_front l v n h k = ap (take n) (sets-eq v l 0 (omega arith)) ∙ take_at v _ n h
 
 bytes_of-append : (a b : List ℕ) → bytes_of (a ++ b) ≡ bytes_of a ++ bytes_of b

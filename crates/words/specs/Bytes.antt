@@ -35,5 +35,5 @@ unfolding words
 words_of s = words (length s / 8) s
 
 -- a list stored over another from a position on; where there is no room for the whole, nothing changes
-unfoldable pub stored : List ℕ → ℕ → List ℕ → List ℕ
+unfoldable pub stored : {X : Type 0} → List X → ℕ → List X → List X
 stored l at v = cond (leb (at + length v) (length l)) (sets l at v) l

@@ -14,4 +14,4 @@ put_answer_spec =
     let s = c.before.before.before.before.before.before.before.before.before.before.before.before.before.before.before.before.before.before.before in
     let m = c.put_marks.ensures in
     told s.args.a s.args.out.now s.requires (search rules) (search rules) m.1 m.2 c.save.ensures c.record_bytes-record.ensures
-    c.put_bytes.ensures m.0))
+    c.put.ensures m.0))

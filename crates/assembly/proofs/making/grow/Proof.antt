@@ -12,4 +12,4 @@ grow_spec =
     (λ c.
     let d = c.before.before.before.before.before.before in
     let a = d.args in
-    fits a.s a.out.now d.requires.0.0 a.count a.instructions d.requires.1 a.stage a.b.now d.requires.0.1 c.put_bytes.ensures))
+    fits a.s a.out.now d.requires.0.0 a.count a.instructions d.requires.1 a.stage a.b.now d.requires.0.1 c.put.ensures))

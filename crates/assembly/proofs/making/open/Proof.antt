@@ -17,5 +17,5 @@ open_spec =
     let p = c.before.before.before.before.before.before.before in
     let d = p.before.before.before.before.before in
     let a = d.args in
-    mode_put a.head a.out.now a.b.now p.if-head-ne0.false d.requires.1 d.requires.0 p.put_bytes.ensures
-    (search rules) c.put_bytes-2.ensures))
+    mode_put a.head a.out.now a.b.now p.if-head-ne0.false d.requires.1 d.requires.0 p.put.ensures
+    (search rules) c.put-2.ensures))

@@ -22,4 +22,4 @@ sheet_or_refusal_spec =
     let m = l.make-e in
     let h : 80 ≤ length m.new.out = search rules in
     line-written m.result m.new.out m.ensures.0 l.if-e-eq0.false l.refused_line-line.ensures h
-    c.put_bytes.ensures))
+    c.put.ensures))

@@ -17,4 +17,4 @@ too_long_spec =
     let out : List ℕ = replicate 69184 0 in
     let e = length-replicate {A = ℕ} 69184 0 in
     let h : 80 ≤ length out = omega (arith, e) in
-    line_first out c.long_line-line.ensures h c.put_bytes.ensures))
+    line_first out c.long_line-line.ensures h c.put.ensures))

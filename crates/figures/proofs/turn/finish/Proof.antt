@@ -27,4 +27,4 @@ finish_spec =
     let n = c.count_records-taken.ensures i q rs e in
     let l : length (take a.t.added.count a.t.added.words) ≡ a.t.added.count = simp length-take (omega (arith, f.few)) in
     let h : a.p.constants + length (take a.t.added.count a.t.added.words) ≤ length a.constants.now = omega (arith, l, f.count, f.words) in
-    copied (subst (λ (x : Count). x.bytes ≤ 65536) n (omega arith)) (ap (λ (x : Count). finished a.t x a.next a.p) n) (c.put_words.ensures ∙ stored_fits _ _ _ h)))
+    copied (subst (λ (x : Count). x.bytes ≤ 65536) n (omega arith)) (ap (λ (x : Count). finished a.t x a.next a.p) n) (c.put.ensures ∙ stored_fits _ _ _ h)))

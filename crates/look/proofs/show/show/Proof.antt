@@ -10,8 +10,8 @@ show_spec =
     tie.close
     (tie.spec
     (λ c. search rules) (λ c κs. search rules) (λ c. search rules) (λ c κs. search rules) (λ c κs. search rules)
-    (λ c. let a = c.args in let k = copied a.constants.now a.s.now _ (c.requires ∙ search rules) c.put_words.ensures c.exec-worked.ensures in shows-none k c.if-not-worked.true c.nothing.ensures)
+    (λ c. let a = c.args in let k = copied a.constants.now a.s.now _ (c.requires ∙ search rules) c.put.ensures c.exec-worked.ensures in shows-none k c.if-not-worked.true c.nothing.ensures)
     (λ c κs. search rules) (λ c. search rules) (λ c κs. search rules)
-    (λ c. let a = c.args in let k = copied a.constants.now a.s.now _ (c.requires ∙ search rules) c.put_words.ensures c.exec-worked.ensures in shows-one k c.requires (λ i. (c.shared_slice_known-1.given i).fits) c.if-not-worked.false c.fills-f.ensures c.if-f.true c.get-bits.ensures)
+    (λ c. let a = c.args in let k = copied a.constants.now a.s.now _ (c.requires ∙ search rules) c.put.ensures c.exec-worked.ensures in shows-one k c.requires (λ i. (c.shared_slice_known-1.given i).fits) c.if-not-worked.false c.fills-f.ensures c.if-f.true c.get-bits.ensures)
     (λ c. search rules) (λ c κs. search rules)
-    (λ c. let a = c.args in let k = copied a.constants.now a.s.now _ (c.requires ∙ search rules) c.put_words.ensures c.exec-worked.ensures in shows-two k c.requires (λ i. (c.shared_slice_known-1.given i).fits) c.if-not-worked.false c.fills-f.ensures c.if-f.false c.get.ensures c.get-bits.ensures))
+    (λ c. let a = c.args in let k = copied a.constants.now a.s.now _ (c.requires ∙ search rules) c.put.ensures c.exec-worked.ensures in shows-two k c.requires (λ i. (c.shared_slice_known-1.given i).fits) c.if-not-worked.false c.fills-f.ensures c.if-f.false c.get.ensures c.get-bits.ensures))

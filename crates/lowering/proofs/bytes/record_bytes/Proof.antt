@@ -16,6 +16,6 @@ record_bytes_spec =
     (tie.spec
     (λ c. search rules) (λ c. search rules) (λ c κs. search rules) (λ c. search rules) (λ c. search rules) (λ c κs. search rules)
     (λ c. let ρ = c.args.real in let h : length ρ.regs ≡ 32 = search rules in let k : length ρ.places ≡ 64 = search rules in let n = length-map ρ.regs flag_byte in
-    c.put_bytes.ensures
+    c.put.ensures
     ∙ both_stored (replicate 96 0) (map flag_byte ρ.regs) ρ.places 32 (n ∙ h) (omega (arith, k))
     (c.put_flags.ensures ∙ stored_fits (replicate 96 0) 0 (map flag_byte ρ.regs) (omega (arith, h, n)))))

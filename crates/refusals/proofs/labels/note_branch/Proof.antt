@@ -13,7 +13,7 @@ note_branch_spec =
     (tie.spec
     (λ c κs. search rules) (λ c. search rules) (λ c. search rules) (λ c κs. search rules) (λ c κs. search rules) (λ c. search rules)
     (λ c. search rules)
-    (λ c. let a = c.args in noted-first a.label a.bytes a.marks.now a.rows.now (sym c.byte-mark.ensures ∙ c.if-mark-eq-AHEAD.true) c.set_mark.ensures c.put_bytes.ensures)
+    (λ c. let a = c.args in noted-first a.label a.bytes a.marks.now a.rows.now (sym c.byte-mark.ensures ∙ c.if-mark-eq-AHEAD.true) c.set_mark.ensures c.put.ensures)
     (λ c κs. search rules) (λ c κs. search rules) (λ c. search rules) (λ c. search rules)
     (λ c. let a = c.args in noted-row a.label a.bytes a.marks.now a.rows.now false (sym c.byte-mark.ensures ∙ c.if-mark-eq-ROW.true) (sym c.row_is.ensures ∙ c.if-not-row_is.true) c.set_mark-then-not-row_is.ensures)
     (λ c. search rules) (λ c. search rules)

@@ -15,6 +15,6 @@ judge_spec =
     let a = c.listing_at-at.ensures.0 in
     let r = c.constants_at-row.ensures.0 in
     let p = c.requires in
-    (p.0.long, (bytes-made _ a r p.1.1 c.put_bytes.ensures, words-made _ a r p.1.1 c.end-stop.ensures c.load.ensures)))
+    (p.0.long, (bytes-made _ a r p.1.1 c.put.ensures, words-made _ a r p.1.1 c.end-stop.ensures c.load.ensures)))
     (λ c. search rules) (λ c. search rules) (λ c. search rules) (λ c. search rules)
     (λ c. let g = c.lower_case-a.ensures in judged _ c.listing_at-at.ensures.0 c.requires.1.0 g.0 g.1 g.2 c.agrees-agreed.ensures))

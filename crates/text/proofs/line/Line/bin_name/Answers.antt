@@ -1,8 +1,8 @@
--- `text::names::Line::bin_name` meets its contract.
+-- The table in the code is the definition's.
 use Rattle.text.specs.Text.{ascii, bin_names, bin_name}
-use Rattle.text.proofs.Words.{by_name}
+use Rattle.text.proofs.Tables.{by_name}
 use Rattle.text.proofs.line.Line.bin_name.Goals as goal
 
 pub returns : goal.returns
 unfolding ascii bin_name
-returns c = by_name bin_names tt c.number.ensures c.word_in.ensures
+returns c = by_name bin_names c.number.ensures c.name_in.ensures

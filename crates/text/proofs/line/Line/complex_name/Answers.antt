@@ -1,8 +1,8 @@
--- `text::names::Line::complex_name` meets its contract.
+-- The table in the code is the definition's.
 use Rattle.text.specs.Text.{ascii, complex_names, complex_name}
-use Rattle.text.proofs.Words.{by_name}
+use Rattle.text.proofs.Tables.{by_name}
 use Rattle.text.proofs.line.Line.complex_name.Goals as goal
 
 pub returns : goal.returns
 unfolding ascii complex_name
-returns c = by_name complex_names tt c.number.ensures c.word_in.ensures
+returns c = by_name complex_names c.number.ensures c.name_in.ensures

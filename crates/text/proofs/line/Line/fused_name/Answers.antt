@@ -1,8 +1,8 @@
--- `text::names::Line::fused_name` meets its contract.
+-- The table in the code is the definition's.
 use Rattle.text.specs.Text.{ascii, fused_names, fused_name}
-use Rattle.text.proofs.Words.{by_name}
+use Rattle.text.proofs.Tables.{by_name}
 use Rattle.text.proofs.line.Line.fused_name.Goals as goal
 
 pub returns : goal.returns
 unfolding ascii fused_name
-returns c = by_name fused_names tt c.number.ensures c.word_in.ensures
+returns c = by_name fused_names c.number.ensures c.name_in.ensures
