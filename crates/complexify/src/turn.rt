@@ -132,15 +132,7 @@ pub(crate) fn one(
 {
     let at = p.at;
     match read_instruction(sheet, at, own) {
-        Ok((instruction, next)) => lower_one(
-            instruction,
-            next,
-            mode,
-            p,
-            stage,
-            listing,
-            constants,
-        ),
+        Ok((instruction, next)) => lower_one(instruction, next, mode, p, stage, listing, constants),
         Err(refusal) => refused(refusal.number(), p),
     }
 }

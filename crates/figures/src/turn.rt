@@ -119,14 +119,7 @@ pub(crate) fn one(
 {
     let at = p.at;
     match read_instruction(sheet, at, own) {
-        Ok((instruction, next)) => lower_one(
-            instruction,
-            next,
-            mode,
-            p,
-            stage,
-            constants,
-        ),
+        Ok((instruction, next)) => lower_one(instruction, next, mode, p, stage, constants),
         Err(refusal) => refused(refusal.number(), p),
     }
 }

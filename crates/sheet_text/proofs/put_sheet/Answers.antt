@@ -24,16 +24,16 @@ returns-then-seen-ne0 c =
     let f = p.whole.fits in
     let e = c.examined-seen.ensures in
     renamed
-    (refused (as_setup (Ok c.in-Ok.s)) (set-up a.sheet.now c.read_setup.ensures c.in-Ok.is) refl (ap (λ s. s.number) e) (ap (λ s. s.index) e) c.if-seen-ne0.true)
+    (refused a.sheet.now (as_setup (Ok c.in-Ok.s)) (set-up a.sheet.now c.read_setup.ensures c.in-Ok.is) refl (ap (λ s. s.number) e) (ap (λ s. s.index) e) c.if-seen-ne0.true)
     (line-put p (omega (arith, f)) c.put_line-then-seen-ne0.ensures)
 
 pub put_lines-requires-clause-count_bound : goal.put_lines-requires-clause-count_bound
-put_lines-requires-clause-count_bound c = let a = c.args in few (as_setup (Ok c.in-Ok.s)) (set-up a.sheet.now c.read_setup.ensures c.in-Ok.is) refl
+put_lines-requires-clause-count_bound c = let a = c.args in few a.sheet.now (as_setup (Ok c.in-Ok.s)) (set-up a.sheet.now c.read_setup.ensures c.in-Ok.is) refl
 
 pub returns : goal.returns
 returns c =
     let a = c.args in
     let e = c.examined-seen.ensures in
     renamed
-    (printed (as_setup (Ok c.in-Ok.s)) (set-up a.sheet.now c.read_setup.ensures c.in-Ok.is) refl (ap (λ s. s.number) e) (ap (λ s. s.index) e) c.if-seen-ne0.false)
+    (printed a.sheet.now (as_setup (Ok c.in-Ok.s)) (set-up a.sheet.now c.read_setup.ensures c.in-Ok.is) refl (ap (λ s. s.number) e) (ap (λ s. s.index) e) c.if-seen-ne0.false)
     c.put_lines.ensures

@@ -19,8 +19,8 @@ returns-in_default c =
     let l = c.loop-from in
     none l.invariant.1 (records-end (torn-record a.count a.listing.now l.from c.read_record.ensures c.in_default.is (omega arith)))
 
-pub put_line-at-requires : goal.put_line-at-requires
-put_line-at-requires c =
+pub put_line-at-requires-clause-len_in_bounds : goal.put_line-at-requires-clause-len_in_bounds
+put_line-at-requires-clause-len_in_bounds c =
     let a = c.args in
     let l = c.loop-from in
     let p = c.record_line.ensures in
@@ -28,7 +28,7 @@ put_line-at-requires c =
     let h = (here-record a.count a.listing.now l.from c.read_record.ensures c.in-Ok.is).inside in
     let z = sized a.count a.listing.now l.from c.in-Ok.record c.in-Ok.next e in
     let f = p.1 in
-    (omega (arith, h, z, f), whole-fits p.0)
+    omega (arith, h, z, f)
 
 pub loop-from-smaller : goal.loop-from-smaller
 loop-from-smaller c =
