@@ -2,8 +2,7 @@
 use Rattle.std.specs.Prelude.{ℕ, zero, suc, ◌≡◌, cond, List, [], ◌∷◌, ◌++◌, length, drop, eqb}
 use Rattle.mir.specs.declared.records.Instruction.{Instruction}
 use Rattle.mir.specs.Decode.{Decoded}
-use Rattle.sheet.specs.declared.setup.Setup.{Setup}
-use Rattle.sheet.specs.Setup.{setup, constants_of}
+use Rattle.sheet.specs.Setup.{Setup, setup, constants_of}
 use Rattle.sheet.specs.Instruction.{instructions}
 use Rattle.lowering.specs.Realness.{bit_at}
 use Rattle.reports.specs.Lines.{refusal_line}

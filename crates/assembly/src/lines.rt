@@ -4,7 +4,7 @@ ghost use Rattle.text.specs.Line.{Adds, Prints};
 ghost use Rattle.mir.specs.declared.records.Instruction.{Instruction};
 ghost use Rattle.assembly.specs.Lines.{mode_line, real_place, real_line, constant_line, named, math_name, work_line, instruction_line, refused_text, long_text};
 
-use mir::ops::{ArithOp, arith_number};
+use mir::ops::{ArithOp, Operation};
 use mir::records::{Instruction, Loc, Record, Work};
 use sheet::setup::Mode;
 use text::line::{Line, empty_line};
@@ -55,7 +55,7 @@ fn name(r: u8) -> u8
 fn math_name(line: Line, op: ArithOp) -> Line
     ensures { Adds line (math_name op) result }
 {
-    line.word_in(b"Plus/Minus/Times/Divide/", arith_number(op) as u64)
+    line.word_in(b"Plus/Minus/Times/Divide/", op.number() as u64)
 }
 
 fn work_line(work: Work) -> Line

@@ -11,7 +11,7 @@ ghost use Rattle.assembly.specs.Making.{part_of, place_bit, with_bit, sheet_of, 
 use super::lines::{long_line, refused_line};
 use super::reading::{behind, piece_end, read_line, run_end};
 use mir::fields::{byte, u16_at};
-use sheet::reader::{LONGEST, NextInstruction, read_instruction};
+use sheet::reader::{LONGEST, read_instruction};
 use words::put_bytes;
 
 // A sheet that is being made: its bytes, its constants, its instructions, how far it is, and why its last line is refused (0: it is not).
@@ -136,7 +136,7 @@ fn with_instruction(out: &mut [u8], s: Made, b: &[u8]) -> Made
         return refuse(4);
     }
     let count = s.count;
-    let NextInstruction::Got(_, _) = read_instruction(b, 0, count) else {
+    let Ok(_) = read_instruction(b, 0, count) else {
         return refuse(3);
     };
     grow(out, s, count, instructions + 1, 3, b)

@@ -5,9 +5,9 @@
 ghost use Rattle.std.specs.Prelude.{◌≤◌};
 
 use mir::records::{Instruction, Record, Work};
-use records::reader::{NextRecord, read_record};
-use sheet::reader::{NextInstruction, read_instruction};
-use sheet::setup::{constant_at, is_minding, is_stable, read_setup};
+use records::reader::read_record;
+use sheet::reader::read_instruction;
+use sheet::setup::{constant_at, read_setup};
 use std::io::Print;
 
 fn text(rt: HostRuntime, s: &[u8]) {
@@ -152,22 +152,22 @@ fn record_name(rt: HostRuntime, r: Record) {
 // What a sheet with one constant holds at the start of bytes.
 fn of_sheet(rt: HostRuntime, bytes: &[u8]) {
     match read_instruction(bytes, 0, 1) {
-        NextInstruction::Got(i, n) => {
+        Ok((i, n)) => {
             instruction_name(rt, i);
             next_at(rt, n);
         }
-        NextInstruction::Refused(n) => refused(rt, n),
+        Err(refusal) => refused(rt, refusal.number()),
     }
 }
 
 // What a listing with a table of one constant holds at the start of bytes.
 fn of_listing(rt: HostRuntime, bytes: &[u8]) {
     match read_record(bytes, 0, 1) {
-        NextRecord::Got(r, n) => {
+        Ok((r, n)) => {
             record_name(rt, r);
             next_at(rt, n);
         }
-        NextRecord::Refused(n) => refused(rt, n),
+        Err(refusal) => refused(rt, refusal.number()),
     }
 }
 
@@ -399,16 +399,18 @@ fn setup_of(rt: HostRuntime, name: &[u8], sheet: &[u8]) {
     text(rt, b"setup ");
     text(rt, name);
     text(rt, b": ");
-    let s = read_setup(sheet);
-    if s.number != 0 {
-        refused(rt, s.number);
-        return;
-    }
+    let s = match read_setup(sheet) {
+        Ok(s) => s,
+        Err(refusal) => {
+            refused(rt, refusal.number());
+            return;
+        }
+    };
     let mode = s.mode;
-    if is_minding(mode) {
+    if mode.is_minding() {
         text(rt, b"minding, ");
     }
-    if is_stable(mode) {
+    if mode.is_stable() {
         text(rt, b"stable, ");
     } else {
         text(rt, b"plain, ");

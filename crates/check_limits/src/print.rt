@@ -2,7 +2,7 @@
 use complexify::entry::LowerAnswer;
 use lowering::realness::Realness;
 use player::PlayAnswer;
-use records::reader::{NextRecord, read_record};
+use records::reader::read_record;
 use std::io::Print;
 use text::line::{Line, empty_line};
 use text::lines::{constant_line, record_line};
@@ -79,12 +79,12 @@ pub(crate) fn marks(rt: HostRuntime, before: &[u8], marks: [bool; 66]) {
 // The record at a position, and where the next begins. There is none after one that is refused.
 fn record(rt: HostRuntime, listing: &[u8], at: usize, count: usize) -> usize {
     match read_record(listing, at, count) {
-        NextRecord::Got(record, next) => {
+        Ok((record, next)) => {
             line(rt, record_line(record));
             next
         }
-        NextRecord::Refused(n) => {
-            number(rt, b"  refused ", n as usize);
+        Err(refusal) => {
+            number(rt, b"  refused ", refusal.number() as usize);
             write(rt, b"\n");
             listing.len()
         }

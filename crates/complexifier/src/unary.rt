@@ -10,7 +10,7 @@ use lines::unary::{
     not_lines, real_lines, times_i_lines, times_neg_i_lines,
 };
 use mir::ops::UniOp;
-use sheet::setup::{Mode, is_minding};
+use sheet::setup::Mode;
 
 impl Complexifier {
     // `neg`, `round`, `sign`
@@ -62,7 +62,7 @@ impl Complexifier {
     pub fn half(self, out: &mut [u8], at: usize, mode: Mode, dst: u8, s1: u8) -> Listed
         ensures { Does (buf out.old at) self (half mode dst s1) (buf out.new result.at) result.low }
     {
-        if is_minding(mode) {
+        if mode.is_minding() {
             let x = self.is_real_reg(s1);
             let n = minding_half_lines(out, at, x, dst, s1);
             return Listed {

@@ -9,8 +9,7 @@ use lib.ListN.{length, take, drop, replicate, length-replicate}
 use lib.Seq.{sets, length-sets}
 use Rattle.mir.specs.declared.records.Record.{Record}
 use Rattle.mir.specs.Encode.{encode_all}
-use Rattle.sheet.specs.declared.setup.Setup.{Setup}
-use Rattle.sheet.specs.Setup.{setup, constants_of}
+use Rattle.sheet.specs.Setup.{Setup, setup, constants_of}
 use Rattle.sheet.specs.Instruction.{instructions}
 use Rattle.sheet.proofs.Setting.{Right, right, length_constants}
 use Rattle.lowering.specs.Realness.{fresh}

@@ -11,16 +11,19 @@ use lib.Seq.{sets}
 use Rattle.mir.specs.declared.records.Instruction.{Instruction}
 use Rattle.mir.specs.Encode.{Buf, buf, encode_all}
 use Rattle.mir.proofs.Passing.{either}
-use Rattle.mir.proofs.Decoding.{Here, Done}
+use Rattle.mir.proofs.Decoding.{Here, Done, torn}
 use Rattle.mir.specs.Read.{Read, got, refused, and_then}
 use Rattle.mir.specs.Field.{u16_at}
 use Rattle.mir.specs.Decode.{read_at, Decoded}
 use Rattle.sheet.specs.declared.setup.Mode.{Mode}
-use Rattle.sheet.specs.declared.reader.NextInstruction.{NextInstruction}
+use Rattle.std.specs.Prelude.{Ok, Err, Result}
+use Rattle.mir.specs.declared.refusal.Refusal.{Refusal}
+use Rattle.mir.specs.Refusal.{number}
+use Rattle.mir.specs.Decode.{as_next}
 use Rattle.sheet.specs.Setup.{is_stable}
-use Rattle.sheet.specs.Instruction.{instruction_from, instruction_at, instructions_on, as_next}
+use Rattle.sheet.specs.Instruction.{instruction_from, instruction_at, instructions_on}
 use Rattle.sheet.proofs.Limit.{nothing, on-here, on-done, on-end, on-full}
-use Rattle.sheet.proofs.Reading.{here-instruction, past-instruction, torn-instruction}
+use Rattle.sheet.proofs.Reading.{here-instruction, past-instruction}
 use Rattle.lowering.specs.declared.realness.Realness.{Realness}
 use Rattle.lowering.specs.Complexifier.{State}
 use Rattle.lowering.specs.Rerun.{rerun}
@@ -381,16 +384,16 @@ pub turn_beyond : {mode : Mode} {own : ℕ} {sheet stage listing constants marks
 turn_beyond {own = own} {sheet} {p = p} r e h = turn_stopped r (on-full own sheet p.at e h)
 
 -- the code's answer
-module _ (own : ℕ) (sheet : List ℕ) (at : ℕ) (mode : Mode) (listing constants : List ℕ) {p : Cursor} {r : Next} {a : NextInstruction} where
-  pub one-got : {i : Instruction} {next : ℕ} {listing' constants' : List ℕ} → as_next a ≡ instruction_at own sheet at → a ≡ NextInstruction.Got i next
+module _ (own : ℕ) (sheet : List ℕ) (at : ℕ) (mode : Mode) (listing constants : List ℕ) {p : Cursor} {r : Next} {a : Result (Instruction × ℕ) Refusal} where
+  pub one-got : {i : Instruction} {next : ℕ} {listing' constants' : List ℕ} → as_next a ≡ instruction_at own sheet at → a ≡ Ok (i, next)
       → LoweredOne mode i next listing constants p listing' constants' r
       → Taken mode listing constants p listing' constants' r (instruction_at own sheet at)
   one-got {listing' = listing'} {constants' = constants'} e f l =
       subst (λ x. Taken mode listing constants p listing' constants' r x) (sym (ap as_next f) ∙ e) l
 
-  pub one-refused : {n : ℕ} → as_next a ≡ instruction_at own sheet at → a ≡ NextInstruction.Refused n → r ≡ refusal n p
+  pub one-refused : {e : Refusal} {n : ℕ} → as_next a ≡ instruction_at own sheet at → a ≡ Err e → n ≡ number e → r ≡ refusal n p
       → Taken mode listing constants p listing constants r (instruction_at own sheet at)
-  one-refused e f h = subst (λ x. Taken mode listing constants p listing constants r x) (sym (ap as_next f) ∙ e) (h, refl, refl)
+  one-refused e f n h = subst (λ x. Taken mode listing constants p listing constants r x) (sym (ap as_next f) ∙ e) (h ∙ ap (λ n. refusal n p) n, refl, refl)
 
 -- by what is read at the position
 abbrev pub behind : List ℕ → ℕ → ℕ
@@ -407,13 +410,13 @@ module _ (own : ℕ) (sheet : List ℕ) (at : ℕ) where
   at-refused k e = ap (λ x. and_then x (λ i. got (record { item = i; next = behind sheet at }))) e
 
   pub here-got : (i : Instruction) → instruction_from own (drop at sheet) ≡ got i → Here (instruction_from own) sheet at i (behind sheet at)
-  here-got i e = here-instruction own sheet at {r = NextInstruction.Got i (behind sheet at)} (sym (at-got i e)) refl
+  here-got i e = here-instruction own sheet at {r = Ok (i, behind sheet at)} (sym (at-got i e)) refl
 
   pub past-got : (i : Instruction) → instruction_from own (drop at sheet) ≡ got i → past (drop at sheet) ≡ drop (behind sheet at) sheet
-  past-got i e = past-instruction own sheet at {r = NextInstruction.Got i (behind sheet at)} (sym (at-got i e)) refl
+  past-got i e = past-instruction own sheet at {r = Ok (i, behind sheet at)} (sym (at-got i e)) refl
 
   pub done_refused : (k : ℕ) → instruction_from own (drop at sheet) ≡ refused k → at < length sheet → Done (instruction_from own) sheet at k
-  done_refused k e h = torn-instruction own sheet at {r = NextInstruction.Refused k} (sym (at-refused k e)) refl h
+  done_refused k e h = torn (instruction_from own) sheet at k (at-refused k e) h
 
   -- what the tables tell of it
   module _ {ρ : Realness} {marks rows marks' rows' : List ℕ} {n : ℕ} (t : PassedFirst (drop at sheet) ρ marks rows marks' rows' n) where

@@ -166,10 +166,9 @@ pub fn lower(
         × (constants.new ≡ Spec.constants_after sheet.now listing.old constants.old origins.old)
         × (origins.new ≡ Spec.origins_after sheet.now listing.old constants.old origins.old) }
 {
-    let setup = read_setup(sheet);
-    if setup.number != 0 {
+    let Ok(setup) = read_setup(sheet) else {
         return wrong_setup();
-    }
+    };
     if 65536 < listing.len() {
         return wrong_setup();
     }

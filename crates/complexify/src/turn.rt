@@ -10,8 +10,8 @@ use mir::records::Instruction;
 use refusals::barred::barred;
 use rerun::instruction::rerun;
 use rerun::output::Output;
-use sheet::reader::{NextInstruction, read_instruction};
-use sheet::setup::{Mode, is_stable};
+use sheet::reader::read_instruction;
+use sheet::setup::Mode;
 
 // Where lowering stands: before the instruction at a position of the sheet, with this index, after so many bytes of the listing and so
 // many constants.
@@ -107,7 +107,7 @@ fn lower_one(
 {
     let low = p.low;
     let real = low.real;
-    if barred(is_stable(mode), instruction, real) {
+    if barred(mode.is_stable(), instruction, real) {
         return refused(6, p);
     }
     let count = p.count;
@@ -132,7 +132,7 @@ pub(crate) fn one(
 {
     let at = p.at;
     match read_instruction(sheet, at, own) {
-        NextInstruction::Got(instruction, next) => lower_one(
+        Ok((instruction, next)) => lower_one(
             instruction,
             next,
             mode,
@@ -141,6 +141,6 @@ pub(crate) fn one(
             listing,
             constants,
         ),
-        NextInstruction::Refused(number) => refused(number, p),
+        Err(refusal) => refused(refusal.number(), p),
     }
 }

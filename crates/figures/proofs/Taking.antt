@@ -15,8 +15,11 @@ use Rattle.mir.specs.Encode.{buf, encode_all}
 use Rattle.mir.specs.Decode.{decoded}
 use Rattle.mir.proofs.Passing.{either}
 use Rattle.mir.proofs.Decoding.{Here}
-use Rattle.sheet.specs.declared.reader.NextInstruction.{NextInstruction}
-use Rattle.sheet.specs.Instruction.{instruction_from, instruction_at, as_next}
+use Rattle.std.specs.Prelude.{Ok, Err, Result}
+use Rattle.mir.specs.declared.refusal.Refusal.{Refusal}
+use Rattle.mir.specs.Refusal.{number}
+use Rattle.mir.specs.Decode.{as_next}
+use Rattle.sheet.specs.Instruction.{instruction_from, instruction_at}
 use Rattle.lowering.specs.Complexifier.{State}
 use Rattle.lowering.specs.Rerun.{rerun}
 use Rattle.lowering.specs.Labels as Labels
@@ -323,14 +326,14 @@ pub turn_beyond : {mode : Mode} {own : ℕ} {sheet g k marks rows : List ℕ} {p
 turn_beyond {own = own} {sheet} {p = p} r e h = turn_stopped r (on-full own sheet p.at e h)
 
 -- the code's answer
-module _ (own : ℕ) (sheet : List ℕ) (at : ℕ) (mode : Mode) (k : List ℕ) {p : CountCursor} {r : CountNext} {a : NextInstruction} where
-  pub one-got : {i : Instruction} {next : ℕ} {k' : List ℕ} → as_next a ≡ instruction_at own sheet at → a ≡ NextInstruction.Got i next
+module _ (own : ℕ) (sheet : List ℕ) (at : ℕ) (mode : Mode) (k : List ℕ) {p : CountCursor} {r : CountNext} {a : Result (Instruction × ℕ) Refusal} where
+  pub one-got : {i : Instruction} {next : ℕ} {k' : List ℕ} → as_next a ≡ instruction_at own sheet at → a ≡ Ok (i, next)
       → CountedOne mode i next k p k' r → CountTaken mode k p k' r (instruction_at own sheet at)
   one-got {k' = k'} e f l = subst (λ x. CountTaken mode k p k' r x) (sym (ap as_next f) ∙ e) l
 
-  pub one-refused : {n : ℕ} → as_next a ≡ instruction_at own sheet at → a ≡ NextInstruction.Refused n → r ≡ refusing n p
+  pub one-refused : {e : Refusal} {n : ℕ} → as_next a ≡ instruction_at own sheet at → a ≡ Err e → n ≡ number e → r ≡ refusing n p
       → CountTaken mode k p k r (instruction_at own sheet at)
-  one-refused e f h = subst (λ x. CountTaken mode k p k r x) (sym (ap as_next f) ∙ e) (h, refl)
+  one-refused e f n h = subst (λ x. CountTaken mode k p k r x) (sym (ap as_next f) ∙ e) (h ∙ ap (λ n. refusing n p) n, refl)
 
 -- the labels tested: a number refuses, or the instruction is taken
 module _ {mode : Mode} {own : ℕ} {sheet g k marks rows marks' rows' : List ℕ} {p : CountCursor} {n : ℕ}

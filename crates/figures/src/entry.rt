@@ -130,10 +130,9 @@ fn run_marked(
 pub fn shelf(sheet: &[u8]) -> Figures
     ensures { result ≡ Spec.shelf sheet.now }
 {
-    let setup = read_setup(sheet);
-    if setup.number != 0 {
+    let Ok(setup) = read_setup(sheet) else {
         return refusal(8, 0);
-    }
+    };
     let own = setup.count;
     let mut constants = [0u64; 256];
     put_constants(sheet, own, &mut constants);

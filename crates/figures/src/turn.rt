@@ -9,8 +9,8 @@ use mir::records::Instruction;
 use refusals::barred::barred;
 use rerun::instruction::rerun;
 use rerun::output::Output;
-use sheet::reader::{NextInstruction, read_instruction};
-use sheet::setup::{Mode, is_stable};
+use sheet::reader::read_instruction;
+use sheet::setup::Mode;
 use words::put_words;
 
 // Where the count stands: before the instruction at a position of the sheet, with this index, after so many constants, and what the
@@ -94,7 +94,7 @@ fn lower_one(
 {
     let low = p.low;
     let real = low.real;
-    if barred(is_stable(mode), instruction, real) {
+    if barred(mode.is_stable(), instruction, real) {
         return refused(6, p);
     }
     let before = p.constants;
@@ -119,7 +119,7 @@ pub(crate) fn one(
 {
     let at = p.at;
     match read_instruction(sheet, at, own) {
-        NextInstruction::Got(instruction, next) => lower_one(
+        Ok((instruction, next)) => lower_one(
             instruction,
             next,
             mode,
@@ -127,6 +127,6 @@ pub(crate) fn one(
             stage,
             constants,
         ),
-        NextInstruction::Refused(number) => refused(number, p),
+        Err(refusal) => refused(refusal.number(), p),
     }
 }

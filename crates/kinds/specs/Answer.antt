@@ -1,17 +1,12 @@
--- The answer of the code, and what it promises where the caller has found the operation.
+-- What a reader promises where the caller has found the operation.
 use Rattle.std.specs.Prelude.{ℕ, Bool, List}
 use Rattle.mir.specs.declared.ops.UniOp.{UniOp}
 use Rattle.mir.specs.declared.ops.BinOp.{BinOp}
 use Rattle.mir.specs.declared.ops.FusedOp.{FusedOp}
 use Rattle.mir.specs.declared.records.Instruction.{Instruction}
-use Rattle.mir.specs.Read.{Read, got, refused, and_then, registers}
+use Rattle.mir.specs.Read.{Read, got, and_then, registers}
 use Rattle.mir.specs.Field.{byte_at, bytes_at}
 use Rattle.mir.specs.Kinds.{last_register}
-use Rattle.kinds.specs.declared.ReadInstruction.{ReadInstruction}
-
-abbrev pub as_read : ReadInstruction → Read Instruction
-as_read (ReadInstruction.Got i) = got i
-as_read (ReadInstruction.Refused n) = refused n
 
 -- Uni, Bi and Fused behind their operation, which was found or is refused
 abbrev pub uni_behind : Bool → Read UniOp → List ℕ → Read Instruction

@@ -4,20 +4,14 @@
 
 ghost use Rattle.std.specs.Prelude.{◌≡◌};
 ghost use Rattle.mir.specs.Kinds.{last_register, mov_from, load_from, save_from, load_const_from, if_else_from};
-ghost use Rattle.mir.specs.Operation.{as_uni, as_bin, as_fused};
+ghost use Rattle.mir.specs.Refusal.{as_read};
 ghost use Rattle.mir.specs.declared.records.Instruction.{Instruction};
-ghost use Rattle.kinds.specs.Answer.{as_read, uni_behind, bi_behind, fused_behind};
+ghost use Rattle.kinds.specs.Answer.{uni_behind, bi_behind, fused_behind};
 
-use mir::fields::{Place, above, byte, read_cond_place, read_place, read_save_place, u16_at};
-use mir::ops::{FoundBin, FoundFused, FoundUni};
+use mir::fields::{above, byte, read_cond_place, read_place, read_save_place, u16_at};
+use mir::ops::{BinOp, FusedOp, UniOp};
 use mir::records::Instruction;
-
-// An instruction, or the number that refuses it.
-#[derive(Clone, Copy)]
-pub enum ReadInstruction {
-    Got(Instruction),
-    Refused(u8),
-}
+use mir::refusal::Refusal;
 
 // The last register, Temp.
 fn last_register(listing: bool) -> u8
@@ -26,134 +20,141 @@ fn last_register(listing: bool) -> u8
     if listing { 65 } else { 31 }
 }
 
-pub fn read_uni(s: &[u8], found: FoundUni, listing: bool) -> ReadInstruction
-    ensures { as_read result ≡ uni_behind «listing» (as_uni found) s.now }
+// Kind 1.
+pub fn read_uni(
+    s: &[u8],
+    found: Result<UniOp, Refusal>,
+    listing: bool,
+) -> Result<Instruction, Refusal>
+    ensures { as_read result ≡ uni_behind «listing» (as_read found) s.now }
 {
-    match found {
-        FoundUni::Op(op) => {
-            if above(s, 5, 2, last_register(listing)) {
-                return ReadInstruction::Refused(3);
-            }
-            ReadInstruction::Got(Instruction::Uni {
-                op: op,
-                dst: byte(s, 5),
-                s1: byte(s, 6),
-            })
-        }
-        FoundUni::Nothing => ReadInstruction::Refused(2),
+    let op = found?;
+    if above(s, 5, 2, last_register(listing)) {
+        return Err(Refusal::BadRegister);
     }
+    Ok(Instruction::Uni {
+        op,
+        dst: byte(s, 5),
+        s1: byte(s, 6),
+    })
 }
 
-pub fn read_bi(s: &[u8], found: FoundBin, listing: bool) -> ReadInstruction
-    ensures { as_read result ≡ bi_behind «listing» (as_bin found) s.now }
+// Kind 2.
+pub fn read_bi(
+    s: &[u8],
+    found: Result<BinOp, Refusal>,
+    listing: bool,
+) -> Result<Instruction, Refusal>
+    ensures { as_read result ≡ bi_behind «listing» (as_read found) s.now }
 {
-    match found {
-        FoundBin::Op(op) => {
-            if above(s, 5, 3, last_register(listing)) {
-                return ReadInstruction::Refused(3);
-            }
-            ReadInstruction::Got(Instruction::Bi {
-                op: op,
-                dst: byte(s, 5),
-                s1: byte(s, 6),
-                s2: byte(s, 7),
-            })
-        }
-        FoundBin::Nothing => ReadInstruction::Refused(2),
+    let op = found?;
+    if above(s, 5, 3, last_register(listing)) {
+        return Err(Refusal::BadRegister);
     }
+    Ok(Instruction::Bi {
+        op,
+        dst: byte(s, 5),
+        s1: byte(s, 6),
+        s2: byte(s, 7),
+    })
 }
 
-pub fn read_mov(s: &[u8], listing: bool) -> ReadInstruction
+// Kind 3.
+#[tactic(auto, unfolding(mir::specs::Kinds::mov_from))]
+pub fn read_mov(s: &[u8], listing: bool) -> Result<Instruction, Refusal>
     ensures { as_read result ≡ mov_from «listing» Instruction.Mov s.now }
 {
     if above(s, 4, 2, last_register(listing)) {
-        return ReadInstruction::Refused(3);
+        return Err(Refusal::BadRegister);
     }
-    ReadInstruction::Got(Instruction::Mov {
+    Ok(Instruction::Mov {
         dst: byte(s, 4),
         s1: byte(s, 5),
     })
 }
 
-pub fn read_load(s: &[u8], listing: bool) -> ReadInstruction
+// Kind 4.
+#[tactic(auto, unfolding(mir::specs::Kinds::load_from))]
+pub fn read_load(s: &[u8], listing: bool) -> Result<Instruction, Refusal>
     ensures { as_read result ≡ load_from «listing» Instruction.Load s.now }
 {
     if above(s, 4, 1, last_register(listing)) {
-        return ReadInstruction::Refused(3);
+        return Err(Refusal::BadRegister);
     }
-    match read_place(s, 5) {
-        Place::At(loc) => ReadInstruction::Got(Instruction::Load {
-            dst: byte(s, 4),
-            loc: loc,
-        }),
-        Place::Bad => ReadInstruction::Refused(4),
-    }
-}
-
-pub fn read_save(s: &[u8], listing: bool) -> ReadInstruction
-    ensures { as_read result ≡ save_from «listing» Instruction.Save s.now }
-{
-    if above(s, 4, 1, last_register(listing)) {
-        return ReadInstruction::Refused(3);
-    }
-    match read_save_place(s, 5) {
-        Place::At(loc) => ReadInstruction::Got(Instruction::Save {
-            src: byte(s, 4),
-            loc: loc,
-        }),
-        Place::Bad => ReadInstruction::Refused(4),
-    }
-}
-
-pub fn read_load_const(s: &[u8], count: usize, listing: bool) -> ReadInstruction
-    ensures { as_read result ≡ load_const_from «listing» Instruction.LoadConst count s.now }
-{
-    if above(s, 4, 1, last_register(listing)) {
-        return ReadInstruction::Refused(3);
-    }
-    let idx = u16_at(s, 5);
-    if count <= idx as usize {
-        return ReadInstruction::Refused(5);
-    }
-    ReadInstruction::Got(Instruction::LoadConst {
+    let loc = read_place(s, 5)?;
+    Ok(Instruction::Load {
         dst: byte(s, 4),
-        idx: idx,
+        loc,
     })
 }
 
-pub fn read_fused(s: &[u8], found: FoundFused, listing: bool) -> ReadInstruction
-    ensures { as_read result ≡ fused_behind «listing» (as_fused found) s.now }
+// Kind 5.
+#[tactic(auto, unfolding(mir::specs::Kinds::save_from))]
+pub fn read_save(s: &[u8], listing: bool) -> Result<Instruction, Refusal>
+    ensures { as_read result ≡ save_from «listing» Instruction.Save s.now }
 {
-    match found {
-        FoundFused::Op(op) => {
-            if above(s, 5, 4, last_register(listing)) {
-                return ReadInstruction::Refused(3);
-            }
-            ReadInstruction::Got(Instruction::Fused {
-                op: op,
-                dst: byte(s, 5),
-                a: byte(s, 6),
-                b: byte(s, 7),
-                c: byte(s, 8),
-            })
-        }
-        FoundFused::Nothing => ReadInstruction::Refused(2),
+    if above(s, 4, 1, last_register(listing)) {
+        return Err(Refusal::BadRegister);
     }
+    let loc = read_save_place(s, 5)?;
+    Ok(Instruction::Save {
+        src: byte(s, 4),
+        loc,
+    })
 }
 
-pub fn read_if_else(s: &[u8], listing: bool) -> ReadInstruction
+// Kind 6.
+#[tactic(auto, unfolding(mir::specs::Kinds::load_const_from))]
+pub fn read_load_const(s: &[u8], count: usize, listing: bool) -> Result<Instruction, Refusal>
+    ensures { as_read result ≡ load_const_from «listing» Instruction.LoadConst count s.now }
+{
+    if above(s, 4, 1, last_register(listing)) {
+        return Err(Refusal::BadRegister);
+    }
+    let idx = u16_at(s, 5);
+    if count <= idx as usize {
+        return Err(Refusal::MissingConstant);
+    }
+    Ok(Instruction::LoadConst {
+        dst: byte(s, 4),
+        idx,
+    })
+}
+
+// Kind 7.
+pub fn read_fused(
+    s: &[u8],
+    found: Result<FusedOp, Refusal>,
+    listing: bool,
+) -> Result<Instruction, Refusal>
+    ensures { as_read result ≡ fused_behind «listing» (as_read found) s.now }
+{
+    let op = found?;
+    if above(s, 5, 4, last_register(listing)) {
+        return Err(Refusal::BadRegister);
+    }
+    Ok(Instruction::Fused {
+        op,
+        dst: byte(s, 5),
+        a: byte(s, 6),
+        b: byte(s, 7),
+        c: byte(s, 8),
+    })
+}
+
+// Kind 8.
+#[tactic(auto, unfolding(mir::specs::Kinds::if_else_from))]
+pub fn read_if_else(s: &[u8], listing: bool) -> Result<Instruction, Refusal>
     ensures { as_read result ≡ if_else_from «listing» Instruction.IfElse s.now }
 {
     if above(s, 4, 3, last_register(listing)) {
-        return ReadInstruction::Refused(3);
+        return Err(Refusal::BadRegister);
     }
-    match read_cond_place(s, 7) {
-        Place::At(loc) => ReadInstruction::Got(Instruction::IfElse {
-            dst: byte(s, 4),
-            true_val: byte(s, 5),
-            false_val: byte(s, 6),
-            cond: loc,
-        }),
-        Place::Bad => ReadInstruction::Refused(4),
-    }
+    let cond = read_cond_place(s, 7)?;
+    Ok(Instruction::IfElse {
+        dst: byte(s, 4),
+        true_val: byte(s, 5),
+        false_val: byte(s, 6),
+        cond,
+    })
 }

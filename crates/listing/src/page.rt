@@ -4,7 +4,7 @@ ghost use Rattle.records.specs.Record.{records};
 ghost use Rattle.text.specs.Text.{constant_lines, record_lines, page};
 ghost use Rattle.text.specs.Puts.{Puts};
 
-use records::reader::{NextRecord, read_record};
+use records::reader::read_record;
 use text::line::Line;
 use text::lines::{constant_line, constants_heading, listing_heading, record_line};
 
@@ -37,8 +37,7 @@ fn count_records(listing: &[u8], count: usize) -> u64
     let mut at: usize = 0;
     let mut n: u64 = 0;
     while at < listing.len() {
-        let q = read_record(listing, at, count);
-        let NextRecord::Got(record, next) = q else {
+        let Ok((_, next)) = read_record(listing, at, count) else {
             return n;
         };
         at = next;
@@ -55,8 +54,7 @@ fn put_records(out: &mut [u8], start: usize, listing: &[u8], count: usize) -> us
     let mut at = start;
     let mut from: usize = 0;
     while from < listing.len() {
-        let q = read_record(listing, from, count);
-        let NextRecord::Got(record, next) = q else {
+        let Ok((record, next)) = read_record(listing, from, count) else {
             return at;
         };
         at = put_line(out, at, record_line(record));

@@ -3,7 +3,7 @@ ghost use Rattle.std.specs.Prelude.{◌≡◌, length};
 ghost use Rattle.player_work.specs.Encoded.{save_encoded, save_complex_encoded, encoded};
 ghost use Rattle.look.specs.Standing.{FillsOf, ShownOf};
 
-use mir::fields::{Place, byte, read_place, u16_at};
+use mir::fields::{byte, read_place, u16_at};
 use player_work::exec;
 use player_work::words::{get, place};
 use words::put_words;
@@ -43,8 +43,8 @@ fn save_fills(s: &[u8]) -> Filled
     ensures { FillsOf (save_encoded s.now) result }
 {
     match read_place(s, 5) {
-        Place::At(loc) => one(place(loc)),
-        Place::Bad => one(0),
+        Ok(loc) => one(place(loc)),
+        Err(_) => one(0),
     }
 }
 
@@ -53,11 +53,11 @@ fn save_complex_fills(s: &[u8]) -> Filled
     ensures { FillsOf (save_complex_encoded s.now) result }
 {
     match read_place(s, 6) {
-        Place::At(loc) => {
+        Ok(loc) => {
             let i = place(loc);
             two(i, i + 1)
         }
-        Place::Bad => one(0),
+        Err(_) => one(0),
     }
 }
 

@@ -10,7 +10,7 @@ ghost use Rattle.look_record.specs.Looks.{record_part, word_part, next_line, loo
 
 use files::start::start_of;
 use look::call::tulipcricket_look_unguarded;
-use records::reader::{NextRecord, read_record};
+use records::reader::read_record;
 use reports::{refusal_line, word_line};
 use text::line::{Line, empty_line};
 use text::lines::record_line;
@@ -24,8 +24,7 @@ fn record_part(listing: &[u8], count: usize, start: u64) -> Line
     let mut at: usize = 0;
     let mut left = start;
     while at < listing.len() {
-        let q = read_record(listing, at, count);
-        let NextRecord::Got(record, next) = q else {
+        let Ok((record, next)) = read_record(listing, at, count) else {
             return empty_line();
         };
         if left == 0 {

@@ -1,15 +1,14 @@
 -- Tables: a test that antt computes over the whole table holds at each entry; and the tables of operations are read as the definitions say.
 use Prim.Native.Nat.{ℕ, zero, suc, ◌<◌, ◌≤◌}
-use mathlib.Core.Path.{◌≡◌, refl, ap, ◌∙◌}
-use mathlib.Core.Bool.{Bool, true, false, not, cond, ◌&&◌}
-use mathlib.Core.List.{List, [], ◌∷◌, map}
+use mathlib.Core.Path.{◌≡◌, refl, ap}
+use mathlib.Core.Bool.{Bool, true, false, not, ◌&&◌}
+use mathlib.Core.List.{List, [], ◌∷◌}
 use native.Mathlib.Nat.{not-suc-le-zero}
 use native.Mathlib.Omega.{arith}
-use lib.Dec.{T, eqb}
+use lib.Dec.{T}
 use lib.ListN.{length, get_or}
 use Rattle.mir.specs.Read.{got, refused, refuse}
 use Rattle.mir.specs.Operation.{taken}
-use Rattle.mir.proofs.Passing.{either}
 
 pub and_left : (a b : Bool) → T (a && b) → T a
 and_left true b t = tt
@@ -35,18 +34,9 @@ taken_past takes [] n h = refl
 taken_past takes (op ∷ ops) zero h = absurd (not-suc-le-zero h)
 taken_past takes (op ∷ ops) (suc n) h = taken_past takes ops n (omega arith)
 
--- by tables of the operations, and of whether a sheet and whether a listing takes each; t is their answer at a number
-abbrev pub flag : Bool → ℕ
-flag true = 1
-flag false = 0
-
-flagged : (b : Bool) (f : Bool → Bool) → eqb (cond b (flag (f true)) (flag (f false))) 1 ≡ f b
-flagged true f = either (f true) (λ e. simp e) (λ e. simp e)
-flagged false f = either (f false) (λ e. simp e) (λ e. simp e)
-
-pub taken_at : {A : Type 0} (takes : Bool → A → Bool) (ops : List A) (n : ℕ) (d : A) (b t : Bool) → n < length ops
-    → t ≡ eqb (cond b (get_or (map (λ op. flag (takes true op)) ops) n 0) (get_or (map (λ op. flag (takes false op)) ops) n 0)) 1
-    → refuse (not t) 2 (got (get_or ops n d)) ≡ taken (takes b) ops n
-taken_at takes [] n d b t h e = absurd (not-suc-le-zero h)
-taken_at takes (op ∷ ops) zero d b t h e = ap (λ t. refuse (not t) 2 (got op)) (e ∙ flagged b (λ b. takes b op))
-taken_at takes (op ∷ ops) (suc n) d b t h e = taken_at takes ops n d b t (omega arith) e
+-- the operation of a number, where it is taken
+pub taken_read : {A : Type 0} (takes : A → Bool) (ops : List A) (n : ℕ) (op : A) → n < length ops → op ≡ get_or ops n op
+    → refuse (not (takes op)) 2 (got op) ≡ taken takes ops n
+taken_read takes [] n op h e = absurd (not-suc-le-zero h)
+taken_read takes (o ∷ ops) zero op h e = ap (λ op. refuse (not (takes op)) 2 (got op)) e
+taken_read takes (o ∷ ops) (suc n) op h e = taken_read takes ops n op (omega arith) e

@@ -1,5 +1,7 @@
 -- Records one after the other, by a reader of the bytes that begin with a record. Both readers, of sheets and of listings, are used so.
-use Rattle.std.specs.Prelude.{ℕ, zero, suc, pred, ◌+◌, List, [], ◌∷◌, drop}
+use Rattle.std.specs.Prelude.{ℕ, zero, suc, pred, ◌+◌, List, [], ◌∷◌, drop, Ok, Err, Result}
+use Rattle.mir.specs.declared.refusal.Refusal.{Refusal}
+use Rattle.mir.specs.Refusal.{number}
 use Rattle.mir.specs.Read.{Read, got, refused, and_then}
 use Rattle.mir.specs.Field.{u16_at}
 
@@ -11,6 +13,11 @@ pub record Item (A : Type 0) : Type 0 where
 unfoldable pub read_at : {A : Type 0} → (List ℕ → Read A) → List ℕ → ℕ → Read (Item A)
 unfolding u16_at
 read_at read s at = and_then (read (drop at s)) (λ a. got (record { item = a; next = at + u16_at (drop at s) 0 }))
+
+-- the answer of a reader at a position in the code: what it found and the position after it, or the number that refuses it
+abbrev pub as_next : {A : Type 0} → Result (A × ℕ) Refusal → Read (Item A)
+as_next (Ok (a, next)) = got (record { item = a; next = next })
+as_next (Err e) = refused (number e)
 
 -- "The first refused record ends the work": the items up to it, and the number that refuses it (0: none is refused)
 pub record Decoded (A : Type 0) : Type 0 where

@@ -1,8 +1,6 @@
 -- The fields of a record, from the bytes that begin with it (document 01, Sheet, and the numbers 1, 2 and 4 of its table).
 use Rattle.std.specs.Prelude.{ℕ, zero, suc, ◌+◌, ◌*◌, Bool, true, false, not, cond, ◌&&◌, ◌||◌, List, [], ◌∷◌, length, get_or, ltb, leb, eqb}
 use Rattle.mir.specs.declared.records.Loc.{Loc}
-use Rattle.mir.specs.declared.fields.Head.{Head}
-use Rattle.mir.specs.declared.fields.Place.{Place}
 use Rattle.mir.specs.Length.{length_of}
 use Rattle.mir.specs.Read.{Read, got, refused, refuse, and_then}
 
@@ -66,12 +64,3 @@ on_stack (Loc.Param i) = refused 4
 
 unfoldable pub cond_place : List ℕ → ℕ → Read Loc
 cond_place s i = and_then (place_at s i) on_stack
-
--- the answers of the code
-abbrev pub as_head : Head → Read ℕ
-as_head (Head.Kind k) = got k
-as_head (Head.Refused n) = refused n
-
-abbrev pub as_place : Place → Read Loc
-as_place (Place.At l) = got l
-as_place Place.Bad = refused 4

@@ -4,6 +4,7 @@ pub mod Operation
 pub mod Takes
 pub mod Length
 pub mod Read
+pub mod Refusal
 pub mod Field
 pub mod Kinds
 pub mod Encode

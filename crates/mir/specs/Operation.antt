@@ -1,13 +1,9 @@
 -- "Operations are numbered by position, from 0, in the enums of mir.rs" (document 01, Sheet).
 use Rattle.std.specs.Prelude.{ℕ, zero, suc, Bool, not, List, [], ◌∷◌}
 use Rattle.mir.specs.declared.ops.UniOp.{UniOp}
-use Rattle.mir.specs.declared.ops.FoundUni.{FoundUni}
 use Rattle.mir.specs.declared.ops.BinOp.{BinOp}
-use Rattle.mir.specs.declared.ops.FoundBin.{FoundBin}
 use Rattle.mir.specs.declared.ops.ArithOp.{ArithOp}
-use Rattle.mir.specs.declared.ops.FoundArith.{FoundArith}
 use Rattle.mir.specs.declared.ops.FusedOp.{FusedOp}
-use Rattle.mir.specs.declared.ops.FoundFused.{FoundFused}
 use Rattle.mir.specs.Read.{Read, got, refused, refuse}
 
 -- UniOp, the operations of one operand: the enum's order
@@ -94,20 +90,3 @@ abbrev pub taken : {A : Type 0} → (A → Bool) → List A → ℕ → Read A
 taken takes [] n = refused 2
 taken takes (op ∷ ops) zero = refuse (not (takes op)) 2 (got op)
 taken takes (op ∷ ops) (suc n) = taken takes ops n
-
--- the answers of the code
-abbrev pub as_uni : FoundUni → Read UniOp
-as_uni (FoundUni.Op op) = got op
-as_uni FoundUni.Nothing = refused 2
-
-abbrev pub as_bin : FoundBin → Read BinOp
-as_bin (FoundBin.Op op) = got op
-as_bin FoundBin.Nothing = refused 2
-
-abbrev pub as_arith : FoundArith → Read ArithOp
-as_arith (FoundArith.Op op) = got op
-as_arith FoundArith.Nothing = refused 2
-
-abbrev pub as_fused : FoundFused → Read FusedOp
-as_fused (FoundFused.Op op) = got op
-as_fused FoundFused.Nothing = refused 2

@@ -1,10 +1,12 @@
 // The fields of a record, read from the bytes that begin with it. A byte past the end is read as 0.
 ghost use Rattle.std.specs.Prelude.{◌≡◌, ◌+◌, ◌*◌, get_or};
 ghost use Rattle.mir.specs.Read as Read;
-ghost use Rattle.mir.specs.Field.{byte_at, bytes_at, u16_at, among, takes_kind, head_from, place_at, save_place, cond_place, as_head, as_place};
+ghost use Rattle.mir.specs.Refusal.{as_read};
+ghost use Rattle.mir.specs.Field.{byte_at, bytes_at, u16_at, takes_kind, head_from, place_at, save_place, cond_place};
 
 use super::lengths::length_of;
 use super::records::Loc;
+use super::refusal::Refusal;
 
 pub fn byte(s: &[u8], i: usize) -> u8
     ensures { result ≡ byte_at s.now i }
@@ -16,19 +18,17 @@ pub fn byte(s: &[u8], i: usize) -> u8
 pub fn above(s: &[u8], i: u8, n: u8, last: u8) -> bool
     ensures { result ≡ Read.above last (bytes_at s.now i n) }
 {
-    let mut at = i as usize;
-    let mut left = n;
-    while 0 < left {
+    let first = i as usize;
+    for at in first..first + n as usize {
         if last < byte(s, at) {
             return true;
         }
-        at += 1;
-        left -= 1;
     }
     false
 }
 
 // Two bytes, little-endian.
+#[tactic(auto, unfolding(crate::specs::Field::u16_at))]
 pub fn u16_at(s: &[u8], i: u8) -> u16
     ensures { result ≡ u16_at s.now i }
 {
@@ -38,73 +38,47 @@ pub fn u16_at(s: &[u8], i: u8) -> u16
     (low as u16) + 256 * (high as u16)
 }
 
-// Whether a kind is one of first to last.
-fn between(first: u16, last: u16, kind: u16) -> bool
-    ensures { result ≡ among first last kind }
-{
-    if first <= kind { kind <= last } else { false }
-}
-
 // Whether a listing, or a sheet, takes a kind.
+#[tactic(auto, unfolding(crate::specs::Field::takes_kind, crate::specs::Field::among))]
 pub fn takes_kind(in_listing: bool, kind: u16) -> bool
     ensures { result ≡ takes_kind in_listing kind }
 {
     if in_listing {
-        if between(1, 8, kind) {
-            return true;
-        }
-        return between(11, 17, kind);
+        matches!(kind, 1..=8 | 11..=17)
+    } else {
+        matches!(kind, 0..=10 | 14..=15 | 17)
     }
-    if between(0, 10, kind) {
-        return true;
-    }
-    if between(14, 15, kind) {
-        return true;
-    }
-    between(17, 17, kind)
 }
 
-// A record's kind, or the number that refuses the record.
-#[derive(Clone, Copy)]
-pub enum Head {
-    Kind(u16),
-    Refused(u8),
-}
-
-// The tests that come before a record's fields: a readable length, a kind that is taken, and that kind's length.
-pub fn read_head(s: &[u8], in_listing: bool) -> Head
-    ensures { as_head result ≡ head_from (takes_kind in_listing) s.now }
+// A record's kind. The tests come before a record's fields: a readable length, a kind that is taken, and that kind's length.
+#[tactic(auto, unfolding(crate::specs::Field::head_from))]
+pub fn read_head(s: &[u8], in_listing: bool) -> Result<u16, Refusal>
+    ensures { as_read result ≡ head_from (takes_kind in_listing) s.now }
 {
     if s.len() < 4 {
-        return Head::Refused(1);
+        return Err(Refusal::TornRecord);
     }
     let n = u16_at(s, 0);
     if n < 4 {
-        return Head::Refused(1);
+        return Err(Refusal::TornRecord);
     }
     if s.len() < n as usize {
-        return Head::Refused(1);
+        return Err(Refusal::TornRecord);
     }
     let kind = u16_at(s, 2);
-    if takes_kind(in_listing, kind) {
-        if length_of(kind) as u16 != n {
-            return Head::Refused(1);
-        }
-        return Head::Kind(kind);
+    if !takes_kind(in_listing, kind) {
+        return Err(Refusal::UnknownWork);
     }
-    Head::Refused(2)
-}
-
-#[derive(Clone, Copy)]
-pub enum Place {
-    At(Loc),
-    Bad,
+    if length_of(kind) as u16 != n {
+        return Err(Refusal::TornRecord);
+    }
+    Ok(kind)
 }
 
 // A place of any class.
 #[tactic(auto, unfolding(crate::specs::Field::place_at, crate::specs::Field::u16_at))]
-pub fn read_place(s: &[u8], i: u8) -> Place
-    ensures { as_place result ≡ place_at s.now i }
+pub fn read_place(s: &[u8], i: u8) -> Result<Loc, Refusal>
+    ensures { as_read result ≡ place_at s.now i }
 {
     let at = i as usize;
     let class = byte(s, at);
@@ -112,44 +86,36 @@ pub fn read_place(s: &[u8], i: u8) -> Place
     let high = byte(s, at + 1 + 1);
     let index = (low as u16) + 256 * (high as u16);
     if 255 < index {
-        return Place::Bad;
+        return Err(Refusal::BadPlace);
     }
-    if class == 0 {
-        return Place::At(Loc::Stack(index));
+    match class {
+        0 => Ok(Loc::Stack(index)),
+        1 => Ok(Loc::Mem(index)),
+        2 => Ok(Loc::Param(index)),
+        _ => Err(Refusal::BadPlace),
     }
-    if class == 1 {
-        return Place::At(Loc::Mem(index));
-    }
-    if class == 2 {
-        return Place::At(Loc::Param(index));
-    }
-    Place::Bad
 }
 
 // A place that is saved to.
-pub fn read_save_place(s: &[u8], i: u8) -> Place
-    ensures { as_place result ≡ save_place s.now i }
+#[tactic(auto, unfolding(crate::specs::Field::save_place))]
+pub fn read_save_place(s: &[u8], i: u8) -> Result<Loc, Refusal>
+    ensures { as_read result ≡ save_place s.now i }
 {
-    match read_place(s, i) {
-        Place::At(loc) => match loc {
-            Loc::Stack(index) => Place::At(Loc::Stack(index)),
-            Loc::Mem(index) => Place::At(Loc::Mem(index)),
-            Loc::Param(_) => Place::Bad,
-        },
-        Place::Bad => Place::Bad,
+    let loc = read_place(s, i)?;
+    match loc {
+        Loc::Stack(_) | Loc::Mem(_) => Ok(loc),
+        Loc::Param(_) => Err(Refusal::BadPlace),
     }
 }
 
 // The place of a condition.
-pub fn read_cond_place(s: &[u8], i: u8) -> Place
-    ensures { as_place result ≡ cond_place s.now i }
+#[tactic(auto, unfolding(crate::specs::Field::cond_place))]
+pub fn read_cond_place(s: &[u8], i: u8) -> Result<Loc, Refusal>
+    ensures { as_read result ≡ cond_place s.now i }
 {
-    match read_place(s, i) {
-        Place::At(loc) => match loc {
-            Loc::Stack(index) => Place::At(Loc::Stack(index)),
-            Loc::Mem(_) => Place::Bad,
-            Loc::Param(_) => Place::Bad,
-        },
-        Place::Bad => Place::Bad,
+    let loc = read_place(s, i)?;
+    match loc {
+        Loc::Stack(_) => Ok(loc),
+        Loc::Mem(_) | Loc::Param(_) => Err(Refusal::BadPlace),
     }
 }

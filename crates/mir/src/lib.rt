@@ -5,5 +5,6 @@ pub mod fields;
 pub mod lengths;
 pub mod ops;
 pub mod records;
+pub mod refusal;
 pub mod registers;
 pub mod writer;

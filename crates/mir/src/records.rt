@@ -12,25 +12,25 @@ pub enum Loc {
     Param(u16),
 }
 
-// The class byte of a place.
-pub fn loc_class(loc: Loc) -> u8
-    ensures { result ≡ class loc }
-{
-    match loc {
-        Loc::Stack(_) => 0,
-        Loc::Mem(_) => 1,
-        Loc::Param(_) => 2,
+impl Loc {
+    // The class byte of a place.
+    pub fn class(self) -> u8
+        ensures { result ≡ class self }
+    {
+        match self {
+            Loc::Stack(_) => 0,
+            Loc::Mem(_) => 1,
+            Loc::Param(_) => 2,
+        }
     }
-}
 
-// The index of a place.
-pub fn loc_index(loc: Loc) -> u16
-    ensures { result ≡ index loc }
-{
-    match loc {
-        Loc::Stack(i) => i,
-        Loc::Mem(i) => i,
-        Loc::Param(i) => i,
+    // The index of a place.
+    pub fn index(self) -> u16
+        ensures { result ≡ index self }
+    {
+        match self {
+            Loc::Stack(i) | Loc::Mem(i) | Loc::Param(i) => i,
+        }
     }
 }
 

@@ -8,6 +8,7 @@ pub const RET: u8 = 30;
 pub const TEMP: u8 = 31;
 
 // The listing register of the real half of a sheet's register.
+#[tactic(auto, unfolding(crate::specs::Register::re))]
 pub fn re(r: u8) -> u8
     ensures { result ≡ Register.re r }
 {
@@ -18,6 +19,7 @@ pub fn re(r: u8) -> u8
 }
 
 // The listing register of the imaginary half of a sheet's register.
+#[tactic(auto, unfolding(crate::specs::Register::im))]
 pub fn im(r: u8) -> u8
     ensures { result ≡ Register.im r }
 {

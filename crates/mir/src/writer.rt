@@ -8,10 +8,8 @@ ghost use Rattle.mir.specs.declared.records.Work.{Work};
 ghost use Rattle.mir.specs.declared.records.Record.{Record};
 
 use super::lengths::LENGTHS;
-use super::ops::{
-    ArithOp, BinOp, FusedOp, UniOp, arith_number, bin_number, fused_number, uni_number,
-};
-use super::records::{Loc, Work, loc_class, loc_index};
+use super::ops::{ArithOp, BinOp, FusedOp, Operation, UniOp};
+use super::records::{Loc, Work};
 
 fn low(n: u16) -> u8
     ensures { result ≡ n % 256 }
@@ -59,14 +57,14 @@ fn put(out: &mut [u8], at: usize, kind: u8, f: [u8; 7]) -> usize
 pub fn push_uni(out: &mut [u8], at: usize, op: UniOp, dst: u8, s1: u8) -> usize
     ensures { buf out.new result ≡ pushed (buf out.old at) (Record.Work (Work.Uni op dst s1)) }
 {
-    let n = uni_number(op);
+    let n = op.number();
     put(out, at, 1, [n, dst, s1, 0, 0, 0, 0])
 }
 
 pub fn push_bi(out: &mut [u8], at: usize, op: BinOp, dst: u8, s1: u8, s2: u8) -> usize
     ensures { buf out.new result ≡ pushed (buf out.old at) (Record.Work (Work.Bi op dst s1 s2)) }
 {
-    let n = bin_number(op);
+    let n = op.number();
     put(out, at, 2, [n, dst, s1, s2, 0, 0, 0])
 }
 
@@ -79,8 +77,8 @@ pub fn push_mov(out: &mut [u8], at: usize, dst: u8, s1: u8) -> usize
 pub fn push_load(out: &mut [u8], at: usize, dst: u8, loc: Loc) -> usize
     ensures { buf out.new result ≡ pushed (buf out.old at) (Record.Work (Work.Load dst loc)) }
 {
-    let k = loc_class(loc);
-    let i = loc_index(loc);
+    let k = loc.class();
+    let i = loc.index();
     let l = low(i);
     let h = high(i);
     put(out, at, 4, [dst, k, l, h, 0, 0, 0])
@@ -89,8 +87,8 @@ pub fn push_load(out: &mut [u8], at: usize, dst: u8, loc: Loc) -> usize
 pub fn push_save(out: &mut [u8], at: usize, src: u8, loc: Loc) -> usize
     ensures { buf out.new result ≡ pushed (buf out.old at) (Record.Work (Work.Save src loc)) }
 {
-    let k = loc_class(loc);
-    let i = loc_index(loc);
+    let k = loc.class();
+    let i = loc.index();
     let l = low(i);
     let h = high(i);
     put(out, at, 5, [src, k, l, h, 0, 0, 0])
@@ -107,7 +105,7 @@ pub fn push_load_const(out: &mut [u8], at: usize, dst: u8, idx: u16) -> usize
 pub fn push_fused(out: &mut [u8], at: usize, op: FusedOp, dst: u8, a: u8, b: u8, c: u8) -> usize
     ensures { buf out.new result ≡ pushed (buf out.old at) (Record.Work (Work.Fused op dst a b c)) }
 {
-    let n = fused_number(op);
+    let n = op.number();
     put(out, at, 7, [n, dst, a, b, c, 0, 0])
 }
 
@@ -121,8 +119,8 @@ pub fn push_if_else(
 ) -> usize
     ensures { buf out.new result ≡ pushed (buf out.old at) (Record.Work (Work.IfElse dst true_val false_val cond)) }
 {
-    let k = loc_class(cond);
-    let i = loc_index(cond);
+    let k = cond.class();
+    let i = cond.index();
     let l = low(i);
     let h = high(i);
     put(out, at, 8, [dst, true_val, false_val, k, l, h, 0])
@@ -131,8 +129,8 @@ pub fn push_if_else(
 pub fn push_load_complex(out: &mut [u8], at: usize, xd: u8, yd: u8, loc: Loc) -> usize
     ensures { buf out.new result ≡ pushed (buf out.old at) (Record.Work (Work.LoadComplex xd yd loc)) }
 {
-    let k = loc_class(loc);
-    let i = loc_index(loc);
+    let k = loc.class();
+    let i = loc.index();
     let l = low(i);
     let h = high(i);
     put(out, at, 11, [xd, yd, k, l, h, 0, 0])
@@ -141,8 +139,8 @@ pub fn push_load_complex(out: &mut [u8], at: usize, xd: u8, yd: u8, loc: Loc) ->
 pub fn push_save_complex(out: &mut [u8], at: usize, xs: u8, ys: u8, loc: Loc) -> usize
     ensures { buf out.new result ≡ pushed (buf out.old at) (Record.Work (Work.SaveComplex xs ys loc)) }
 {
-    let k = loc_class(loc);
-    let i = loc_index(loc);
+    let k = loc.class();
+    let i = loc.index();
     let l = low(i);
     let h = high(i);
     put(out, at, 12, [xs, ys, k, l, h, 0, 0])
@@ -161,7 +159,7 @@ pub fn push_complex_bi(
 ) -> usize
     ensures { buf out.new result ≡ pushed (buf out.old at) (Record.Work (Work.ComplexBi op xd yd x1 y1 x2 y2)) }
 {
-    let n = arith_number(op);
+    let n = op.number();
     put(out, at, 13, [n, xd, yd, x1, y1, x2, y2])
 }
 

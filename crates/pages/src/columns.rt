@@ -7,7 +7,7 @@ ghost use Rattle.pages.specs.Pages.{spaces, right, row_line, blank_line, constan
 ghost use Rattle.pages.specs.Standing.{rows_at, FirstLine};
 
 use mir::records::Record;
-use records::reader::{NextRecord, read_record};
+use records::reader::read_record;
 use text::line::{Line, empty_line};
 use text::put::put_line;
 
@@ -91,13 +91,12 @@ fn line_at(constants: &[u64], listing: &[u8], i: usize, from: usize) -> LineAt
             next: from,
         };
     }
-    let q = read_record(listing, from, constants.len());
-    match q {
-        NextRecord::Got(record, next) => LineAt {
+    match read_record(listing, from, constants.len()) {
+        Ok((record, next)) => LineAt {
             line: record_line(i - constants.len(), record),
             next: next,
         },
-        NextRecord::Refused(_) => LineAt {
+        Err(_) => LineAt {
             line: blank_line(),
             next: from,
         },

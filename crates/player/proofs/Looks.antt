@@ -1,4 +1,4 @@
--- What is known of the record at a position: by its summary, in the first pass, and by its work, in a play.
+-- What is known of the record at a position: by its step, in the first pass, and by its work, in a play.
 use Prim.Native.Nat.{ℕ, ◌+◌, ◌-◌, ◌<◌}
 use mathlib.Core.Path.{◌≡◌, refl, sym, ap, ◌∙◌, subst}
 use mathlib.Core.Bool.{Bool, true, false, true≢false}
@@ -8,11 +8,15 @@ use Rattle.mir.specs.declared.records.Work.{Work}
 use Rattle.mir.specs.declared.records.Record.{Record}
 use Rattle.mir.specs.Read.{Read, got, refused}
 use Rattle.mir.specs.Field.{u16_at}
+use Rattle.mir.specs.declared.refusal.Refusal.{Refusal}
+use Rattle.mir.specs.Refusal.{number, as_read}
+use Rattle.mir.proofs.Passing.{got_same, clash}
 use Rattle.mir.proofs.Parts.{part}
+use Rattle.std.specs.Prelude.{Ok, Err, Result}
 use Rattle.mir.proofs.Decoding.{Here, Done}
-use Rattle.records.specs.declared.reader.Summary.{Summary}
+use Rattle.records.specs.declared.reader.Step.{Step}
 use Rattle.records.specs.Record.{record_from}
-use Rattle.records.specs.Summary.{summary_of}
+use Rattle.records.specs.Step.{step_of, step_from}
 use Rattle.records.proofs.Reading.{here-read, torn-read}
 use Rattle.records.proofs.Refusals.{Found, refused-by, looked}
 use Rattle.player_machine.specs.Machine.{Store, exec, is_label}
@@ -23,9 +27,9 @@ use Rattle.player.specs.Encoded.{jump_encoded, jump_in}
 use Rattle.player.proofs.Encoding as Jump
 use Rattle.player.specs.Positions.{fault, label_seen, jump_seen, Jumps}
 
--- ---- a summary
+-- ---- a step
 
-pub label-seen : (l : ℕ) (r : Record) → label_seen l (summary_of (got r)) ≡ is_label l r
+pub label-seen : (l : ℕ) (r : Record) → label_seen l (step_of r) ≡ is_label l r
 unfolding is_label
 label-seen l (Record.Work w) = refl
 label-seen l (Record.Label m) = refl
@@ -33,18 +37,18 @@ label-seen l (Record.Branch m) = refl
 label-seen l (Record.Call m) = refl
 label-seen l (Record.BranchIf c m e) = refl
 
-pub jump-seen : (r : Record) → jump_seen (summary_of (got r)) ≡ is_jump r
+pub jump-seen : (r : Record) → jump_seen (step_of r) ≡ is_jump r
 jump-seen (Record.Work w) = refl
 jump-seen (Record.Label m) = refl
 jump-seen (Record.Branch m) = refl
 jump-seen (Record.Call m) = refl
 jump-seen (Record.BranchIf c m e) = refl
 
--- the record that a summary is of, and n bytes long
-pub record Summarized (count : ℕ) (s : List ℕ) (at n : ℕ) (q : Summary) : Type 0 where
+-- the record that a step is of, and n bytes long
+pub record Stepped (count : ℕ) (s : List ℕ) (at n : ℕ) (q : Step) : Type 0 where
   pub rec : Record
   pub here : Here (record_from count) s at rec (at + n)
-  pub summary : q ≡ summary_of (got rec)
+  pub same : q ≡ step_of rec
 
 -- the first two bytes, of the code's part of the slice
 on_by : (count : ℕ) {s : List ℕ} {at n : ℕ} {rec : Record} → n ≡ u16_at (take (length s - at) (drop at s)) 0
@@ -52,29 +56,25 @@ on_by : (count : ℕ) {s : List ℕ} {at n : ℕ} {rec : Record} → n ≡ u16_a
 on_by count {s} {at} {n} {rec} w h =
     subst (λ k. Here (record_from count) s at rec (at + k)) (sym (w ∙ ap (λ l. u16_at l 0) (part s at))) h
 
-module _ (count : ℕ) (s : List ℕ) (at : ℕ) (q : Summary) (e : q ≡ summary_of (record_from count (take (length s - at) (drop at s)))) where
-  whole-summary : q ≡ summary_of (record_from count (drop at s))
-  whole-summary = e ∙ ap (λ l. summary_of (record_from count l)) (part s at)
+module _ (count : ℕ) (s : List ℕ) (at : ℕ) (r : Result Step Refusal) (e : as_read r ≡ step_from (record_from count (take (length s - at) (drop at s)))) where
+  whole-step : as_read r ≡ step_from (record_from count (drop at s))
+  whole-step = e ∙ ap (λ l. step_from (record_from count l)) (part s at)
 
-  pub summarized : {n : ℕ} → n ≡ u16_at (take (length s - at) (drop at s)) 0 → q.number ≡ 0 → Summarized count s at n q
-  summarized w h =
-      let f = looked count (drop at s) (ap (λ q. q.number) (sym whole-summary) ∙ h) in
-      record { rec = f.rec; here = on_by count w (here-read count s at f.rec f.is); summary = whole-summary ∙ ap summary_of f.is }
+  pub stepped : {n : ℕ} {q : Step} → n ≡ u16_at (take (length s - at) (drop at s)) 0 → r ≡ Ok q → Stepped count s at n q
+  stepped {n} {q} w h =
+      let g = sym (ap as_read h) ∙ whole-step in
+      let f = looked count (drop at s) q g in
+      record { rec = f.rec; here = on_by count w (here-read count s at f.rec f.is); same = got_same _ _ (g ∙ ap step_from f.is) }
 
-  unseen : (r : Read Record) → record_from count (drop at s) ≡ r → (q.number ≡ 0 → ⊥) → at < length s → Done (record_from count) s at q.number
-  unseen (got r) f n h = absurd (n (ap (λ q. q.number) (whole-summary ∙ ap summary_of f) ∙ zero_number r))
-    where
-      zero_number : (r : Record) → (summary_of (got r)).number ≡ 0
-      zero_number (Record.Work w) = refl
-      zero_number (Record.Label m) = refl
-      zero_number (Record.Branch m) = refl
-      zero_number (Record.Call m) = refl
-      zero_number (Record.BranchIf c m e) = refl
-  unseen (refused k) f n h =
-      subst (λ k. Done (record_from count) s at k) (sym (ap (λ q. q.number) (whole-summary ∙ ap summary_of f))) (torn-read count s at k f h)
+  unseen : (x : Read Record) (k : Refusal) → record_from count (drop at s) ≡ x → r ≡ Err k → at < length s → Done (record_from count) s at (number k)
+  unseen (got x) k f n h = absurd (clash (number k) (step_of x) (sym (ap as_read n) ∙ whole-step ∙ ap step_from f))
+  unseen (refused m) k f n h =
+      let g : ◌≡◌ {A = Read Step} (refused (number k)) (refused m) = sym (ap as_read n) ∙ whole-step ∙ ap step_from f in
+      let z : m ≡ number k = cc in
+      subst (λ k. Done (record_from count) s at k) z (torn-read count s at m f h)
 
-  pub refused-summary : (q.number ≡ 0 → ⊥) → at < length s → Done (record_from count) s at q.number
-  refused-summary n h = unseen (record_from count (drop at s)) refl n h
+  pub refused-step : (k : Refusal) → r ≡ Err k → at < length s → Done (record_from count) s at (number k)
+  refused-step k n h = unseen (record_from count (drop at s)) k refl n h
 
 -- ---- a work
 

@@ -3,7 +3,7 @@ use Rattle.std.specs.Prelude.{ℕ, ◌+◌, ◌≤◌, ◌<◌, ◌≡◌, Bool,
 use Rattle.mir.specs.declared.records.Work.{Work}
 use Rattle.mir.specs.declared.records.Record.{Record}
 use Rattle.mir.specs.Read.{got}
-use Rattle.records.specs.declared.reader.Summary.{Summary}
+use Rattle.records.specs.declared.reader.Step.{Step}
 use Rattle.records.specs.Record.{record_from, records}
 use Rattle.player_machine.specs.Machine.{Store, End, execs, works, is_label, seek, ticks, play, going}
 use Rattle.player_machine.specs.Jumps.{bit, tally, is_jump, is_return, in_block, breaks, breach}
@@ -42,12 +42,20 @@ pub record Jumps (count : ℕ) (s : List ℕ) (at : ℕ) : Type 0 where
   pub here : record_from count (drop at s) ≡ got rec
   pub jump : is_jump rec ≡ true
 
--- what a record's summary tells of it
-abbrev pub jump_seen : Summary → Bool
-jump_seen q = not (eqb q.what 0)
+-- what a record's step tells of it
+abbrev pub jump_seen : Step → Bool
+jump_seen Step.Work = false
+jump_seen (Step.Label l) = true
+jump_seen (Step.Branch l) = true
+jump_seen (Step.Call l) = true
+jump_seen (Step.BranchIf l) = true
 
-abbrev pub label_seen : ℕ → Summary → Bool
-label_seen l q = cond (eqb q.what 1) (eqb q.label l) false
+abbrev pub label_seen : ℕ → Step → Bool
+label_seen l Step.Work = false
+label_seen l (Step.Label m) = eqb m l
+label_seen l (Step.Branch m) = false
+label_seen l (Step.Call m) = false
+label_seen l (Step.BranchIf m) = false
 
 -- the record behind the first Label 1, where the block begins
 pub record BlockStart (count : ℕ) (s : List ℕ) (r : ℕ) : Type 0 where

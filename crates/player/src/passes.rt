@@ -7,7 +7,7 @@ ghost use Rattle.player.specs.Encoded.{jump_encoded, such};
 ghost use Rattle.player.specs.Positions.{AtLabel, Behind, Examined, Sound, jump_seen, label_seen};
 
 use mir::fields::{byte, u16_at};
-use records::reader::{Summary, summarize};
+use records::reader::{Step, read_step};
 
 // Whether the record that bytes begin with is a Label of that number.
 pub fn encodes_label(s: &[u8], label: u8) -> bool
@@ -73,18 +73,18 @@ pub(crate) fn skip(listing: &[u8], from: usize, k: usize) -> usize
     at
 }
 
-// A Label, a Branch, a Call or a BranchIf, by its summary.
-fn jump_seen(q: Summary) -> bool
-    ensures { result ≡ jump_seen q }
+// A Label, a Branch, a Call or a BranchIf.
+fn jump_seen(step: Step) -> bool
+    ensures { result ≡ jump_seen step }
 {
-    q.what != 0
+    !matches!(step, Step::Work)
 }
 
-// A Label of that number, by its summary.
-fn label_seen(q: Summary, label: u8) -> bool
-    ensures { result ≡ label_seen label q }
+// A Label of that number.
+fn label_seen(step: Step, label: u8) -> bool
+    ensures { result ≡ label_seen label step }
 {
-    if q.what == 1 { q.label == label } else { false }
+    matches!(step, Step::Label(l) if l == label)
 }
 
 // Where the block begins: `next`, behind the Label 1 at hand, where none stood before.
@@ -120,20 +120,22 @@ pub fn examine(listing: &[u8], count: usize) -> Examination
     let mut body = end;
     while at < end {
         let s = &listing[at..];
-        let q = summarize(s, count);
-        if q.number != 0 {
-            return Examination {
-                number: q.number,
-                index: index,
-                jumps: jumps,
-                body: body,
-            };
-        }
+        let step = match read_step(s, count) {
+            Ok(step) => step,
+            Err(refusal) => {
+                return Examination {
+                    number: refusal.number(),
+                    index: index,
+                    jumps: jumps,
+                    body: body,
+                };
+            }
+        };
         let n = u16_at(s, 0);
         at += n as usize;
         index += 1;
-        jumps += one_if(jump_seen(q));
-        body = block_start(body, end, label_seen(q, 1), at);
+        jumps += one_if(jump_seen(step));
+        body = block_start(body, end, label_seen(step, 1), at);
     }
     Examination {
         number: 0,

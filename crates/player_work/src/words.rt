@@ -2,7 +2,7 @@
 ghost use Rattle.std.specs.Prelude.{◌≡◌, get_or, set};
 ghost use Rattle.player_machine.specs.Machine as Machine;
 
-use mir::records::{Loc, loc_class, loc_index};
+use mir::records::Loc;
 
 pub fn get(words: &[u64], i: usize) -> u64
     ensures { result ≡ get_or words.now i 0 }
@@ -35,7 +35,5 @@ pub fn put_register(store: &mut [u64], r: u8, v: u64)
 pub fn place(loc: Loc) -> usize
     ensures { result ≡ Machine.place loc }
 {
-    let class = loc_class(loc);
-    let index = loc_index(loc);
-    66 + (512 * (class as usize) + 2 * (index as usize))
+    66 + (512 * (loc.class() as usize) + 2 * (loc.index() as usize))
 }

@@ -7,12 +7,14 @@ use lib.ListN.{length, drop}
 use Rattle.mir.specs.declared.records.Record.{Record}
 use Rattle.mir.specs.Read.{Read, got, refused, and_then}
 use Rattle.mir.specs.Field.{u16_at, takes_kind, head_from}
-use Rattle.mir.specs.Decode.{Item, read_at}
+use Rattle.mir.specs.declared.refusal.Refusal.{Refusal}
+use Rattle.mir.specs.Refusal.{number}
+use Rattle.mir.specs.Decode.{Item, read_at, as_next}
+use Rattle.std.specs.Prelude.{Ok, Err, Result}
 use Rattle.mir.proofs.Passing.{then}
 use Rattle.mir.proofs.Heads.{headed}
 use Rattle.mir.proofs.Decoding.{Whole, Here, Done, here, torn}
-use Rattle.records.specs.declared.reader.NextRecord.{NextRecord}
-use Rattle.records.specs.Record.{fields_from, record_from, record_at, as_next}
+use Rattle.records.specs.Record.{fields_from, record_from, record_at}
 
 pub whole : (count : ℕ) → Whole (record_from count)
 unfolding record_from
@@ -22,14 +24,14 @@ whole count = record {
       (headed (takes_kind true) s t.first t.found).sized;
 }
 
-module _ (count : ℕ) (s : List ℕ) (at : ℕ) {r : NextRecord} where
-  pub here-record : {x : Record} {next : ℕ} → as_next r ≡ record_at count s at → r ≡ NextRecord.Got x next
+module _ (count : ℕ) (s : List ℕ) (at : ℕ) {r : Result (Record × ℕ) Refusal} where
+  pub here-record : {x : Record} {next : ℕ} → as_next r ≡ record_at count s at → r ≡ Ok (x, next)
       → Here (record_from count) s at x next
   here-record {x} {next} e f = here (record_from count) s at (whole count) x next (sym e ∙ ap as_next f)
 
-  pub torn-record : {k : ℕ} → as_next r ≡ record_at count s at → r ≡ NextRecord.Refused k → at < length s
-      → Done (record_from count) s at k
-  torn-record {k} e f h = torn (record_from count) s at k (sym e ∙ ap as_next f) h
+  pub torn-record : {k : Refusal} → as_next r ≡ record_at count s at → r ≡ Err k → at < length s
+      → Done (record_from count) s at (number k)
+  torn-record {k} e f h = torn (record_from count) s at (number k) (sym e ∙ ap as_next f) h
 
 -- the same of the record that the bytes from a position begin with
 module _ (count : ℕ) (s : List ℕ) (at : ℕ) where

@@ -1,12 +1,14 @@
--- No record is refused by 0: a record whose summary has the number 0 was read.
+-- No record is refused by 0; and a record whose step was found was read.
 use Prim.Native.Nat.{ℕ}
-use mathlib.Core.Path.{◌≡◌, refl, ap, ◌∙◌}
+use mathlib.Core.Path.{◌≡◌, refl, sym}
 use mathlib.Core.List.{List}
 use Rattle.mir.specs.declared.records.Record.{Record}
 use Rattle.mir.specs.Read.{Read, got, refused}
 use Rattle.mir.proofs.IfRead.{not-zero}
+use Rattle.mir.proofs.Passing.{clash}
 use Rattle.records.specs.Record.{record_from}
-use Rattle.records.specs.Summary.{summary_of}
+use Rattle.records.specs.declared.reader.Step.{Step}
+use Rattle.records.specs.Step.{step_from}
 use Rattle.records.proofs.Held.{one_held}
 
 module _ (count : ℕ) (s : List ℕ) where
@@ -19,10 +21,10 @@ module _ (count : ℕ) (s : List ℕ) where
     pub rec : Record
     pub is : record_from count s ≡ got rec
 
-  found : (r : Read Record) → record_from count s ≡ r → (summary_of r).number ≡ 0 → Found
-  found (got rec) e h = record { rec = rec; is = e }
-  found (refused n) e h = absurd (refused-by (e ∙ ap refused h))
+  found : (r : Read Record) (q : Step) → record_from count s ≡ r → got q ≡ step_from r → Found
+  found (got rec) q e h = record { rec = rec; is = e }
+  found (refused n) q e h = absurd (clash n q (sym h))
 
-  -- where the summary has the number 0, there is a record
-  pub looked : (summary_of (record_from count s)).number ≡ 0 → Found
-  looked h = found (record_from count s) refl h
+  -- where there is a step, there is a record
+  pub looked : (q : Step) → got q ≡ step_from (record_from count s) → Found
+  looked q h = found (record_from count s) q refl h

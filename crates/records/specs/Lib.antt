@@ -1,3 +1,3 @@
 pub mod Record
 pub mod Shared
-pub mod Summary
+pub mod Step

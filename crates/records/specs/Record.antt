@@ -9,8 +9,6 @@ use Rattle.mir.specs.Read.{Read, got, refused, refuse, and_then, registers}
 use Rattle.mir.specs.Field.{byte_at, bytes_at, takes_kind, head_from, place_at, save_place}
 use Rattle.mir.specs.Kinds.{uni_from, bi_from, mov_from, load_from, save_from, load_const_from, fused_from, if_else_from}
 use Rattle.mir.specs.Decode.{Item, read_at, Decoded, decoded}
-use Rattle.records.specs.declared.reader.ReadRecord.{ReadRecord}
-use Rattle.records.specs.declared.reader.NextRecord.{NextRecord}
 
 -- 11 LoadComplex: two registers, place
 unfoldable pub load_complex_from : List ℕ → Read Record
@@ -82,12 +80,3 @@ record_at count s at = read_at (record_from count) s at
 -- all records of a listing
 abbrev pub records : ℕ → List ℕ → Decoded Record
 records count s = decoded (record_from count) s
-
--- the answers of the code
-abbrev pub as_read : ReadRecord → Read Record
-as_read (ReadRecord.Got r) = got r
-as_read (ReadRecord.Refused n) = refused n
-
-abbrev pub as_next : NextRecord → Read (Item Record)
-as_next (NextRecord.Got r next) = got (record { item = r; next = next })
-as_next (NextRecord.Refused n) = refused n

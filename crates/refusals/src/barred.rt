@@ -5,7 +5,7 @@ ghost use Rattle.mir.specs.declared.ops.UniOp.{UniOp};
 ghost use Rattle.lowering.specs.Lower as Spec;
 
 use lowering::realness::Realness;
-use mir::ops::{ArithOp, BinOp, UniOp, bin_number, uni_number};
+use mir::ops::{ArithOp, BinOp, UniOp};
 use mir::records::Instruction;
 use mir::registers::{RET, TEMP};
 
@@ -42,7 +42,7 @@ fn barred_abs(stable: bool, a: u8, real: Realness) -> bool
 fn barred_uni(stable: bool, op: UniOp, a: u8, real: Realness) -> bool
     ensures { result ≡ Spec.barred_uni stable op a real }
 {
-    if uni_number(op) == uni_number(UniOp::Abs) {
+    if matches!(op, UniOp::Abs) {
         return barred_abs(stable, a, real);
     }
     false
@@ -51,7 +51,7 @@ fn barred_uni(stable: bool, op: UniOp, a: u8, real: Realness) -> bool
 fn barred_bin(stable: bool, op: BinOp, a: u8, b: u8, real: Realness) -> bool
     ensures { result ≡ Spec.barred_bin stable op a b real }
 {
-    if bin_number(op) == bin_number(BinOp::Divide) {
+    if matches!(op, BinOp::Divide) {
         let x = real.is_real_reg(b);
         return barred_divide(stable, a, b, x);
     }

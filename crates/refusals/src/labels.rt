@@ -8,7 +8,8 @@ ghost use Rattle.refusals.specs.Noted.{label_here, row, unlike, seen_in, mark_se
 
 use lowering::bytes::record_bytes;
 use lowering::realness::Realness;
-use mir::fields::{Head, byte, read_head, u16_at};
+use mir::fields::{byte, read_head, u16_at};
+use mir::refusal::Refusal;
 use words::put_bytes;
 
 // A label's marks: one stands ahead; branches to it stood, all with the records in its row; they stood with unlike records; it stood
@@ -40,8 +41,8 @@ fn is_torn(s: &[u8]) -> bool
     ensures { label_seen s.now ≡ cond result (refused 1) (got (label_here s.now)) }
 {
     match read_head(s, false) {
-        Head::Kind(kind) => false,
-        Head::Refused(number) => number == 1,
+        Ok(_) => false,
+        Err(refusal) => refusal == Refusal::TornRecord,
     }
 }
 
@@ -206,7 +207,7 @@ pub fn pass_at(sheet: &[u8], at: usize, real: Realness, marks: &mut [u8], rows: 
         return 0;
     }
     match read_head(s, false) {
-        Head::Kind(kind) => pass_kind(kind, s, real, marks, rows),
-        Head::Refused(number) => 0,
+        Ok(kind) => pass_kind(kind, s, real, marks, rows),
+        Err(_) => 0,
     }
 }

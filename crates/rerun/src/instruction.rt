@@ -13,7 +13,7 @@ use complexifier::state::{Complexifier, Listed};
 use mir::ops::{ArithOp, BinOp, UniOp};
 use mir::records::Instruction;
 use mir::registers::TEMP;
-use sheet::setup::{Mode, is_stable};
+use sheet::setup::Mode;
 
 // IsZero, IsNotZero: Temp made zero, then `eq` or `neq` with it.
 fn compare_zero(
@@ -55,7 +55,7 @@ fn rerun_uni(
     requires { length constants.now ≤ 256 }
     ensures { Ends (buf out.old at) low constants.now (rerun_uni mode op dst s1) out.new result }
 {
-    let stable = is_stable(mode);
+    let stable = mode.is_stable();
     match op {
         UniOp::Neg => no_constants(low.each(out, at, UniOp::Neg, dst, s1)),
         UniOp::Not => no_constants(low.not(out, at, dst, s1)),

@@ -1,13 +1,16 @@
 -- What is known of a sheet whose setup is right.
 use Prim.Native.Nat.{ℕ, zero, suc, ◌+◌, ◌*◌, ◌≤◌}
-use mathlib.Core.Path.{◌≡◌, refl, ap}
+use mathlib.Core.Path.{◌≡◌, refl, sym, ap, ◌∙◌}
 use mathlib.Core.List.{List}
 use native.Mathlib.Omega.{arith}
 use lib.ListN.{length, take, drop, length-take, length-drop}
+use Rattle.std.specs.Prelude.{Ok, Err, Result}
+use Rattle.mir.specs.declared.refusal.Refusal.{Refusal}
+use Rattle.mir.specs.Refusal.{number}
 use Rattle.mir.specs.Read.{Read, got, refused}
 use Rattle.sheet.specs.declared.setup.Mode.{Mode}
-use Rattle.sheet.specs.declared.setup.Setup.{Setup}
-use Rattle.sheet.specs.Setup.{header_from, constants_from, constants_from_on, setup_with, setup_from, setup}
+use Rattle.sheet.specs.declared.setup.Setup as Code
+use Rattle.sheet.specs.Setup.{Setup, header_from, constants_from, constants_from_on, setup_with, setup_from, setup, as_setup}
 use Rattle.sheet.proofs.Heading.{Headed, headed}
 use Rattle.sheet.proofs.Counting.{few}
 
@@ -44,3 +47,25 @@ right s z = by-header s (header_from s) refl z
 pub length_constants : (s : List ℕ) (n i : ℕ) → length (constants_from_on s n i) ≡ n
 length_constants s zero i = refl
 length_constants s (suc n) i = ap suc (length_constants s n (suc i))
+
+-- as the code answers: no refusal has the number 0
+numbered : (e : Refusal) → number e ≡ 0 → ⊥
+numbered Refusal.TornRecord h = omega arith
+numbered Refusal.UnknownWork h = omega arith
+numbered Refusal.BadRegister h = omega arith
+numbered Refusal.BadPlace h = omega arith
+numbered Refusal.MissingConstant h = omega arith
+numbered Refusal.BarredOperand h = omega arith
+numbered Refusal.ListingFull h = omega arith
+numbered Refusal.WrongSetup h = omega arith
+numbered Refusal.StrayJump h = omega arith
+numbered Refusal.MisplacedLabel h = omega arith
+numbered Refusal.UnequalRecords h = omega arith
+numbered Refusal.SheetTooLong h = omega arith
+
+module _ (s : List ℕ) {r : Result Code.Setup Refusal} (e : as_setup r ≡ setup s) where
+  pub set-up : {u : Code.Setup} → r ≡ Ok u → as_setup (Ok u) ≡ setup s
+  set-up f = sym (ap as_setup f) ∙ e
+
+  pub unset : {k : Refusal} → r ≡ Err k → (as_setup r).number ≡ 0 → ⊥
+  unset {k} f h = numbered k (sym (ap (λ r. (as_setup r).number) f) ∙ h)

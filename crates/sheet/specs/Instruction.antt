@@ -10,7 +10,6 @@ use Rattle.mir.specs.Read.{Read, got, refused, refuse, and_then, registers, cons
 use Rattle.mir.specs.Field.{byte_at, bytes_at, u16_at, takes_kind, head_from, place_at}
 use Rattle.mir.specs.Kinds.{uni_from, bi_from, mov_from, load_from, save_from, load_const_from, fused_from, if_else_from}
 use Rattle.mir.specs.Decode.{Item, read_at, Decoded, decoded}
-use Rattle.sheet.specs.declared.reader.NextInstruction.{NextInstruction}
 
 -- 9 LoadMath: op, dst, s1, place
 unfoldable pub load_math_from : List ℕ → Read Instruction
@@ -29,7 +28,7 @@ load_const_math_from count s =
     (constant count (u16_at s 7) (got (Instruction.LoadConstMath op (byte_at s 5) (byte_at s 6) (u16_at s 7)))))
 
 -- document 02, d): "10 [..] for a label outside 3 to 255, or a third byte above 1"
-abbrev pub own_label : ℕ → Read Instruction → Read Instruction
+abbrev pub own_label : {A : Type 0} → ℕ → Read A → Read A
 own_label l r = refuse (ltb l 3) 10 r
 
 -- 14 Label, 15 Branch: label
@@ -92,8 +91,3 @@ instructions count s = cut 612 (decoded (instruction_from count) s)
 -- those from the one with an index on
 abbrev pub instructions_on : ℕ → ℕ → List ℕ → Decoded Instruction
 instructions_on index count s = cut (612 - index) (decoded (instruction_from count) s)
-
--- the answer of the code
-abbrev pub as_next : NextInstruction → Read (Item Instruction)
-as_next (NextInstruction.Got i next) = got (record { item = i; next = next })
-as_next (NextInstruction.Refused n) = refused n

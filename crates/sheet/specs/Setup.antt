@@ -1,12 +1,12 @@
 -- What stands before a sheet's instructions (document 01, Sheet): the header and the constants, or the refusal 8.
-use Rattle.std.specs.Prelude.{ℕ, zero, suc, ◌+◌, ◌*◌, Bool, not, cond, true, false, ◌&&◌, ◌||◌, List, [], ◌∷◌, length, take, drop, replicate, ltb, leb, eqb}
+use Rattle.std.specs.Prelude.{ℕ, zero, suc, ◌+◌, ◌*◌, Bool, not, cond, true, false, ◌&&◌, ◌||◌, List, [], ◌∷◌, length, take, drop, replicate, ltb, leb, eqb, Ok, Err, Result}
 use Rattle.words.specs.Bytes as Words
+use Rattle.mir.specs.declared.refusal.Refusal.{Refusal}
+use Rattle.mir.specs.Refusal.{number}
 use Rattle.mir.specs.Read.{Read, got, refused, refuse}
 use Rattle.mir.specs.Field.{byte_at, u16_at}
 use Rattle.sheet.specs.declared.setup.Mode.{Mode}
-use Rattle.sheet.specs.declared.setup.Setup.{Setup}
-use Rattle.sheet.specs.declared.setup.Header.{Header}
-use Rattle.sheet.specs.declared.setup.ConstantCount.{ConstantCount}
+use Rattle.sheet.specs.declared.setup.Setup as Code
 
 -- "mode byte (0 plain, 1 stable)"; "Newer sheets come with mode 2" (document 02, n)
 abbrev pub mode_from : ℕ → Read Mode
@@ -51,6 +51,15 @@ constants_from zero s = refuse (is_constant s) 8 (got 0)
 constants_from (suc n) s =
     cond (is_constant s) (refuse (is_broken s) 8 (one_more (constants_from n (drop 12 s)))) (got 0)
 
+-- what a sheet begins with: its number is 0, or 8 where the setup is wrong; the mode, the bytes of realness, the count of constants, and
+-- where the instructions begin
+pub record Setup : Type 0 where
+  pub number : ℕ
+  pub mode : Mode
+  pub places : List ℕ
+  pub count : ℕ
+  pub start : ℕ
+
 -- 8, "with [..] all realness complex"
 abbrev pub wrong : Setup
 wrong = record { number = 8; mode = Mode.Plain; places = replicate 64 0; count = 0; start = 0 }
@@ -82,11 +91,7 @@ constants_from_on s (suc n) i = constant_at s i ∷ constants_from_on s n (suc i
 abbrev pub constants_of : List ℕ → ℕ → List ℕ
 constants_of s n = constants_from_on s n 0
 
--- the answers of the code
-abbrev pub as_header : Header → Read Mode
-as_header (Header.Mode mode) = got mode
-as_header Header.Wrong = refused 8
-
-abbrev pub as_constant_count : ConstantCount → Read ℕ
-as_constant_count (ConstantCount.Constants n) = got n
-as_constant_count ConstantCount.Wrong = refused 8
+-- the answer of the code
+abbrev pub as_setup : Result Code.Setup Refusal → Setup
+as_setup (Ok u) = record { number = 0; mode = u.mode; places = u.places; count = u.count; start = u.start }
+as_setup (Err e) = record { number = number e; mode = Mode.Plain; places = replicate 64 0; count = 0; start = 0 }

@@ -12,12 +12,13 @@ use Rattle.mir.proofs.Passing.{either}
 use Rattle.mir.proofs.Decoding.{Here, ended}
 use borrow.Author.Tests.{ltb-true, ltb-false, eq-eqb, ne_eqb}
 use lib.Dec.{ltb, eqb}
-use Rattle.sheet.specs.declared.setup.Setup.{Setup}
-use Rattle.sheet.specs.Setup.{constant_at, constants_from_on, setup}
+use Rattle.sheet.specs.Setup.{Setup, constant_at, constants_from_on, setup}
 use Rattle.sheet.proofs.Setting.{right}
 use Rattle.reports.specs.Lines.{refusal_line}
-use Rattle.sheet.specs.declared.reader.NextInstruction.{NextInstruction}
-use Rattle.sheet.specs.Instruction.{instruction_from, instruction_at, cut, instructions, instructions_on, as_next}
+use Rattle.std.specs.Prelude.{Err, Result}
+use Rattle.mir.specs.declared.refusal.Refusal.{Refusal}
+use Rattle.mir.specs.Decode.{as_next}
+use Rattle.sheet.specs.Instruction.{instruction_from, instruction_at, cut, instructions, instructions_on}
 use Rattle.sheet.proofs.Limit.{nothing, length_cut, on-here, on-done, on-end}
 use Rattle.sheet.proofs.Reading.{torn-instruction}
 use Rattle.lowering.specs.Realness.{bit_at}
@@ -69,7 +70,7 @@ module _ (count : ℕ) (s : List ℕ) (at : ℕ) {n : ℕ} where
       ap (λ d. instruction_lines d.items) (on-here count s at l h)
       ∙ ap (λ n. instruction_line x ++ lines_on n count (drop next s)) (sym (add-one n))
 
-  pub instructions-torn : {r : NextInstruction} {k : ℕ} → n < 612 → as_next r ≡ instruction_at count s at → r ≡ NextInstruction.Refused k
+  pub instructions-torn : {r : Result (Instruction × ℕ) Refusal} {k : Refusal} → n < 612 → as_next r ≡ instruction_at count s at → r ≡ Err k
       → lines_on n count (drop at s) ≡ []
   unfolding instruction_lines
   instructions-torn l e f =

@@ -18,10 +18,9 @@ fn put_sheet(out: &mut [u8], sheet: &[u8]) -> usize
     requires { 110080 ≤ length out.old }
     ensures { Puts out.old 0 (printed_text sheet.now) out.new result }
 {
-    let s = read_setup(sheet);
-    if s.number != 0 {
+    let Ok(s) = read_setup(sheet) else {
         return put_line(out, 0, refusal_line(8, 0));
-    }
+    };
     let seen = examined(sheet, s.start, s.count);
     if seen.number != 0 {
         return put_line(out, 0, refusal_line(seen.number as u64, seen.index));

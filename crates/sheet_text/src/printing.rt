@@ -1,7 +1,7 @@
 // The text of a sheet, put into lent bytes.
 ghost use Rattle.std.specs.Prelude.{◌+◌, ◌*◌, ◌≤◌, ◌≡◌, [], cond, length, drop};
 ghost use Rattle.text.specs.Line.{Prints};
-ghost use Rattle.sheet.specs.Setup.{constants_of};
+ghost use Rattle.sheet.specs.Setup.{as_setup, constants_of};
 ghost use Rattle.sheet.specs.Instruction.{instructions};
 ghost use Rattle.text.specs.Puts.{Puts};
 ghost use Rattle.assembly.specs.Lines.{real_line};
@@ -10,7 +10,7 @@ ghost use Rattle.assembly.specs.SheetText.{real_lines, constant_lines, instructi
 
 use assembly::lines::{constant_line, instruction_line, mode_line, real_line};
 use lowering::realness::bit_at;
-use sheet::reader::{LONGEST, NextInstruction, read_instruction};
+use sheet::reader::{LONGEST, read_instruction};
 use sheet::setup::{Setup, constant_at};
 use text::line::{Line, empty_line};
 use text::put::put_line;
@@ -74,14 +74,13 @@ pub(crate) fn examined(sheet: &[u8], first: usize, count: usize) -> Seen
                 index: n,
             };
         }
-        let q = read_instruction(sheet, at, count);
-        match q {
-            NextInstruction::Got(_, next) => {
+        match read_instruction(sheet, at, count) {
+            Ok((_, next)) => {
                 at = next;
             }
-            NextInstruction::Refused(number) => {
+            Err(refusal) => {
                 return Seen {
-                    number: number,
+                    number: refusal.number(),
                     index: n,
                 };
             }
@@ -103,8 +102,7 @@ fn put_instructions(out: &mut [u8], start: usize, sheet: &[u8], first: usize, co
     let mut from = first;
     let mut n: usize = 0;
     while n < LONGEST {
-        let q = read_instruction(sheet, from, count);
-        let NextInstruction::Got(instruction, next) = q else {
+        let Ok((instruction, next)) = read_instruction(sheet, from, count) else {
             return at;
         };
         let line = instruction_line(instruction);
@@ -119,7 +117,7 @@ fn put_instructions(out: &mut [u8], start: usize, sheet: &[u8], first: usize, co
 pub(crate) fn put_lines(out: &mut [u8], sheet: &[u8], s: Setup) -> usize
     requires in_bounds { 110080 ≤ length out.old }
     requires count_bound { s.count ≤ 251 }
-    ensures { Puts out.old 0 (lines_of sheet.now s) out.new result }
+    ensures { Puts out.old 0 (lines_of sheet.now (as_setup (Ok s))) out.new result }
 {
     let mode = s.mode;
     let at = put_line(out, 0, mode_line(mode));

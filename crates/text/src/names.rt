@@ -3,9 +3,7 @@ ghost use Rattle.text.specs.Line.{Adds};
 ghost use Rattle.text.specs.Text.{uni_name, bin_name, fused_name, complex_name};
 
 use super::line::Line;
-use mir::ops::{
-    ArithOp, BinOp, FusedOp, UniOp, arith_number, bin_number, fused_number, uni_number,
-};
+use mir::ops::{ArithOp, BinOp, FusedOp, Operation, UniOp};
 
 impl Line {
     pub fn uni_name(self, op: UniOp) -> Line
@@ -14,7 +12,7 @@ impl Line {
         self.word_in(
             b"Neg/Not/Abs/Root/RealRoot/Recip/Round/Floor/Ceiling/Trunc/Real/Imaginary/Conjugate/Half/IsZero/IsNotZero/Sign/Abs2/\
             TimesI/TimesNegI/",
-            uni_number(op) as u64,
+            op.number() as u64,
         )
     }
 
@@ -24,17 +22,14 @@ impl Line {
         self.word_in(
             b"Plus/Minus/Times/Divide/GreaterThan/GreaterThanEqual/LittleThan/LittleThanEqual/Equal/NotEqual/And/AndNot/Or/Xor/\
             Complex/",
-            bin_number(op) as u64,
+            op.number() as u64,
         )
     }
 
     pub fn fused_name(self, op: FusedOp) -> Line
         ensures { Adds self (fused_name op) result }
     {
-        self.word_in(
-            b"MulAdd/MulSub/NegMulAdd/NegMulSub/",
-            fused_number(op) as u64,
-        )
+        self.word_in(b"MulAdd/MulSub/NegMulAdd/NegMulSub/", op.number() as u64)
     }
 
     pub fn complex_name(self, op: ArithOp) -> Line
@@ -42,7 +37,7 @@ impl Line {
     {
         self.word_in(
             b"PlusComplex/MinusComplex/TimesComplex/DivideComplex/",
-            arith_number(op) as u64,
+            op.number() as u64,
         )
     }
 }

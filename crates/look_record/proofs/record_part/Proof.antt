@@ -30,25 +30,25 @@ record_part_spec =
     (λ c.
     let a = c.args in
     let l = c.loop-at in
-    let d = torn-record a.count a.listing.now l.at c.read_record-q.ensures c.in_default.is (omega arith) in
+    let d = torn-record a.count a.listing.now l.at c.read_record.ensures c.in_default.is (omega arith) in
     spelled (ap record_part (sym (part_none l.left d) ∙ l.invariant)) (blank c.empty_line.ensures))
     (λ c κs. search rules)
     (λ c.
     let a = c.args in
     let l = c.loop-at in
-    let h = here-record a.count a.listing.now l.at c.read_record-q.ensures c.in-Got.is in
+    let h = here-record a.count a.listing.now l.at c.read_record.ensures c.in-Ok.is in
     let e = sym (part-here h) ∙ ap (get_elem? (items (record_from a.count) (drop l.at a.listing.now))) (sym c.if-left-eq0.true) ∙ l.invariant in
     spelled (ap record_part e) c.record_line.ensures.0)
     (λ c. search rules)
     (λ c.
     let a = c.args in
     let l = c.loop-at in
-    let h = (here-record a.count a.listing.now l.at c.read_record-q.ensures c.in-Got.is).on in
+    let h = (here-record a.count a.listing.now l.at c.read_record.ensures c.in-Ok.is).on in
     omega (arith, h))
     (λ c.
     let a = c.args in
     let l = c.loop-at in
-    let h = here-record a.count a.listing.now l.at c.read_record-q.ensures c.in-Got.is in
+    let h = here-record a.count a.listing.now l.at c.read_record.ensures c.in-Ok.is in
     let e : l.left ≡ suc (l.left - 1) = omega arith in
     sym (part-on (l.left - 1) h) ∙ ap (get_elem? (items (record_from a.count) (drop l.at a.listing.now))) (sym e) ∙ l.invariant)
     (λ c κs. search rules)

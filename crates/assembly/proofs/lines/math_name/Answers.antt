@@ -6,4 +6,4 @@ use Rattle.assembly.proofs.lines.math_name.Goals as goal
 
 pub returns : goal.returns
 unfolding ascii math_name
-returns c = by_name math_names tt c.arith_number.ensures c.word_in.ensures
+returns c = by_name math_names tt c.number.ensures c.word_in.ensures

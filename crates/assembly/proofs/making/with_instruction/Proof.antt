@@ -3,7 +3,7 @@ use borrow.Author.Rules.{rules}
 use native.Mathlib.Omega.{arith}
 use mathlib.Core.Path.{ap}
 use Rattle.assembly.specs.Making.{sheet_of}
-use Rattle.sheet.specs.Instruction.{as_next}
+use Rattle.mir.specs.Decode.{as_next}
 use Rattle.assembly.proofs.Growing.{makes_as, refusing, instruction-many, instruction-none, instruction-put}
 use Rattle.assembly.proofs.making.with_instruction.Statement.{statement}
 use Rattle.assembly.proofs.making.with_instruction.Tie as tie
@@ -26,5 +26,5 @@ with_instruction_spec =
     (λ c.
     let a = c.args in
     let r = c.read_instruction.ensures in
-    let g = c.in-Got.is in
+    let g = c.in-Ok.is in
     makes_as (instruction-put (sheet_of a.s a.out.now) a.b.now (omega arith) r _ (ap as_next g)) c.grow.ensures))

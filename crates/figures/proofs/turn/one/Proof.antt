@@ -11,5 +11,5 @@ one_spec =
     (λ c κs. search rules) (λ c. search rules)
     (λ c κs. (c.requires.0, c.requires.1))
     (λ c. search rules) (λ c κs. search rules) (λ c. search rules) (λ c. search rules)
-    (λ c. let a = c.args in one-got a.own a.sheet.now a.p.at a.mode a.constants.now c.read_instruction.ensures c.in-Got.is c.lower_one.ensures)
-    (λ c. let a = c.args in one-refused a.own a.sheet.now a.p.at a.mode a.constants.now c.read_instruction.ensures c.in-Refused.is c.refused.ensures))
+    (λ c. let a = c.args in one-got a.own a.sheet.now a.p.at a.mode a.constants.now c.read_instruction.ensures c.in-Ok.is c.lower_one.ensures)
+    (λ c. let a = c.args in one-refused a.own a.sheet.now a.p.at a.mode a.constants.now c.read_instruction.ensures c.in-Err.is c.number.ensures c.refused.ensures))

@@ -29,19 +29,19 @@ count_records_spec =
     (λ c.
     let a = c.args in
     let l = c.loop-at in
-    let d = ap length (torn-record a.count a.listing.now l.at c.read_record-q.ensures c.in_default.is (omega arith)).same in
+    let d = ap length (torn-record a.count a.listing.now l.at c.read_record.ensures c.in_default.is (omega arith)).same in
     let i = l.invariant.1 in
     omega (arith, d, i))
     (λ c. search rules)
     (λ c.
     let a = c.args in
     let l = c.loop-at in
-    let h = (here-record a.count a.listing.now l.at c.read_record-q.ensures c.in-Got.is).on in
+    let h = (here-record a.count a.listing.now l.at c.read_record.ensures c.in-Ok.is).on in
     omega (arith, h))
     (λ c.
     let a = c.args in
     let l = c.loop-at in
-    let h = here-record a.count a.listing.now l.at c.read_record-q.ensures c.in-Got.is in
+    let h = here-record a.count a.listing.now l.at c.read_record.ensures c.in-Ok.is in
     let g = h.on in
     let k = ap length h.same in
     let i = l.invariant.1 in

@@ -6,7 +6,8 @@ use Prim.Native.Nat.{◌+◌, ◌-◌, ◌*◌, ◌≤◌}
 use mathlib.Core.Path.{sym, ap, ◌∙◌}
 use lib.ListN.{length, drop}
 use Rattle.mir.proofs.Decoding.{items, ended}
-use Rattle.records.specs.Record.{record_from, as_next}
+use Rattle.mir.specs.Decode.{as_next}
+use Rattle.records.specs.Record.{record_from}
 use Rattle.records.proofs.Reading.{here-record, torn-record}
 use Rattle.text.specs.Text.{record_lines}
 use Rattle.text.proofs.Putting.{long, whole-fits, printing, Owes, all, less, none}
@@ -34,31 +35,31 @@ put_records_spec =
     (λ c.
     let a = c.args in
     let l = c.loop-from in
-    none l.invariant.1 (records-end (torn-record a.count a.listing.now l.from c.read_record-q.ensures c.in_default.is (omega arith))))
+    none l.invariant.1 (records-end (torn-record a.count a.listing.now l.from c.read_record.ensures c.in_default.is (omega arith))))
     (λ c κs. search rules)
     (λ c κs.
     let a = c.args in
     let l = c.loop-from in
     let p = c.record_line.ensures in
-    let e = sym c.read_record-q.ensures ∙ ap as_next c.in-Got.is in
-    let h = (here-record a.count a.listing.now l.from c.read_record-q.ensures c.in-Got.is).inside in
-    let z = sized a.count a.listing.now l.from c.in-Got.record c.in-Got.next e in
+    let e = sym c.read_record.ensures ∙ ap as_next c.in-Ok.is in
+    let h = (here-record a.count a.listing.now l.from c.read_record.ensures c.in-Ok.is).inside in
+    let z = sized a.count a.listing.now l.from c.in-Ok.record c.in-Ok.next e in
     let f = p.1 in
     (omega (arith, h, z, f), whole-fits p.0))
     (λ c.
     let a = c.args in
     let l = c.loop-from in
-    let h = (here-record a.count a.listing.now l.from c.read_record-q.ensures c.in-Got.is).on in
+    let h = (here-record a.count a.listing.now l.from c.read_record.ensures c.in-Ok.is).on in
     omega (arith, h))
     (λ c.
     let a = c.args in
     let l = c.loop-from in
     let p = c.record_line.ensures in
     let q = printing p.0 c.put_line-at.ensures in
-    let e = sym c.read_record-q.ensures ∙ ap as_next c.in-Got.is in
-    let h = here-record a.count a.listing.now l.from c.read_record-q.ensures c.in-Got.is in
+    let e = sym c.read_record.ensures ∙ ap as_next c.in-Ok.is in
+    let h = here-record a.count a.listing.now l.from c.read_record.ensures c.in-Ok.is in
     let i = h.inside in
-    let z = sized a.count a.listing.now l.from c.in-Got.record c.in-Got.next e in
+    let z = sized a.count a.listing.now l.from c.in-Ok.record c.in-Ok.next e in
     let w = l.invariant.1 in
     let n = p.0.whole.count in
     let f = p.1 in

@@ -1,7 +1,7 @@
 -- `look::show::save_fills` meets its contract.
 use borrow.Author.Rules.{rules}
 use mathlib.Core.Path.{sym, ap, ◌∙◌}
-use Rattle.mir.specs.Field.{as_place}
+use Rattle.mir.specs.Refusal.{as_read}
 use Rattle.look.proofs.Fills.{save-at, save-bad}
 use Rattle.look.proofs.show.save_fills.Statement.{statement}
 use Rattle.look.proofs.show.save_fills.Tie as tie
@@ -16,5 +16,5 @@ save_fills_spec =
     (λ c κs. search rules)
     (λ c. search rules)
     (λ c κs. search rules)
-    (λ c. save-at c.args.s.now (ap as_place (sym c.in-At.is) ∙ c.read_place.ensures) c.place.ensures c.one.ensures)
-    (λ c. save-bad c.args.s.now (ap as_place (sym c.in-Bad.is) ∙ c.read_place.ensures)))
+    (λ c. save-at c.args.s.now (ap as_read (sym c.in-Ok.is) ∙ c.read_place.ensures) c.place.ensures c.one.ensures)
+    (λ c. save-bad c.args.s.now (ap as_read (sym c.in-Err.is) ∙ c.read_place.ensures)))

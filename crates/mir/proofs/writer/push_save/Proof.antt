@@ -11,4 +11,4 @@ push_save_spec =
     tie.close
     (tie.spec
     (λ c κs. search rules) (λ c κs. search rules) (λ c κs. search rules) (λ c κs. search rules) (λ c κs. search rules) (λ c. search rules)
-    (λ c. c.put.ensures ∙ simp (c.loc_class-k.ensures, c.loc_index-i.ensures, c.low-l.ensures, c.high-h.ensures)))
+    (λ c. c.put.ensures ∙ simp (c.class-k.ensures, c.index-i.ensures, c.low-l.ensures, c.high-h.ensures)))

@@ -11,4 +11,4 @@ push_uni_spec =
     tie.close
     (tie.spec
     (λ c κs. search rules) (λ c κs. search rules) (λ c. search rules)
-    (λ c. c.put.ensures ∙ simp c.uni_number-n.ensures))
+    (λ c. c.put.ensures ∙ simp c.number-n.ensures))

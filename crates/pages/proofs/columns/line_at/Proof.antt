@@ -23,10 +23,10 @@ line_at_spec =
     (λ c.
     let a = c.args in
     record-first (omega arith)
-    (here-record (length a.constants.now) a.listing.now a.from c.read_record-q.ensures c.in-Got.is)
+    (here-record (length a.constants.now) a.listing.now a.from c.read_record.ensures c.in-Ok.is)
     c.record_line.ensures)
     (λ c.
     let a = c.args in
     blank-first (omega arith)
-    (torn-record (length a.constants.now) a.listing.now a.from c.read_record-q.ensures c.in-Refused.is (omega arith))
-    c.blank_line-in-Refused.ensures))
+    (torn-record (length a.constants.now) a.listing.now a.from c.read_record.ensures c.in-Err.is (omega arith))
+    c.blank_line-in-Err.ensures))

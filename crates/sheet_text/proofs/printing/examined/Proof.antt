@@ -34,18 +34,18 @@ examined_spec =
     let l = c.loop-at in
     let f = still l.invariant.few c.if-n.false in
     counts_end l.invariant (on-done a.count a.sheet.now l.at f
-    (torn-instruction a.count a.sheet.now l.at c.read_instruction-q.ensures c.in-Refused.is (omega arith))))
+    (torn-instruction a.count a.sheet.now l.at c.read_instruction.ensures c.in-Err.is (omega arith))))
     (λ c. search rules)
     (λ c.
     let a = c.args in
     let l = c.loop-at in
-    let h = (here-instruction a.count a.sheet.now l.at c.read_instruction-q.ensures c.in-Got.is).on in
+    let h = (here-instruction a.count a.sheet.now l.at c.read_instruction.ensures c.in-Ok.is).on in
     omega (arith, h))
     (λ c.
     let a = c.args in
     let l = c.loop-at in
     let f = still l.invariant.few c.if-n.false in
-    counts-on l.invariant f (here-instruction a.count a.sheet.now l.at c.read_instruction-q.ensures c.in-Got.is))
+    counts-on l.invariant f (here-instruction a.count a.sheet.now l.at c.read_instruction.ensures c.in-Ok.is))
     (λ c.
     let a = c.args in
     let l = c.loop-at in

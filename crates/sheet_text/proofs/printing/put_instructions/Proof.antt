@@ -27,14 +27,14 @@ put_instructions_spec =
     (λ c.
     let a = c.args in
     let l = c.loop-n in
-    none l.invariant.1 (instructions-torn a.count a.sheet.now l.from (omega arith) c.read_instruction-q.ensures c.in_default.is))
+    none l.invariant.1 (instructions-torn a.count a.sheet.now l.from (omega arith) c.read_instruction.ensures c.in_default.is))
     (λ c κs. search rules) (λ c κs. search rules) (λ c. search rules)
     (λ c. search rules)
     (λ c.
     let a = c.args in
     let l = c.loop-n in
     let p = c.instruction_line-line.ensures in
-    let h = here-instruction a.count a.sheet.now l.from c.read_instruction-q.ensures c.in-Got.is in
+    let h = here-instruction a.count a.sheet.now l.from c.read_instruction.ensures c.in-Ok.is in
     let f = p.whole.fits in
     let n = p.whole.count in
     let room = l.invariant.0 in

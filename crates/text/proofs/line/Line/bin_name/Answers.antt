@@ -5,4 +5,4 @@ use Rattle.text.proofs.line.Line.bin_name.Goals as goal
 
 pub returns : goal.returns
 unfolding ascii bin_name
-returns c = by_name bin_names tt c.bin_number.ensures c.word_in.ensures
+returns c = by_name bin_names tt c.number.ensures c.word_in.ensures

@@ -5,4 +5,4 @@ use Rattle.text.proofs.line.Line.complex_name.Goals as goal
 
 pub returns : goal.returns
 unfolding ascii complex_name
-returns c = by_name complex_names tt c.arith_number.ensures c.word_in.ensures
+returns c = by_name complex_names tt c.number.ensures c.word_in.ensures

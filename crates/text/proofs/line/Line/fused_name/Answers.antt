@@ -5,4 +5,4 @@ use Rattle.text.proofs.line.Line.fused_name.Goals as goal
 
 pub returns : goal.returns
 unfolding ascii fused_name
-returns c = by_name fused_names tt c.fused_number.ensures c.word_in.ensures
+returns c = by_name fused_names tt c.number.ensures c.word_in.ensures

@@ -5,4 +5,4 @@ use Rattle.text.proofs.line.Line.uni_name.Goals as goal
 
 pub returns : goal.returns
 unfolding ascii uni_name
-returns c = by_name uni_names tt c.uni_number.ensures c.word_in.ensures
+returns c = by_name uni_names tt c.number.ensures c.word_in.ensures
