@@ -81,6 +81,7 @@ fn write(x: f64, a: u64, b: u64, c: u64) -> u64
     }
 }
 
+// Each operation, and each comparison below, is a line that differs in its operator: one function of the operator would be no plainer.
 pub fn plus(a: u64, b: u64) -> u64
     ensures { result ≡ Word.plus a b }
 {

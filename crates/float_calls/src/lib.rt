@@ -1,4 +1,5 @@
 // The operations of `float` as C functions, for a caller in Rust or C. Each is promised by the equation of the operation it calls.
+// C calls each by its name, and no macro may write a function: they stand one by one.
 #![tactic(auto)]
 
 ghost use Rattle.std.specs.Prelude.{◌≡◌};

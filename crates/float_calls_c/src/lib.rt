@@ -1,4 +1,5 @@
 // The operations of `float` for C. Each export is the function of `float_calls` by its name, with its clause.
+// C calls each by its name, and no macro may write a function: they stand one by one.
 #![tactic(auto)]
 
 ghost use Rattle.std.specs.Prelude.{◌≡◌};

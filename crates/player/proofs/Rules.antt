@@ -10,7 +10,6 @@ use lib.ListN.{length, take, drop, get_or, set, length-set, replicate}
 use lib.Dec.{eqb, ltb}
 use lib.Seq.{get_or-set_same, get_or-set_other}
 use borrow.Author.Tests.{eqb-true, eqb-false, eq-eqb, ne_eqb, lt-ltb, le-ltb}
-use Rattle.mir.specs.declared.records.Work.{Work}
 use Rattle.mir.specs.declared.records.Record.{Record}
 use Rattle.mir.specs.Field.{byte_at, u16_at}
 use Rattle.mir.proofs.Decoding.{Done}

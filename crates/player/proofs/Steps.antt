@@ -1,10 +1,11 @@
 -- The run over positions and the machine's play: each law takes what the code knows of the record at a position.
-use Prim.Native.Nat.{ℕ, ◌+◌}
+use Prim.Native.Nat.{ℕ, ◌+◌, ◌<◌}
 use native.Mathlib.Omega.{arith}
 use native.Mathlib.Nat.{zero-add, add-zero, add_assoc}
 use mathlib.Core.Path.{◌≡◌, refl, sym, ap, ◌∙◌, subst}
 use mathlib.Core.Bool.{Bool, true, false}
 use mathlib.Core.List.{List, [], ◌∷◌}
+use Rattle.std.proofs.Common.{None, Some}
 use lib.ListN.{length, drop}
 use borrow.Author.Tests.{eq-eqb, ne_eqb}
 use Rattle.mir.specs.declared.records.Work.{Work}
@@ -19,14 +20,6 @@ use Rattle.player_machine.specs.Jumps.{is_jump}
 use Rattle.player_machine.proofs.Seeking.{seek-play}
 use Rattle.player.specs.declared.run.Progress.{Progress}
 use Rattle.player.specs.Positions.{left, fault, Jumps, block_at, on_from, AtLabel, BlockPlayed, RecordPlayed}
-
-IsTrue : Bool → Type 0
-IsTrue true = Unit {0}
-IsTrue false = ⊥
-
-no : {X : Type 0} → true ≡ false → X
-unfolding IsTrue
-no e = absurd (subst IsTrue e tt)
 
 -- seeking
 pub seek_on : {read : List ℕ → Read Record} {s : List ℕ} {at next : ℕ} {r : Record} (l : ℕ) → Here read s at r next → is_label l r ≡ false
@@ -53,6 +46,14 @@ works_on e = ap works e.same
 pub works_done : {read : List ℕ → Read Record} {s : List ℕ} {at k : ℕ} → Done read s at k → works (items read (drop at s)) ≡ []
 unfolding works
 works_done e = ap works e.same
+
+IsTrue : Bool → Type 0
+IsTrue true = Unit {0}
+IsTrue false = ⊥
+
+no : {X : Type 0} → true ≡ false → X
+unfolding IsTrue
+no e = absurd (subst IsTrue e tt)
 
 works_stopped : (r : Record) (rs : List Record) → is_jump r ≡ true → works (r ∷ rs) ≡ []
 unfolding works
@@ -83,28 +84,32 @@ known_here {read} {s} {at} {next} e f = subst (λ x. Here read s at x next) f e
 abbrev from : List ℕ → List ℕ → ℕ → List Record → Store → End
 from constants s body rs σ = play constants (block_at constants s body) going rs σ
 
+-- what is known of the position of the next record
+told : (P : ℕ → Type 0) {n : ℕ} → P n → (m : ℕ) → Some n ≡ Some m → P m
+told P {n} p m e = let f : n ≡ m = cc in subst P f p
+
 module _ {constants s : List ℕ} {body at : ℕ} (z : fault (length constants) s at ≡ 0) where
   pub play-work : {next : ℕ} {σ τ : Store} {w : Work} → Here (record_from (length constants)) s at (Record.Work w) next
-      → τ ≡ exec constants w σ → RecordPlayed constants s body at σ τ (record { done = false; at = next; played = 1 })
+      → τ ≡ exec constants w σ → RecordPlayed constants s body at σ τ (record { next = Some next; played = 1 })
   unfolding play
   play-work {next} {σ} {τ} {w} e h =
       let g = e.on in
       record {
         same = ap (λ l. from constants s body l σ) e.same ∙ ap (λ u. ticks 1 (from constants s body (left (length constants) s next) u)) (sym h);
-        on = λ x. g;
-        sound = λ x. sym e.sound ∙ z;
+        on = told (λ m. at < m) g;
+        sound = told (λ m. fault (length constants) s m ≡ 0) (sym e.sound ∙ z);
         small = omega arith;
       }
 
   -- what goes on behind the record at hand
   passes_on : {next : ℕ} {r : Record} {σ : Store} → Here (record_from (length constants)) s at r next
       → from constants s body (r ∷ left (length constants) s next) σ ≡ ticks 1 (on_from constants s body next σ)
-      → RecordPlayed constants s body at σ σ (record { done = false; at = next; played = 1 })
+      → RecordPlayed constants s body at σ σ (record { next = Some next; played = 1 })
   passes_on {next} {r} {σ} e f =
       record {
         same = ap (λ l. from constants s body l σ) e.same ∙ f;
-        on = λ x. e.on;
-        sound = λ x. sym e.sound ∙ z;
+        on = told (λ m. at < m) e.on;
+        sound = told (λ m. fault (length constants) s m ≡ 0) (sym e.sound ∙ z);
         small = omega arith;
       }
 
@@ -112,7 +117,7 @@ module _ {constants s : List ℕ} {body at : ℕ} (z : fault (length constants) 
   leads-to : {next l to : ℕ} {r : Record} {σ : Store} → Here (record_from (length constants)) s at r next → AtLabel s next l to
       → from constants s body (r ∷ left (length constants) s next) σ
       ≡ ticks 1 (play constants (block_at constants s body) (seeking l) (left (length constants) s next) σ)
-      → RecordPlayed constants s body at σ σ (record { done = false; at = to; played = 1 })
+      → RecordPlayed constants s body at σ σ (record { next = Some to; played = 1 })
   leads-to {next} {l} {to} {r} {σ} e w f =
       let h = w.on in
       let g = e.on in
@@ -121,40 +126,40 @@ module _ {constants s : List ℕ} {body at : ℕ} (z : fault (length constants) 
             ∙ f
             ∙ ap (ticks 1) (seek-play constants (block_at constants s body) l (left (length constants) s next) σ)
             ∙ ap (λ l. ticks 1 (from constants s body l σ)) (sym (w.same (length constants) (sym e.sound ∙ z)));
-        on = λ x. omega (arith, g, h);
-        sound = λ x. w.sound (length constants) (sym e.sound ∙ z);
+        on = told (λ m. at < m) (omega (arith, g, h));
+        sound = told (λ m. fault (length constants) s m ≡ 0) (w.sound (length constants) (sym e.sound ∙ z));
         small = omega arith;
       }
 
   pub play-label : {next l : ℕ} {σ : Store} → Here (record_from (length constants)) s at (Record.Label l) next
-      → RecordPlayed constants s body at σ σ (record { done = false; at = next; played = 1 })
+      → RecordPlayed constants s body at σ σ (record { next = Some next; played = 1 })
   unfolding play
   play-label e = passes_on e refl
 
   pub play-end : {next l : ℕ} {σ : Store} → Here (record_from (length constants)) s at (Record.Branch l) next → l ≡ 0
-      → RecordPlayed constants s body at σ σ (record { done = true; at = next; played = 1 })
+      → RecordPlayed constants s body at σ σ (record { next = None; played = 1 })
   unfolding play
   play-end {next} {l} {σ} e z =
-      record { same = ap (λ l. from constants s body l σ) e.same ∙ simp (eq-eqb _ _ z); on = λ h. no h; sound = λ h. no h; small = omega arith }
+      record { same = ap (λ l. from constants s body l σ) e.same ∙ simp (eq-eqb _ _ z); on = λ m h. absurd (cc); sound = λ m h. absurd (cc); small = omega arith }
 
   pub play-branch : {next l to : ℕ} {σ : Store} → Here (record_from (length constants)) s at (Record.Branch l) next → (l ≡ 0 → ⊥)
-      → AtLabel s next l to → RecordPlayed constants s body at σ σ (record { done = false; at = to; played = 1 })
+      → AtLabel s next l to → RecordPlayed constants s body at σ σ (record { next = Some to; played = 1 })
   unfolding play
   play-branch e n w = leads-to e w (simp (ne_eqb _ _ n))
 
   pub play-taken : {next c l to : ℕ} {x : Bool} {σ : Store} → Here (record_from (length constants)) s at (Record.BranchIf c l x) next
       → branches x (Machine.at σ c) ≡ true → AtLabel s next l to
-      → RecordPlayed constants s body at σ σ (record { done = false; at = to; played = 1 })
+      → RecordPlayed constants s body at σ σ (record { next = Some to; played = 1 })
   unfolding play
   play-taken e b w = leads-to e w (simp b)
 
   pub play-untaken : {next c l : ℕ} {x : Bool} {σ : Store} → Here (record_from (length constants)) s at (Record.BranchIf c l x) next
-      → branches x (Machine.at σ c) ≡ false → RecordPlayed constants s body at σ σ (record { done = false; at = next; played = 1 })
+      → branches x (Machine.at σ c) ≡ false → RecordPlayed constants s body at σ σ (record { next = Some next; played = 1 })
   unfolding play
   play-untaken e b = passes_on e (simp b)
 
   pub play-call : {next l k : ℕ} {σ τ : Store} → Here (record_from (length constants)) s at (Record.Call l) next
-      → BlockPlayed constants s body σ τ k → RecordPlayed constants s body at σ τ (record { done = false; at = next; played = 2 + k })
+      → BlockPlayed constants s body σ τ k → RecordPlayed constants s body at σ τ (record { next = Some next; played = 2 + k })
   unfolding play
   play-call {next} {l} {k} {σ} {τ} e w =
       let c = w.count in
@@ -165,8 +170,8 @@ module _ {constants s : List ℕ} {body at : ℕ} (z : fault (length constants) 
         same = ap (λ l. from constants s body l σ) e.same
             ∙ ap (λ j. ticks j (from constants s body (left (length constants) s next) (execs constants b σ))) m
             ∙ ap (λ u. ticks (2 + k) (from constants s body (left (length constants) s next) u)) (sym w.same);
-        on = λ x. e.on;
-        sound = λ x. sym e.sound ∙ z;
+        on = told (λ m. at < m) e.on;
+        sound = told (λ m. fault (length constants) s m ≡ 0) (sym e.sound ∙ z);
         small = omega (arith, d);
       }
 
@@ -190,11 +195,11 @@ unfolding ticks
 ticks-ticks m n e = λ i. record { store = e.store; played = sym (add_assoc m n e.played) i }
 
 pub run_on : {constants s : List ℕ} {body at : ℕ} {σ τ : Store} {p : Progress} (c : ℕ) → RecordPlayed constants s body at σ τ p
-    → p.done ≡ false → ticks c (on_from constants s body at σ) ≡ ticks (c + p.played) (on_from constants s body p.at τ)
+    → {next : ℕ} → p.next ≡ Some next → ticks c (on_from constants s body at σ) ≡ ticks (c + p.played) (on_from constants s body next τ)
 run_on c w m = ap (ticks c) (w.same ∙ simp m) ∙ ticks-ticks _ _ _
 
 pub run_stop : {constants s : List ℕ} {body at : ℕ} {σ τ : Store} {p : Progress} (c : ℕ) → RecordPlayed constants s body at σ τ p
-    → p.done ≡ true → ticks c (on_from constants s body at σ) ≡ record { store = τ; played = c + p.played }
+    → p.next ≡ None → ticks c (on_from constants s body at σ) ≡ record { store = τ; played = c + p.played }
 unfolding ticks
 run_stop c w m = ap (ticks c) (w.same ∙ simp m)
 

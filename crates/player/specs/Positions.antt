@@ -1,5 +1,5 @@
 -- What the functions over positions in a listing give. A position stands for the records from it on.
-use Rattle.std.specs.Prelude.{ℕ, ◌+◌, ◌≤◌, ◌<◌, ◌≡◌, Bool, true, false, not, cond, List, ◌∷◌, length, drop, get_or, eqb}
+use Rattle.std.specs.Prelude.{ℕ, ◌+◌, ◌≤◌, ◌<◌, ◌≡◌, Bool, true, false, Option, None, Some, List, ◌∷◌, length, drop, get_or, eqb}
 use Rattle.mir.specs.declared.records.Work.{Work}
 use Rattle.mir.specs.declared.records.Record.{Record}
 use Rattle.mir.specs.Read.{got}
@@ -131,12 +131,16 @@ pub record BlockPlayed (constants s : List ℕ) (body : ℕ) (σ τ : Store) (r 
 abbrev pub on_from : List ℕ → List ℕ → ℕ → ℕ → Store → End
 on_from constants s body at σ = play constants (block_at constants s body) going (left (length constants) s at) σ
 
+-- what is left of the play behind a record, by where the next one stands: nothing where it ended
+abbrev pub onward : List ℕ → List ℕ → ℕ → Store → Option ℕ → ℕ → End
+onward constants s body τ (Some next) n = ticks n (on_from constants s body next τ)
+onward constants s body τ None n = record { store = τ; played = n }
+
 -- one record played from σ to τ, and the play of what follows it
 pub record RecordPlayed (constants s : List ℕ) (body at : ℕ) (σ τ : Store) (p : Progress) : Type 0 where
-  pub same : on_from constants s body at σ
-      ≡ cond p.done (record { store = τ; played = p.played }) (ticks p.played (on_from constants s body p.at τ))
-  pub on : p.done ≡ false → at < p.at
-  pub sound : p.done ≡ false → fault (length constants) s p.at ≡ 0
+  pub same : on_from constants s body at σ ≡ onward constants s body τ p.next p.played
+  pub on : (next : ℕ) → p.next ≡ Some next → at < next
+  pub sound : (next : ℕ) → p.next ≡ Some next → fault (length constants) s next ≡ 0
   pub small : p.played ≤ 65602
 
 -- the whole play from σ to τ

@@ -1,4 +1,5 @@
-// The jump rules, over records that were examined. The tables have an entry for each label.
+// The jump rules, over records that were examined. The tables have an entry for each label. A turn of a loop passes over a record, whose
+// length differs: none is a `for`.
 ghost use Rattle.std.specs.Prelude.{◌≡◌, ◌≤◌, not, ◌&&◌, ◌||◌, eqb, ltb, length};
 ghost use Rattle.player_machine.specs.Machine.{is_label};
 ghost use Rattle.player_machine.specs.Jumps.{is_return};

@@ -1,5 +1,6 @@
 // Walks over the records of a listing, by position. The position of a record stands for the records from it on. The first pass examines
-// each record; the others read the length, the kind and the fields of records that were examined.
+// each record; the others read the length, the kind and the fields of records that were examined. A turn of a loop passes over a record,
+// whose length differs: none is a `for`.
 ghost use Rattle.std.specs.Prelude.{◌≡◌, cond, eqb};
 ghost use Rattle.player_machine.specs.Machine.{is_label};
 ghost use Rattle.player_machine.specs.Jumps.{bit, is_return};

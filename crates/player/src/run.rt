@@ -1,4 +1,5 @@
-// The play, by positions. It goes forward only; a Call plays the whole block.
+// The play, by positions. It goes forward only; a Call plays the whole block. A turn of a loop passes over a record, whose length differs:
+// none is a `for`.
 ghost use Rattle.std.specs.Prelude.{◌≡◌, ◌≤◌, ◌<◌, eqb, length};
 ghost use Rattle.mir.specs.Field.{byte_at};
 ghost use Rattle.player_machine.specs.Machine.{at, branches};
@@ -9,11 +10,10 @@ use mir::fields::{byte, u16_at};
 use player_work::exec;
 use player_work::words::get_register;
 
-// Where a play stands after a record: whether it ended, the position of the next record, and how many records were reached.
+// Where a play stands after a record: the position of the next record, none where it ended, and how many records were reached.
 #[derive(Clone, Copy)]
 pub struct Progress {
-    pub done: bool,
-    pub at: usize,
+    pub next: Option<usize>,
     pub played: usize,
 }
 
@@ -38,12 +38,11 @@ fn run_block(listing: &[u8], constants: &[u64], body: usize, store: &mut [u64]) 
     n
 }
 
-fn reached(done: bool, at: usize, played: usize) -> Progress
-    ensures { result ≡ record { done = done; at = at; played = played } }
+fn reached(next: Option<usize>, played: usize) -> Progress
+    ensures { result ≡ record { next = next; played = played } }
 {
     Progress {
-        done: done,
-        at: at,
+        next: next,
         played: played,
     }
 }
@@ -77,22 +76,22 @@ fn run_jump(
     let n = u16_at(s, 0);
     let next = at + n as usize;
     if kind == 14 {
-        return reached(false, next, 1);
+        return reached(Some(next), 1);
     }
     if kind == 15 {
         if label == 0 {
-            return reached(true, next, 1);
+            return reached(None, 1);
         }
-        return reached(false, find(listing, next, label), 1);
+        return reached(Some(find(listing, next, label)), 1);
     }
     if kind == 17 {
         if branches_on(store, s) {
-            return reached(false, find(listing, next, byte(s, 5)), 1);
+            return reached(Some(find(listing, next, byte(s, 5))), 1);
         }
-        return reached(false, next, 1);
+        return reached(Some(next), 1);
     }
     let k = run_block(listing, constants, body, store);
-    reached(false, next, 2 + k)
+    reached(Some(next), 2 + k)
 }
 
 // Plays one record outside a call, with the whole block where it is a Call.
@@ -114,8 +113,7 @@ fn run_record(
     if worked {
         let k = u16_at(s, 0);
         return Progress {
-            done: false,
-            at: at + k as usize,
+            next: Some(at + k as usize),
             played: 1,
         };
     }
@@ -141,10 +139,10 @@ pub(crate) fn run(
     while at < listing.len() {
         let t = run_record(listing, constants, body, at, store);
         played += t.played;
-        at = t.at;
-        if t.done {
+        let Some(next) = t.next else {
             return played;
-        }
+        };
+        at = next;
     }
     played
 }

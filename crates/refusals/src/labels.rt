@@ -58,17 +58,12 @@ fn mark_label(s: &[u8], marks: &mut [u8]) -> bool
     false
 }
 
-fn either(x: bool, y: bool) -> bool
-    ensures { result ≡ (x || y) }
-{
-    if x { true } else { y }
-}
-
 // Marks the labels that stand from a position on, up to the first torn record; whether there is one.
 pub fn find_labels(sheet: &[u8], start: usize, marks: &mut [u8]) -> bool
     ensures { (result ≡ any_label (seen_in (drop start sheet.now)))
         × (marks.new ≡ mark_all (seen_in (drop start sheet.now)) marks.old) }
 {
+    // By position: a turn passes over a record, whose length differs.
     let mut at = start;
     let mut any = false;
     while at < sheet.len() {
@@ -77,7 +72,7 @@ pub fn find_labels(sheet: &[u8], start: usize, marks: &mut [u8]) -> bool
             return any;
         }
         let found = mark_label(s, marks);
-        any = either(any, found);
+        any = any | found;
         let n = u16_at(s, 0);
         at += n as usize;
     }
@@ -89,12 +84,10 @@ fn row_is(rows: &[u8], label: u8, bytes: [u8; 96]) -> bool
     ensures { result ≡ bytes_same (row label rows.now) bytes }
 {
     let at = 96 * (label as usize);
-    let mut i: usize = 0;
-    while i < 96 {
+    for i in 0..96 {
         if byte(rows, at + i) != bytes[i] {
             return false;
         }
-        i += 1;
     }
     true
 }

@@ -1,13 +1,12 @@
 -- `player::passes::examine`, record by record.
 use native.Mathlib.Omega.{arith}
 use native.Mathlib.Nat.{zero-add}
-use Prim.Native.Nat.{◌+◌, ◌-◌, ◌≤◌}
-use mathlib.Core.Path.{◌≡◌, refl, sym, ap, ◌∙◌, subst}
+use mathlib.Core.Path.{refl, sym, ap, ◌∙◌, subst}
 use lib.ListN.{length}
 use Rattle.mir.proofs.Decoding.{Done, ended}
 use Rattle.records.specs.Record.{record_from}
-use Rattle.player_machine.specs.Jumps.{is_jump, bit, tally}
-use Rattle.player.specs.Positions.{left, fault, label_seen, jump_seen}
+use Rattle.player_machine.specs.Jumps.{is_jump, bit}
+use Rattle.player.specs.Positions.{label_seen, jump_seen}
 use Rattle.player.proofs.Walks.{bit_small, tally-on, Noted, not_yet, noted-on, examined-end}
 use Rattle.player.proofs.Looks.{label-seen, jump-seen, stepped, refused-step}
 use Rattle.player.proofs.passes.examine.Goals as goal

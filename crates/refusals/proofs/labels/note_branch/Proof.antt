@@ -1,6 +1,5 @@
 -- `note_branch` meets its contract.
 use borrow.Author.Rules.{rules}
-use borrow.Author.Tests.{not-true, not-false}
 use mathlib.Core.Path.{sym, ◌∙◌}
 use mathlib.Core.Bool.{true, false}
 use Rattle.refusals.proofs.Marking.{noted-first, noted-row, noted_other, mark-stays}
