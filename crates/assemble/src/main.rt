@@ -12,9 +12,7 @@ fn print_sheet(rt: HostRuntime, t: &[u8]) {
 // One byte more than the longest text is read, so that a longer one is refused and not cut.
 fn main(rt: HostRuntime) {
     let mut t = [0u8; 500001];
-    let got = files::read_input(rt, &mut t);
-    let n = got.len;
-    if got.ok {
+    if let Ok(n) = files::read_input(rt, &mut t) {
         print_sheet(rt, &t[..n]);
     }
 }

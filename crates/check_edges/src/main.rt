@@ -159,13 +159,8 @@ const LISTING_KINDS: [(u8, u8); 15] = [
     (17, 7),
 ];
 
-// Bytes, what they are read as, and how they are called.
-#[derive(Clone, Copy)]
-struct Case {
-    readers: &'static [Reader],
-    name: &'static str,
-    bytes: &'static [u8],
-}
+// What bytes are read as, how they are called, and the bytes.
+type Case = (&'static [Reader], &'static str, &'static [u8]);
 
 const SHEET: &[Reader] = &[Reader::Sheet];
 
@@ -175,344 +170,159 @@ const BOTH: &[Reader] = &[Reader::Sheet, Reader::Listing];
 
 // Records that are cut, and lengths that are none.
 const TAILS: [Case; 5] = [
-    Case {
-        readers: BOTH,
-        name: "tail of 1 byte",
-        bytes: b"\x04",
-    },
-    Case {
-        readers: BOTH,
-        name: "tail of 2 bytes",
-        bytes: b"\x04\x00",
-    },
-    Case {
-        readers: BOTH,
-        name: "tail of 3 bytes",
-        bytes: b"\x04\x00\x03",
-    },
-    Case {
-        readers: BOTH,
-        name: "length 3",
-        bytes: b"\x03\x00\x03\x00\x00\x00",
-    },
-    Case {
-        readers: BOTH,
-        name: "length 262",
-        bytes: b"\x06\x01\x03\x00\x00\x00",
-    },
+    (BOTH, "tail of 1 byte", b"\x04"),
+    (BOTH, "tail of 2 bytes", b"\x04\x00"),
+    (BOTH, "tail of 3 bytes", b"\x04\x00\x03"),
+    (BOTH, "length 3", b"\x03\x00\x03\x00\x00\x00"),
+    (BOTH, "length 262", b"\x06\x01\x03\x00\x00\x00"),
 ];
 
 // Kinds of the other table, and of none.
 const OTHER_KINDS: [Case; 11] = [
-    Case {
-        readers: SHEET,
-        name: "kind 11",
-        bytes: b"\x09\x00\x0b\x00\x00\x00\x00\x00\x00",
-    },
-    Case {
-        readers: LISTING,
-        name: "kind 0",
-        bytes: b"\x04\x00\x00\x00",
-    },
-    Case {
-        readers: LISTING,
-        name: "kind 9",
-        bytes: b"\x0a\x00\x09\x00\x00\x00\x00\x00\x00\x00",
-    },
-    Case {
-        readers: LISTING,
-        name: "kind 10",
-        bytes: b"\x09\x00\x0a\x00\x00\x00\x00\x00\x00",
-    },
-    Case {
-        readers: SHEET,
-        name: "kind 16",
-        bytes: b"\x05\x00\x10\x00\x01",
-    },
-    Case {
-        readers: BOTH,
-        name: "kind 18",
-        bytes: b"\x05\x00\x12\x00\x00",
-    },
-    Case {
-        readers: BOTH,
-        name: "kind 32",
-        bytes: b"\x05\x00\x20\x00\x00",
-    },
-    Case {
-        readers: BOTH,
-        name: "kind 33",
-        bytes: b"\x05\x00\x21\x00\x00",
-    },
-    Case {
-        readers: BOTH,
-        name: "kind 256",
-        bytes: b"\x04\x00\x00\x01",
-    },
-    Case {
-        readers: BOTH,
-        name: "kind 259",
-        bytes: b"\x06\x00\x03\x01\x00\x00",
-    },
-    Case {
-        readers: BOTH,
-        name: "kind 18 past the end",
-        bytes: b"\x06\x00\x12\x00\x00",
-    },
+    (SHEET, "kind 11", b"\x09\x00\x0b\x00\x00\x00\x00\x00\x00"),
+    (LISTING, "kind 0", b"\x04\x00\x00\x00"),
+    (
+        LISTING,
+        "kind 9",
+        b"\x0a\x00\x09\x00\x00\x00\x00\x00\x00\x00",
+    ),
+    (LISTING, "kind 10", b"\x09\x00\x0a\x00\x00\x00\x00\x00\x00"),
+    (SHEET, "kind 16", b"\x05\x00\x10\x00\x01"),
+    (BOTH, "kind 18", b"\x05\x00\x12\x00\x00"),
+    (BOTH, "kind 32", b"\x05\x00\x20\x00\x00"),
+    (BOTH, "kind 33", b"\x05\x00\x21\x00\x00"),
+    (BOTH, "kind 256", b"\x04\x00\x00\x01"),
+    (BOTH, "kind 259", b"\x06\x00\x03\x01\x00\x00"),
+    (BOTH, "kind 18 past the end", b"\x06\x00\x12\x00\x00"),
 ];
 
 // Registers at the limits.
 const REGISTERS: [Case; 7] = [
-    Case {
-        readers: SHEET,
-        name: "register 31",
-        bytes: b"\x06\x00\x03\x00\x1f\x1f",
-    },
-    Case {
-        readers: SHEET,
-        name: "register 32",
-        bytes: b"\x06\x00\x03\x00\x20\x00",
-    },
-    Case {
-        readers: SHEET,
-        name: "second register 32",
-        bytes: b"\x06\x00\x03\x00\x00\x20",
-    },
-    Case {
-        readers: LISTING,
-        name: "register 65",
-        bytes: b"\x06\x00\x03\x00\x41\x41",
-    },
-    Case {
-        readers: LISTING,
-        name: "register 66",
-        bytes: b"\x06\x00\x03\x00\x42\x00",
-    },
-    Case {
-        readers: LISTING,
-        name: "second register 66",
-        bytes: b"\x06\x00\x03\x00\x00\x42",
-    },
-    Case {
-        readers: LISTING,
-        name: "ComplexBi's last register 66",
-        bytes: b"\x0b\x00\x0d\x00\x00\x00\x00\x00\x00\x00\x42",
-    },
+    (SHEET, "register 31", b"\x06\x00\x03\x00\x1f\x1f"),
+    (SHEET, "register 32", b"\x06\x00\x03\x00\x20\x00"),
+    (SHEET, "second register 32", b"\x06\x00\x03\x00\x00\x20"),
+    (LISTING, "register 65", b"\x06\x00\x03\x00\x41\x41"),
+    (LISTING, "register 66", b"\x06\x00\x03\x00\x42\x00"),
+    (LISTING, "second register 66", b"\x06\x00\x03\x00\x00\x42"),
+    (
+        LISTING,
+        "ComplexBi's last register 66",
+        b"\x0b\x00\x0d\x00\x00\x00\x00\x00\x00\x00\x42",
+    ),
 ];
 
 // Places of each class, at the limits and where they may not be.
 const PLACES: [Case; 9] = [
-    Case {
-        readers: BOTH,
-        name: "place Stack 255",
-        bytes: b"\x08\x00\x04\x00\x00\x00\xff\x00",
-    },
-    Case {
-        readers: BOTH,
-        name: "place Stack 256",
-        bytes: b"\x08\x00\x04\x00\x00\x00\x00\x01",
-    },
-    Case {
-        readers: BOTH,
-        name: "place Param 255",
-        bytes: b"\x08\x00\x04\x00\x00\x02\xff\x00",
-    },
-    Case {
-        readers: BOTH,
-        name: "place of class 3",
-        bytes: b"\x08\x00\x04\x00\x00\x03\x00\x00",
-    },
-    Case {
-        readers: BOTH,
-        name: "save to Mem",
-        bytes: b"\x08\x00\x05\x00\x00\x01\x00\x00",
-    },
-    Case {
-        readers: BOTH,
-        name: "save to Param",
-        bytes: b"\x08\x00\x05\x00\x00\x02\x00\x00",
-    },
-    Case {
-        readers: LISTING,
-        name: "complex save to Param",
-        bytes: b"\x09\x00\x0c\x00\x00\x00\x02\x00\x00",
-    },
-    Case {
-        readers: BOTH,
-        name: "condition on the stack",
-        bytes: b"\x0a\x00\x08\x00\x00\x00\x00\x00\xff\x00",
-    },
-    Case {
-        readers: BOTH,
-        name: "condition in Mem",
-        bytes: b"\x0a\x00\x08\x00\x00\x00\x00\x01\x00\x00",
-    },
+    (BOTH, "place Stack 255", b"\x08\x00\x04\x00\x00\x00\xff\x00"),
+    (BOTH, "place Stack 256", b"\x08\x00\x04\x00\x00\x00\x00\x01"),
+    (BOTH, "place Param 255", b"\x08\x00\x04\x00\x00\x02\xff\x00"),
+    (
+        BOTH,
+        "place of class 3",
+        b"\x08\x00\x04\x00\x00\x03\x00\x00",
+    ),
+    (BOTH, "save to Mem", b"\x08\x00\x05\x00\x00\x01\x00\x00"),
+    (BOTH, "save to Param", b"\x08\x00\x05\x00\x00\x02\x00\x00"),
+    (
+        LISTING,
+        "complex save to Param",
+        b"\x09\x00\x0c\x00\x00\x00\x02\x00\x00",
+    ),
+    (
+        BOTH,
+        "condition on the stack",
+        b"\x0a\x00\x08\x00\x00\x00\x00\x00\xff\x00",
+    ),
+    (
+        BOTH,
+        "condition in Mem",
+        b"\x0a\x00\x08\x00\x00\x00\x00\x01\x00\x00",
+    ),
 ];
 
 // Operations at the limits.
 const OPERATIONS: [Case; 10] = [
-    Case {
-        readers: SHEET,
-        name: "Uni RealRoot",
-        bytes: b"\x07\x00\x01\x00\x04\x00\x00",
-    },
-    Case {
-        readers: LISTING,
-        name: "Uni RealRoot",
-        bytes: b"\x07\x00\x01\x00\x04\x00\x00",
-    },
-    Case {
-        readers: BOTH,
-        name: "Uni Floor",
-        bytes: b"\x07\x00\x01\x00\x07\x00\x00",
-    },
-    Case {
-        readers: SHEET,
-        name: "Uni TimesNegI",
-        bytes: b"\x07\x00\x01\x00\x13\x00\x00",
-    },
-    Case {
-        readers: BOTH,
-        name: "Uni 20",
-        bytes: b"\x07\x00\x01\x00\x14\x00\x00",
-    },
-    Case {
-        readers: BOTH,
-        name: "Bi Equal",
-        bytes: b"\x08\x00\x02\x00\x08\x00\x00\x00",
-    },
-    Case {
-        readers: BOTH,
-        name: "Bi 15",
-        bytes: b"\x08\x00\x02\x00\x0f\x00\x00\x00",
-    },
-    Case {
-        readers: BOTH,
-        name: "Fused MulSub",
-        bytes: b"\x09\x00\x07\x00\x01\x00\x00\x00\x00",
-    },
-    Case {
-        readers: BOTH,
-        name: "Fused 4",
-        bytes: b"\x09\x00\x07\x00\x04\x00\x00\x00\x00",
-    },
-    Case {
-        readers: SHEET,
-        name: "LoadMath 4",
-        bytes: b"\x0a\x00\x09\x00\x04\x00\x00\x00\x00\x00",
-    },
+    (SHEET, "Uni RealRoot", b"\x07\x00\x01\x00\x04\x00\x00"),
+    (LISTING, "Uni RealRoot", b"\x07\x00\x01\x00\x04\x00\x00"),
+    (BOTH, "Uni Floor", b"\x07\x00\x01\x00\x07\x00\x00"),
+    (SHEET, "Uni TimesNegI", b"\x07\x00\x01\x00\x13\x00\x00"),
+    (BOTH, "Uni 20", b"\x07\x00\x01\x00\x14\x00\x00"),
+    (BOTH, "Bi Equal", b"\x08\x00\x02\x00\x08\x00\x00\x00"),
+    (BOTH, "Bi 15", b"\x08\x00\x02\x00\x0f\x00\x00\x00"),
+    (
+        BOTH,
+        "Fused MulSub",
+        b"\x09\x00\x07\x00\x01\x00\x00\x00\x00",
+    ),
+    (BOTH, "Fused 4", b"\x09\x00\x07\x00\x04\x00\x00\x00\x00"),
+    (
+        SHEET,
+        "LoadMath 4",
+        b"\x0a\x00\x09\x00\x04\x00\x00\x00\x00\x00",
+    ),
 ];
 
 // Labels and branches.
 const LABELS: [Case; 11] = [
-    Case {
-        readers: BOTH,
-        name: "Label 2",
-        bytes: b"\x05\x00\x0e\x00\x02",
-    },
-    Case {
-        readers: BOTH,
-        name: "Label 3",
-        bytes: b"\x05\x00\x0e\x00\x03",
-    },
-    Case {
-        readers: BOTH,
-        name: "Label 255",
-        bytes: b"\x05\x00\x0e\x00\xff",
-    },
-    Case {
-        readers: BOTH,
-        name: "Branch 2",
-        bytes: b"\x05\x00\x0f\x00\x02",
-    },
-    Case {
-        readers: BOTH,
-        name: "Branch 3",
-        bytes: b"\x05\x00\x0f\x00\x03",
-    },
-    Case {
-        readers: LISTING,
-        name: "Call 3",
-        bytes: b"\x05\x00\x10\x00\x03",
-    },
-    Case {
-        readers: BOTH,
-        name: "BranchIf to 3",
-        bytes: b"\x07\x00\x11\x00\x1f\x03\x01",
-    },
-    Case {
-        readers: BOTH,
-        name: "BranchIf to 2",
-        bytes: b"\x07\x00\x11\x00\x1f\x02\x00",
-    },
-    Case {
-        readers: BOTH,
-        name: "BranchIf with 2",
-        bytes: b"\x07\x00\x11\x00\x1f\x03\x02",
-    },
-    Case {
-        readers: BOTH,
-        name: "BranchIf of register 66",
-        bytes: b"\x07\x00\x11\x00\x42\x03\x01",
-    },
-    Case {
-        readers: BOTH,
-        name: "BranchIf of register 66 with 2",
-        bytes: b"\x07\x00\x11\x00\x42\x03\x02",
-    },
+    (BOTH, "Label 2", b"\x05\x00\x0e\x00\x02"),
+    (BOTH, "Label 3", b"\x05\x00\x0e\x00\x03"),
+    (BOTH, "Label 255", b"\x05\x00\x0e\x00\xff"),
+    (BOTH, "Branch 2", b"\x05\x00\x0f\x00\x02"),
+    (BOTH, "Branch 3", b"\x05\x00\x0f\x00\x03"),
+    (LISTING, "Call 3", b"\x05\x00\x10\x00\x03"),
+    (BOTH, "BranchIf to 3", b"\x07\x00\x11\x00\x1f\x03\x01"),
+    (BOTH, "BranchIf to 2", b"\x07\x00\x11\x00\x1f\x02\x00"),
+    (BOTH, "BranchIf with 2", b"\x07\x00\x11\x00\x1f\x03\x02"),
+    (
+        BOTH,
+        "BranchIf of register 66",
+        b"\x07\x00\x11\x00\x42\x03\x01",
+    ),
+    (
+        BOTH,
+        "BranchIf of register 66 with 2",
+        b"\x07\x00\x11\x00\x42\x03\x02",
+    ),
 ];
 
 // Of one constant, and where two rules are broken at once.
 const CONSTANTS_AND_ORDER: [Case; 8] = [
-    Case {
-        readers: BOTH,
-        name: "constant 0 of 1",
-        bytes: b"\x07\x00\x06\x00\x00\x00\x00",
-    },
-    Case {
-        readers: BOTH,
-        name: "constant 1 of 1",
-        bytes: b"\x07\x00\x06\x00\x00\x01\x00",
-    },
-    Case {
-        readers: BOTH,
-        name: "constant 256 of 1",
-        bytes: b"\x07\x00\x06\x00\x00\x00\x01",
-    },
-    Case {
-        readers: BOTH,
-        name: "Uni 20 with register 66",
-        bytes: b"\x07\x00\x01\x00\x14\x42\x42",
-    },
-    Case {
-        readers: BOTH,
-        name: "Load of register 66 from class 3",
-        bytes: b"\x08\x00\x04\x00\x42\x03\x00\x00",
-    },
-    Case {
-        readers: BOTH,
-        name: "constant 1 of 1 to register 66",
-        bytes: b"\x07\x00\x06\x00\x42\x01\x00",
-    },
-    Case {
-        readers: SHEET,
-        name: "LoadMath 4 with register 66 and class 3",
-        bytes: b"\x0a\x00\x09\x00\x04\x42\x42\x03\x00\x00",
-    },
-    Case {
-        readers: SHEET,
-        name: "LoadConstMath of register 66 with constant 1 of 1",
-        bytes: b"\x09\x00\x0a\x00\x00\x42\x00\x01\x00",
-    },
+    (BOTH, "constant 0 of 1", b"\x07\x00\x06\x00\x00\x00\x00"),
+    (BOTH, "constant 1 of 1", b"\x07\x00\x06\x00\x00\x01\x00"),
+    (BOTH, "constant 256 of 1", b"\x07\x00\x06\x00\x00\x00\x01"),
+    (
+        BOTH,
+        "Uni 20 with register 66",
+        b"\x07\x00\x01\x00\x14\x42\x42",
+    ),
+    (
+        BOTH,
+        "Load of register 66 from class 3",
+        b"\x08\x00\x04\x00\x42\x03\x00\x00",
+    ),
+    (
+        BOTH,
+        "constant 1 of 1 to register 66",
+        b"\x07\x00\x06\x00\x42\x01\x00",
+    ),
+    (
+        SHEET,
+        "LoadMath 4 with register 66 and class 3",
+        b"\x0a\x00\x09\x00\x04\x42\x42\x03\x00\x00",
+    ),
+    (
+        SHEET,
+        "LoadConstMath of register 66 with constant 1 of 1",
+        b"\x09\x00\x0a\x00\x00\x42\x00\x01\x00",
+    ),
 ];
 
 fn read_each(rt: HostRuntime, cases: &[Case]) {
-    for case in cases {
-        for reader in case.readers {
+    for (readers, name, bytes) in cases {
+        for reader in *readers {
             let what = reader.name();
-            let name = case.name;
             let _ = print!(rt; "{what} {name}: ");
-            reader.read(rt, case.bytes);
+            reader.read(rt, bytes);
         }
     }
 }

@@ -25,12 +25,9 @@ fn put_names(out: &mut [u8], start: usize, marks: &[u8]) -> usize
     ensures { (Puts out.old start (marked_names 0 marks.now) out.new result) × (result ≤ start + 80 * length marks.now) }
 {
     let mut at = start;
-    let mut i: u8 = 0;
-    while (i as usize) < marks.len() {
-        let mark = marks[i as usize];
-        let name = name_or_none(mark, i);
+    for (i, mark) in marks.iter().enumerate() {
+        let name = name_or_none(*mark, i as u8);
         at = put_line(out, at, name);
-        i += 1;
     }
     at
 }

@@ -64,14 +64,7 @@ fn make_origins(rt: HostRuntime, origins: &[u8], size: usize) -> bool {
     if files::arg_count(rt) == 4 {
         return true;
     }
-    files::make_arg(rt, 4, origins, size) == 0
-}
-
-// No more constants than a table has.
-fn at_most_256(words: usize) -> usize
-    ensures { result ≤ 256 }
-{
-    if words < 256 { words } else { 256 }
+    files::make_arg(rt, 4, origins, size).is_some()
 }
 
 // Makes all files that are named, or none.
@@ -83,17 +76,17 @@ fn make_files(
     origins: &[u8],
     words: usize,
 ) -> bool {
-    if files::make_arg(rt, 2, listing, bytes) != 0 {
+    if files::make_arg(rt, 2, listing, bytes).is_none() {
         return false;
     }
-    let count = at_most_256(words);
-    if files::make_arg(rt, 3, constants, 8 * count) == 0 {
+    let count = words.min(256);
+    if files::make_arg(rt, 3, constants, 8 * count).is_some() {
         if make_origins(rt, origins, 2 * count) {
             return true;
         }
-        files::remove_arg(rt, 3);
+        let _ = files::remove_arg(rt, 3);
     }
-    files::remove_arg(rt, 2);
+    let _ = files::remove_arg(rt, 2);
     false
 }
 
@@ -130,9 +123,10 @@ fn main(rt: HostRuntime) {
         return;
     }
     let mut sheet = files::sheet_room();
-    let got = files::read_arg(rt, 1, &mut sheet);
-    let n = got.len;
-    if got.ok && files::sheet_fits(rt, n) {
+    let Ok(n) = files::read_arg(rt, 1, &mut sheet) else {
+        return;
+    };
+    if files::sheet_fits(rt, n) {
         lower_file(rt, &sheet[..n]);
     }
 }

@@ -41,7 +41,7 @@ fn print(rt: HostRuntime, line: Line) {
 fn play(rt: HostRuntime, listing: &[u8], constants: &[u8], store: &mut [u8], start: u64) {
     let mut answer = [0u8; 24];
     let line = play_bytes(listing, constants, store, start, &mut answer);
-    if word_at(&answer, 0) == 0 && files::make_arg(rt, 4, store, store.len()) != 0 {
+    if word_at(&answer, 0) == 0 && files::make_arg(rt, 4, store, store.len()).is_none() {
         return;
     }
     print(rt, line);
@@ -50,27 +50,21 @@ fn play(rt: HostRuntime, listing: &[u8], constants: &[u8], store: &mut [u8], sta
 // Of each file one byte more is read than it can have, so that a longer one is refused and not cut.
 fn play_on_store(rt: HostRuntime, listing: &[u8], constants: &[u8], start: u64) {
     let mut store = [0u8; 12817];
-    let got = files::read_arg(rt, 3, &mut store);
-    let n = got.len;
-    if got.ok {
+    if let Ok(n) = files::read_arg(rt, 3, &mut store) {
         play(rt, listing, constants, &mut store[..n], start);
     }
 }
 
 fn play_with_constants(rt: HostRuntime, listing: &[u8], start: u64) {
     let mut constants = [0u8; 2049];
-    let got = files::read_arg(rt, 2, &mut constants);
-    let n = got.len;
-    if got.ok {
+    if let Ok(n) = files::read_arg(rt, 2, &mut constants) {
         play_on_store(rt, listing, &constants[..n], start);
     }
 }
 
 fn play_from(rt: HostRuntime, start: u64) {
     let mut listing = [0u8; 65537];
-    let got = files::read_arg(rt, 1, &mut listing);
-    let n = got.len;
-    if got.ok {
+    if let Ok(n) = files::read_arg(rt, 1, &mut listing) {
         play_with_constants(rt, &listing[..n], start);
     }
 }
@@ -78,30 +72,28 @@ fn play_from(rt: HostRuntime, start: u64) {
 fn play_from_argument(rt: HostRuntime) {
     let mut text = [0u8; 32];
     let n = files::arg(rt, 5, &mut text);
-    let start = start_of(&text[..n]);
-    if files::holds(
-        rt,
-        5,
-        start.ok,
-        b"no record's index, which is 0 to 18446744073709551615",
-    ) {
-        play_from(rt, start.number);
-    }
+    let Some(start) = start_of(&text[..n]) else {
+        files::holds(
+            rt,
+            5,
+            false,
+            b"no record's index, which is 0 to 18446744073709551615",
+        );
+        return;
+    };
+    play_from(rt, start);
 }
 
 fn main(rt: HostRuntime) {
-    let count = files::arg_count(rt);
-    if count == 5 {
-        play_from(rt, 0);
-        return;
+    match files::arg_count(rt) {
+        5 => play_from(rt, 0),
+        6 => play_from_argument(rt),
+        _ => {
+            files::usage(
+                rt,
+                false,
+                b"play_listing LISTING CONSTANTS STORE AFTER [START]",
+            );
+        }
     }
-    if count == 6 {
-        play_from_argument(rt);
-        return;
-    }
-    files::usage(
-        rt,
-        false,
-        b"play_listing LISTING CONSTANTS STORE AFTER [START]",
-    );
 }

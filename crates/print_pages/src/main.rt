@@ -21,11 +21,7 @@ pub struct Part {
 fn at_once(pages: usize, first: usize) -> usize
     ensures { result ≡ least 112 (pages - first) }
 {
-    if pages <= first {
-        return 0;
-    }
-    let left = pages - first;
-    if 112 < left { 112 } else { left }
+    pages.saturating_sub(first).min(112)
 }
 
 // The text from page `first` on.
@@ -36,11 +32,11 @@ fn put_part(out: &mut [u8], listing: &[u8], constants: &[u8], first: usize) -> P
     let a = part_of(listing, constants, first, 112, out);
     if a.number != 0 {
         let len = put_line(out, 0, refusal_line(a.number as u64, a.index as u64));
-        return Part { len: len, pages: 0 };
+        return Part { len, pages: 0 };
     }
     if a.pages == 0 {
         let len = put(out, 0, b"no page\n");
-        return Part { len: len, pages: 0 };
+        return Part { len, pages: 0 };
     }
     Part {
         len: 4380 * at_once(a.pages, first),
@@ -69,9 +65,7 @@ fn print_all(rt: HostRuntime, listing: &[u8], constants: &[u8]) {
 // Of each file one byte more is read than it can have, so that a longer one is refused and not cut.
 fn print_with_constants(rt: HostRuntime, listing: &[u8]) {
     let mut constants = [0u8; 2049];
-    let got = files::read_arg(rt, 2, &mut constants);
-    let n = got.len;
-    if got.ok {
+    if let Ok(n) = files::read_arg(rt, 2, &mut constants) {
         print_all(rt, listing, &constants[..n]);
     }
 }
@@ -85,9 +79,7 @@ fn main(rt: HostRuntime) {
         return;
     }
     let mut listing = [0u8; 65537];
-    let got = files::read_arg(rt, 1, &mut listing);
-    let n = got.len;
-    if got.ok {
+    if let Ok(n) = files::read_arg(rt, 1, &mut listing) {
         print_with_constants(rt, &listing[..n]);
     }
 }

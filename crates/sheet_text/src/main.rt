@@ -37,9 +37,10 @@ fn print_sheet(rt: HostRuntime, sheet: &[u8]) {
 // A sheet of which not all is read is not printed.
 fn main(rt: HostRuntime) {
     let mut sheet = files::sheet_room();
-    let got = files::read_input(rt, &mut sheet);
-    let n = got.len;
-    if got.ok && files::sheet_fits(rt, n) {
+    let Ok(n) = files::read_input(rt, &mut sheet) else {
+        return;
+    };
+    if files::sheet_fits(rt, n) {
         print_sheet(rt, &sheet[..n]);
     }
 }

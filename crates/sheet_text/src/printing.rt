@@ -30,12 +30,10 @@ fn put_reals(out: &mut [u8], start: usize, places: [u8; 64]) -> usize
     ensures { (Puts out.old start (real_lines places 512 0) out.new result) × (result ≤ start + 40960) }
 {
     let mut at = start;
-    let mut i: u16 = 0;
-    while i < 512 {
+    for i in 0..512u16 {
         let real = bit_at(places, i as usize);
         let line = real_or_none(real, i);
         at = put_line(out, at, line);
-        i += 1;
     }
     at
 }
@@ -45,11 +43,9 @@ fn put_constants(out: &mut [u8], start: usize, sheet: &[u8], count: usize) -> us
     ensures { (Puts out.old start (constant_lines (constants_of sheet.now count)) out.new result) × (result ≤ start + 80 * count) }
 {
     let mut at = start;
-    let mut i: usize = 0;
-    while i < count {
+    for i in 0..count {
         let line = constant_line(constant_at(sheet, i));
         at = put_line(out, at, line);
-        i += 1;
     }
     at
 }

@@ -40,17 +40,16 @@ fn text_of(sheet: &[u8]) -> Line
 // 0 in any case.
 fn main(rt: HostRuntime) {
     let mut sheet = files::sheet_room();
-    let got = read_all(
+    let read = read_all(
         rt,
         b"shelf: ",
         b"standard input",
         &mut rt.stdin(),
         &mut sheet,
     );
-    if !got.ok {
+    let Ok(n) = read else {
         return;
-    }
-    let n = got.len;
+    };
     if !files::sheet_fits(rt, n) {
         return;
     }
