@@ -55,10 +55,7 @@ fn name(r: u8) -> u8
 fn math_name(line: Line, op: ArithOp) -> Line
     ensures { Adds line (math_name op) result }
 {
-    line.name_in(
-        &["Plus", "Minus", "Times", "Divide"],
-        op.number() as u64,
-    )
+    line.name_in(&["Plus", "Minus", "Times", "Divide"], op.number() as u64)
 }
 
 fn work_line(work: Work) -> Line
