@@ -1,5 +1,4 @@
-// complexify.rs's `Complexifier`: the methods that touch no constants. Each lists its lines in a lent slice from a position on, and
-// returns the state and the position after them.
+// complexify.rs's `Complexifier`: the methods that touch no constants. Each lists its lines by a writer, and changes the state.
 #![tactic(auto)]
 
 pub mod binary;

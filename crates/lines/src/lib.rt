@@ -1,5 +1,4 @@
-// The lines of each method of complexify.rs, written to a lent slice from a position on: each function returns the position after
-// the last of them. x and y say that the first and the second operand are recorded as real.
+// The lines of each method of complexify.rs, listed by a writer. x and y say that the first and the second operand are recorded as real.
 #![tactic(auto)]
 
 pub mod binary;
