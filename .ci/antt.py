@@ -232,12 +232,14 @@ def functions(file: Path) -> Iterator[Function]:
     for line in lines:
         take_use(module, line)
     owner = ""
+    in_trait = False
     for number, line in enumerate(lines):
         owner = line.split()[1] + "::" if line.startswith("impl ") else "" if line.startswith("}") else owner
+        in_trait = line.startswith("pub trait ") or (in_trait and not line.startswith("}"))
         match = FUNCTION.match(line)
         if match:
             head, clauses = contract(lines[number:])
-            kind = "c" if match["c"] else "public" if match["public"] else "private"
+            kind = "c" if match["c"] else "public" if match["public"] or in_trait else "private"
             yield Function(file.relative_to(CRATES).parts[0], file, kind, owner + match["name"], head, clauses, module)
 
 
@@ -254,8 +256,29 @@ def contract(lines: list[str]) -> tuple[str, list[str]]:
             parts[-1] += " " + text
         if text.endswith("{") and not text.startswith(CLAUSE):
             break
-    head, *clauses = (re.sub(r"\s+", " ", part) for part in parts)
+        if text.endswith(";"):
+            break
+    head, *clauses = (re.sub(r"\s+", " ", part).removesuffix(";") for part in parts)
     return head.removesuffix("{").replace("( ", "(").replace(", )", ")").strip(), clauses
+
+
+GHOST = re.compile(r"    ghost \w+(?:: | = )\{")
+
+
+def members(file: Path) -> Iterator[tuple[Module, str]]:
+    """The ghost members of a file's traits and of their impls, each on one line: what a function promises through a bound goes by them."""
+    module = Module(file)
+    lines = file.read_text(encoding="utf-8").splitlines()
+    for line in lines:
+        take_use(module, line)
+    for number, line in enumerate(lines):
+        if GHOST.match(line):
+            text = line.strip()
+            for more in lines[number + 1 :]:
+                if text.endswith("};"):
+                    break
+                text += " " + more.strip()
+            yield module, text
 
 
 def sources() -> list[Path]:
@@ -299,6 +322,9 @@ def believed() -> list[Declaration]:
             if promises_to_a_user(function):
                 ensured = [clause.partition("{")[2] for clause in function.clauses if clause.startswith("ensures ")]
                 starts += named(function.module, " ; ".join(ensured))
+        if is_program(file.relative_to(CRATES).parts[0]):
+            for module, text in members(file):
+                starts += named(module, text.partition("{")[2])
     return reached(starts)
 
 
