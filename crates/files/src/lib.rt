@@ -31,13 +31,16 @@ fn say_why(rt: HostRuntime, e: io::Error) {
     }
 }
 
-// Says on standard error what failed, and why. First comes who says so.
-fn fail(rt: HostRuntime, who: &[u8], name: &[u8], e: io::Error) {
+// Says on standard error what failed, and why, and gives that failure back. First comes who says so.
+pub fn fail(rt: HostRuntime, who: &[u8], name: &[u8], e: io::Error) -> io::Error
+    ensures { result ≡ e }
+{
     say(rt, who);
     say(rt, name);
     say(rt, b": ");
     say_why(rt, e);
     say(rt, b"\n");
+    e
 }
 
 // How many arguments there are, the program's name among them, as far as 16.
@@ -54,7 +57,7 @@ pub fn arg_count(rt: HostRuntime) -> usize
 }
 
 // Room for an argument.
-fn buffer() -> [u8; 4096]
+pub fn buffer() -> [u8; 4096]
     ensures { length result ≡ 4096 }
 {
     [0u8; 4096]
@@ -201,10 +204,10 @@ fn write_file(file: File, bytes: &[u8]) -> io::Result<()> {
     file.sync_all()
 }
 
-// Makes and closes a new file; where it cannot be written whole it is removed.
+// Makes and closes a new file. Where that fails, says so on standard error; one that cannot be written whole is removed after that.
 fn make_file(rt: HostRuntime, path: &[u8], bytes: &[u8]) -> io::Result<()> {
-    let file = create(rt, path)?;
-    let written = write_file(file, bytes);
+    let file = create(rt, path).map_err(|e| fail(rt, b"tulipcricket: ", path, e))?;
+    let written = write_file(file, bytes).map_err(|e| fail(rt, b"tulipcricket: ", path, e));
     if written.is_err() {
         let _ = remove(rt, path);
     }
@@ -228,10 +231,7 @@ pub fn make_arg(rt: HostRuntime, i: usize, bytes: &[u8], n: usize) -> Option<usi
     let bytes = first(bytes, n);
     match make_file(rt, &path[..long], bytes) {
         Ok(()) => Some(bytes.len()),
-        Err(e) => {
-            fail(rt, b"tulipcricket: ", &path[..long], e);
-            None
-        }
+        Err(_) => None,
     }
 }
 
