@@ -7,13 +7,22 @@ use records::reader::read_record;
 use sheet::reader::read_instruction;
 use sheet::setup::{constant_at, read_setup};
 
+// Each part of a line is written by itself: where one cannot be written, the next is tried.
+fn number(rt: HostRuntime, before: &str, n: usize) {
+    let _ = print!(rt; "{before}");
+    let _ = print!(rt; "{n}");
+}
+
 // What was read, and where the next begins.
 fn got(rt: HostRuntime, name: &str, next: usize) {
-    let _ = print!(rt; "{name}, next {next}\n");
+    let _ = print!(rt; "{name}");
+    number(rt, ", next ", next);
+    let _ = print!(rt; "\n");
 }
 
 fn refused(rt: HostRuntime, n: u8) {
-    let _ = print!(rt; "refused {n}\n");
+    number(rt, "refused ", usize::from(n));
+    let _ = print!(rt; "\n");
 }
 
 fn instruction_name(i: Instruction) -> &'static str {
@@ -104,7 +113,11 @@ impl Reader {
 fn sized(rt: HostRuntime, reader: Reader, kind: u8, length: u8, stand: u8) {
     let bytes = [length, 0, kind, 0, 0, 0, 0, 0, 0, 0, 0, 0];
     let name = reader.name();
-    let _ = print!(rt; "{name} kind {kind}, length {length} in {stand} bytes: ");
+    let _ = print!(rt; "{name} kind ");
+    let _ = print!(rt; "{kind}");
+    number(rt, ", length ", usize::from(length));
+    number(rt, " in ", usize::from(stand));
+    let _ = print!(rt; " bytes: ");
     if let Some(part) = bytes.get(..usize::from(stand)) {
         reader.read(rt, part);
     }
@@ -321,14 +334,18 @@ fn read_each(rt: HostRuntime, cases: &[Case]) {
     for (readers, name, bytes) in cases {
         for reader in *readers {
             let what = reader.name();
-            let _ = print!(rt; "{what} {name}: ");
+            let _ = print!(rt; "{what} ");
+            let _ = print!(rt; "{name}");
+            let _ = print!(rt; ": ");
             reader.read(rt, bytes);
         }
     }
 }
 
 fn setup_of(rt: HostRuntime, name: &str, sheet: &[u8]) {
-    let _ = print!(rt; "setup {name}: ");
+    let _ = print!(rt; "setup ");
+    let _ = print!(rt; "{name}");
+    let _ = print!(rt; ": ");
     let s = match read_setup(sheet) {
         Ok(s) => s,
         Err(refusal) => {
@@ -340,8 +357,11 @@ fn setup_of(rt: HostRuntime, name: &str, sheet: &[u8]) {
     let minding = if mode.is_minding() { "minding, " } else { "" };
     let stable = if mode.is_stable() { "stable" } else { "plain" };
     let count = s.count;
-    let start = s.start;
-    let _ = print!(rt; "{minding}{stable}, {count} constants, instructions at {start}\n");
+    let _ = print!(rt; "{minding}");
+    let _ = print!(rt; "{stable}, ");
+    let _ = print!(rt; "{count}");
+    number(rt, " constants, instructions at ", s.start);
+    let _ = print!(rt; "\n");
 }
 
 // The setup of the first so many bytes.
@@ -404,7 +424,9 @@ fn many_constants() -> [u8; 3093] {
 
 fn constant_of(rt: HostRuntime, name: &str, sheet: &[u8], i: usize) {
     let word = constant_at(sheet, i);
-    let _ = print!(rt; "{name}: {word}\n");
+    let _ = print!(rt; "{name}: ");
+    let _ = print!(rt; "{word}");
+    let _ = print!(rt; "\n");
 }
 
 fn many(rt: HostRuntime) {

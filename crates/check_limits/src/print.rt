@@ -7,6 +7,12 @@ use std::io::Print;
 use text::line::{Line, empty_line};
 use text::lines::{constant_line, record_line};
 
+// Each part of a line is written by itself: where one cannot be written, the next is tried.
+fn number(rt: HostRuntime, before: &str, n: usize) {
+    let _ = print!(rt; "{before}");
+    let _ = print!(rt; "{n}");
+}
+
 fn line(rt: HostRuntime, line: Line) {
     let bytes = line.bytes;
     let _ = print!(rt; "  ");
@@ -19,10 +25,12 @@ fn text_of(bytes: &[u8; 80], n: usize) -> &[u8] {
 }
 
 pub(crate) fn answer(rt: HostRuntime, name: &str, a: LowerAnswer) {
-    let (number, index, written, count) = (a.number, a.index, a.written, a.count);
-    let _ = print!(rt;
-        "{name}: number {number}, index {index}, bytes {written}, constants {count}\n"
-    );
+    let _ = print!(rt; "{name}");
+    number(rt, ": number ", usize::from(a.number));
+    number(rt, ", index ", a.index);
+    number(rt, ", bytes ", a.written);
+    number(rt, ", constants ", a.count);
+    let _ = print!(rt; "\n");
 }
 
 // The constants from one index to another.
@@ -38,7 +46,8 @@ pub(crate) fn constants(rt: HostRuntime, table: &[u64], from: usize, to: usize) 
 pub(crate) fn real(rt: HostRuntime, r: Realness) {
     for (i, real) in r.regs.iter().enumerate() {
         if *real {
-            let _ = print!(rt; "  real {i}\n");
+            number(rt, "  real ", i);
+            let _ = print!(rt; "\n");
         }
     }
 }
@@ -64,8 +73,8 @@ fn record(rt: HostRuntime, listing: &[u8], at: usize, count: usize) -> usize {
             next
         }
         Err(refusal) => {
-            let n = refusal.number();
-            let _ = print!(rt; "  refused {n}\n");
+            number(rt, "  refused ", usize::from(refusal.number()));
+            let _ = print!(rt; "\n");
             listing.len()
         }
     }
@@ -89,8 +98,10 @@ pub(crate) fn listing(rt: HostRuntime, listing: &[u8], written: usize, count: us
 }
 
 pub(crate) fn played(rt: HostRuntime, p: PlayAnswer) {
-    let (number, index, played) = (p.number, p.index, p.played);
-    let _ = print!(rt; "  played: number {number}, index {index}, records {played}\n");
+    number(rt, "  played: number ", usize::from(p.number));
+    number(rt, ", index ", p.index);
+    number(rt, ", records ", p.played);
+    let _ = print!(rt; "\n");
 }
 
 // The registers of a store from one to another, with their words.

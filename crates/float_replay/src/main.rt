@@ -68,13 +68,19 @@ const NAMES: [&str; 36] = [
     "no operation",
 ];
 
-// The line of operation k, where the list has cases of it.
+// The line of operation k, where the list has cases of it. Each part of a line is written by itself: where one cannot be written, the
+// next is tried.
 fn print_line(rt: HostRuntime, t: &[u64; 74], k: usize)
     requires { k < 36 }
 {
     let cases = t[2 * k];
     if cases != 0 {
-        let _ = println!(rt; "{} {cases} {}", NAMES[k], t[2 * k + 1]);
+        let _ = print!(rt; "{}", NAMES[k]);
+        let _ = print!(rt; " ");
+        let _ = print!(rt; "{cases}");
+        let _ = print!(rt; " ");
+        let _ = print!(rt; "{}", t[2 * k + 1]);
+        let _ = print!(rt; "\n");
     }
 }
 
@@ -84,5 +90,8 @@ fn main(rt: HostRuntime) {
     for k in 0..36 {
         print_line(rt, &t, k);
     }
-    let _ = println!(rt; "{} cases, {} differ", t[72], t[73]);
+    let _ = print!(rt; "{}", t[72]);
+    let _ = print!(rt; " cases, ");
+    let _ = print!(rt; "{}", t[73]);
+    let _ = print!(rt; " differ\n");
 }

@@ -27,17 +27,23 @@ pub fn read_list<R: Read>(from: &mut R, buf: &mut [u8]) -> usize
 }
 
 // Writes how many cases were answered with each number, how many cases, of that name, there are, and how many of them differ. Answers
-// the last. That something cannot be written is told nowhere.
+// the last. Each part of a line is written by itself: where one cannot be written, which is told nowhere, the next is tried.
 pub fn report<P: Print>(rt: &P, t: &Tally, name: &[u8]) -> u64
     ensures { result ≡ t.now.differ }
 {
     for (number, cases) in t.by_number.iter().enumerate() {
         if *cases != 0 {
-            let _ = print!(rt; "number {number}: {cases}\n");
+            let _ = print!(rt; "number ");
+            let _ = print!(rt; "{number}");
+            let _ = print!(rt; ": ");
+            let _ = print!(rt; "{cases}");
+            let _ = print!(rt; "\n");
         }
     }
     let _ = print!(rt; "{}", t.cases);
     let _ = rt.write_all(name);
-    let _ = print!(rt; ", {} differ\n", t.differ);
+    let _ = print!(rt; ", ");
+    let _ = print!(rt; "{}", t.differ);
+    let _ = print!(rt; " differ\n");
     t.differ
 }
