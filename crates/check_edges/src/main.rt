@@ -6,23 +6,28 @@ use mir::records::{Instruction, Record, Work};
 use records::reader::read_record;
 use sheet::reader::read_instruction;
 use sheet::setup::{constant_at, read_setup};
+use std::io::Print;
 
 // Each part of a line is written by itself: where one cannot be written, the next is tried.
+fn text(rt: HostRuntime, s: &str) {
+    let _ = rt.write_all(s.as_bytes());
+}
+
 fn number(rt: HostRuntime, before: &str, n: usize) {
-    let _ = print!(rt; "{before}");
+    text(rt, before);
     let _ = print!(rt; "{n}");
 }
 
 // What was read, and where the next begins.
 fn got(rt: HostRuntime, name: &str, next: usize) {
-    let _ = print!(rt; "{name}");
+    text(rt, name);
     number(rt, ", next ", next);
-    let _ = print!(rt; "\n");
+    text(rt, "\n");
 }
 
 fn refused(rt: HostRuntime, n: u8) {
     number(rt, "refused ", usize::from(n));
-    let _ = print!(rt; "\n");
+    text(rt, "\n");
 }
 
 fn instruction_name(i: Instruction) -> &'static str {
@@ -96,8 +101,15 @@ enum Reader {
 impl Reader {
     fn name(self) -> &'static str {
         match self {
-            Reader::Sheet => "sheet",
-            Reader::Listing => "listing",
+            Reader::Sheet => "sheet ",
+            Reader::Listing => "listing ",
+        }
+    }
+
+    fn kind(self) -> &'static str {
+        match self {
+            Reader::Sheet => "sheet kind ",
+            Reader::Listing => "listing kind ",
         }
     }
 
@@ -112,12 +124,10 @@ impl Reader {
 // A record of a kind, its length as given, its fields zeros, and so many bytes of it.
 fn sized(rt: HostRuntime, reader: Reader, kind: u8, length: u8, stand: u8) {
     let bytes = [length, 0, kind, 0, 0, 0, 0, 0, 0, 0, 0, 0];
-    let name = reader.name();
-    let _ = print!(rt; "{name} kind ");
-    let _ = print!(rt; "{kind}");
+    number(rt, reader.kind(), usize::from(kind));
     number(rt, ", length ", usize::from(length));
     number(rt, " in ", usize::from(stand));
-    let _ = print!(rt; " bytes: ");
+    text(rt, " bytes: ");
     if let Some(part) = bytes.get(..usize::from(stand)) {
         reader.read(rt, part);
     }
@@ -333,19 +343,18 @@ const CONSTANTS_AND_ORDER: [Case; 8] = [
 fn read_each(rt: HostRuntime, cases: &[Case]) {
     for (readers, name, bytes) in cases {
         for reader in *readers {
-            let what = reader.name();
-            let _ = print!(rt; "{what} ");
-            let _ = print!(rt; "{name}");
-            let _ = print!(rt; ": ");
+            text(rt, reader.name());
+            text(rt, name);
+            text(rt, ": ");
             reader.read(rt, bytes);
         }
     }
 }
 
 fn setup_of(rt: HostRuntime, name: &str, sheet: &[u8]) {
-    let _ = print!(rt; "setup ");
-    let _ = print!(rt; "{name}");
-    let _ = print!(rt; ": ");
+    text(rt, "setup ");
+    text(rt, name);
+    text(rt, ": ");
     let s = match read_setup(sheet) {
         Ok(s) => s,
         Err(refusal) => {
@@ -355,13 +364,15 @@ fn setup_of(rt: HostRuntime, name: &str, sheet: &[u8]) {
     };
     let mode = s.mode;
     let minding = if mode.is_minding() { "minding, " } else { "" };
-    let stable = if mode.is_stable() { "stable" } else { "plain" };
-    let count = s.count;
-    let _ = print!(rt; "{minding}");
-    let _ = print!(rt; "{stable}, ");
-    let _ = print!(rt; "{count}");
+    let stable = if mode.is_stable() {
+        "stable, "
+    } else {
+        "plain, "
+    };
+    text(rt, minding);
+    number(rt, stable, s.count);
     number(rt, " constants, instructions at ", s.start);
-    let _ = print!(rt; "\n");
+    text(rt, "\n");
 }
 
 // The setup of the first so many bytes.
@@ -426,7 +437,7 @@ fn constant_of(rt: HostRuntime, name: &str, sheet: &[u8], i: usize) {
     let word = constant_at(sheet, i);
     let _ = print!(rt; "{name}: ");
     let _ = print!(rt; "{word}");
-    let _ = print!(rt; "\n");
+    text(rt, "\n");
 }
 
 fn many(rt: HostRuntime) {

@@ -8,8 +8,12 @@ use text::line::{Line, empty_line};
 use text::lines::{constant_line, record_line};
 
 // Each part of a line is written by itself: where one cannot be written, the next is tried.
+fn text(rt: HostRuntime, s: &str) {
+    let _ = rt.write_all(s.as_bytes());
+}
+
 fn number(rt: HostRuntime, before: &str, n: usize) {
-    let _ = print!(rt; "{before}");
+    text(rt, before);
     let _ = print!(rt; "{n}");
 }
 
@@ -25,12 +29,12 @@ fn text_of(bytes: &[u8; 80], n: usize) -> &[u8] {
 }
 
 pub(crate) fn answer(rt: HostRuntime, name: &str, a: LowerAnswer) {
-    let _ = print!(rt; "{name}");
+    text(rt, name);
     number(rt, ": number ", usize::from(a.number));
     number(rt, ", index ", a.index);
     number(rt, ", bytes ", a.written);
     number(rt, ", constants ", a.count);
-    let _ = print!(rt; "\n");
+    text(rt, "\n");
 }
 
 // The constants from one index to another.
@@ -47,7 +51,7 @@ pub(crate) fn real(rt: HostRuntime, r: Realness) {
     for (i, real) in r.regs.iter().enumerate() {
         if *real {
             number(rt, "  real ", i);
-            let _ = print!(rt; "\n");
+            text(rt, "\n");
         }
     }
 }
@@ -74,7 +78,7 @@ fn record(rt: HostRuntime, listing: &[u8], at: usize, count: usize) -> usize {
         }
         Err(refusal) => {
             number(rt, "  refused ", usize::from(refusal.number()));
-            let _ = print!(rt; "\n");
+            text(rt, "\n");
             listing.len()
         }
     }
@@ -101,7 +105,7 @@ pub(crate) fn played(rt: HostRuntime, p: PlayAnswer) {
     number(rt, "  played: number ", usize::from(p.number));
     number(rt, ", index ", p.index);
     number(rt, ", records ", p.played);
-    let _ = print!(rt; "\n");
+    text(rt, "\n");
 }
 
 // The registers of a store from one to another, with their words.
